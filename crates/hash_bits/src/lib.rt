@@ -1,0 +1,6 @@
+//! The hash of a key, and its first bits.
+#![tactic(auto)]
+
+mod hashing;
+
+pub use hashing::Hashing;

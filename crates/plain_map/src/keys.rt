@@ -1,0 +1,20 @@
+//! The key of a packet flow, and a session.
+
+/// A packet flow, the same for both of its directions.
+///
+/// Keys are ordered by `k0` and then by `k1`.
+#[derive(Clone, Copy, Debug, PartialEq, Eq, PartialOrd, Ord)]
+pub struct Key {
+    /// The lower endpoint's address, and the higher one's in the low 32 bits.
+    pub k0: u64,
+    /// The lower endpoint's port from bit 24 on, the higher one's from bit 8 on, and the protocol.
+    pub k1: u64,
+}
+
+/// A flow and its session number.
+#[derive(Clone, Copy, Debug, PartialEq, Eq)]
+pub struct Pair {
+    pub key: Key,
+    /// Below 2^61.
+    pub value: u64,
+}
