@@ -1,5 +1,9 @@
 //! The key of a packet flow, and a session.
 
+ghost use Rattle.std.specs.Prelude.{◌≡◌};
+
+use hash_bits::Hashing;
+
 /// A packet flow, the same for both of its directions.
 ///
 /// Keys are ordered by `k0` and then by `k1`.
@@ -9,6 +13,17 @@ pub struct Key {
     pub k0: u64,
     /// The lower endpoint's port from bit 24 on, the higher one's from bit 8 on, and the protocol.
     pub k1: u64,
+}
+
+impl Key {
+    ghost use Rattle.plain_map.specs.Keys.{hash_of_key};
+
+    /// The key's hash.
+    pub fn hash(&self, hashing: &Hashing) -> u64
+        ensures { result ≡ hash_of_key hashing.now self.now }
+    {
+        hashing.hash(self.k0, self.k1)
+    }
 }
 
 /// A flow and its session number.

@@ -2,13 +2,32 @@
 #![tactic(auto)]
 
 mod calls;
+mod class_counts;
 mod full;
+mod history;
 mod keys;
+mod leaves;
+mod object;
+mod places;
 mod records;
+#[cfg(test)]
+mod row_tests;
+mod rows;
 mod rules;
+mod server;
+mod shortage;
 
 pub use calls::{Call, Reply};
 pub use full::{Full, FullKind};
+pub use history::{order_laws, turn_laws};
 pub use keys::{Key, Pair};
+pub use object::PlainMap;
+pub use leaves::{Leaf, OpenFault};
 pub use records::{CallId, Pending, Record, Seen};
-pub use rules::Rules;
+pub use rows::{BucketRow, DirectoryRow};
+pub use rules::{MOST_DEPTH, MOST_ITEMS, Rules};
+pub use server::Server;
+pub use shortage::first_short;
+
+#[cfg(test)]
+mod tests;

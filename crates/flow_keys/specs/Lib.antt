@@ -1,0 +1,4 @@
+pub mod Flow
+pub mod FlowText
+pub mod Written
+pub mod Laws

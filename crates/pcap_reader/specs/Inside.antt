@@ -1,0 +1,11 @@
+-- Where a window's bytes lie in its buffer.
+use Rattle.std.specs.Prelude.{◌≡◌, ◌≤◌, vec_len}
+use Rattle.pcap_reader.specs.declared.window.Window.TheInside.{Inside}
+use Rattle.pcap_reader.specs.declared.window.TheConstants.{CAPACITY}
+
+-- what was taken last, what is not yet taken, and room stand one after the other
+pub record IsInPlace (w : Inside) : Type 0 where
+  pub capacity : vec_len w.buf ≡ CAPACITY
+  pub mark : w.mark ≤ w.start
+  pub start : w.start ≤ w.end
+  pub end : w.end ≤ vec_len w.buf

@@ -1,0 +1,6 @@
+pub mod Capture
+pub mod Inside
+pub mod Laws
+pub mod Reading
+pub mod Record
+pub mod Window

@@ -1,0 +1,216 @@
+//! Gives out the records of a savefile, one at a time and in place.
+
+ghost use Rattle.std.specs.Prelude.{◌≡◌, ◌≤◌, ◌<◌, ◌-◌, ◌^◌, ◌⊎◌, ℕ, [], false, true, length, drop, Some, IfSome, IfOk, IfErr, OnOk, OnErr};
+ghost use Rattle.edge_traits.specs.Edge.{Rose};
+ghost use Rattle.pcap_reader.specs.Capture.{HasFileHead, IsCut, IsRemainder, ShowsFault};
+ghost use Rattle.pcap_reader.specs.Reading.{GivesNone, GivesRecord, IfEnding, IsAtStart, IsWithinRecords, MatchPacket, OfInput, OnInputFault, OnMemory, OnReadFault, TakesFewer, to_come};
+ghost use Rattle.pcap_reader.specs.Record.{BeginsRecord, IsShown, OnCut, given_out};
+ghost use Rattle.pcap_reader.specs.Window.{Gathers, IsDrained};
+
+use crate::head::file_head;
+use crate::record::{Shown, look};
+use crate::window::Window;
+use crate::{CaptureFault, FILE_HEAD, Order, RECORD_HEAD};
+use edge_traits::{Failed, Source};
+use std::alloc::Global;
+use std::marker::Model;
+
+/// What a reader answers.
+#[derive(Clone, Copy, Debug, PartialEq, Eq)]
+pub enum Item {
+    /// A record was read, whose captured bytes `Reader::packet` gives.
+    Packet,
+    /// No byte is left.
+    End,
+    /// That many bytes are left, which are shorter than the record that they begin.
+    Rest(u32),
+}
+
+/// A reader of one savefile.
+#[derive(Debug, Drop)]
+pub struct Reader {
+    order: Order,
+    window: Window,
+    offset: u64,
+    given: u32,
+    ended: bool,
+}
+
+impl Model for Reader {
+    ghost use Rattle.std.specs.Prelude.{◌≤◌, ◌+◌, ◌*◌};
+    ghost use Rattle.pcap_reader.specs.Reading.{Reading};
+    ghost use Rattle.pcap_reader.specs.declared.head.TheConstants.{FILE_HEAD};
+    ghost use Rattle.pcap_reader.specs.declared.record.TheConstants.{WHOLE_RECORD};
+
+    ghost Value = { Reading };
+
+    ghost view = { λ r. record { order = r.order; pending = r.window.unread; packet = r.window.last; offset = r.offset; given = r.given; ended = r.ended } };
+
+    ghost invariant = { λ r. r.offset ≤ FILE_HEAD + r.given * WHOLE_RECORD };
+}
+
+impl Reader {
+    /// Makes the packet buffer, and reads the head of a savefile, 24 bytes.
+    ///
+    /// Faults: `Memory`, before anything is read; `ReadFault`, only where the source's count rose;
+    /// `ShortHeader`, `Magic`, `Version`, `LinkType`, exactly where the head shows them, in this order.
+    /// Source: pcap-savefile(5), per-file header.
+    pub fn open<S: Source>(alloc: Global, source: &mut S) -> Result<Reader, CaptureFault>
+        // The head keeps every rule, and the bytes after it are still to come.
+        ensures head { IfOk result (λ reader. OfInput (S.left source.old) (HasFileHead reader.order)) }
+        ensures bytes { IfOk result (λ reader. IfSome (S.left source.old) (λ bytes.
+            to_come reader (S.left source.new) ≡ Some (drop FILE_HEAD bytes))) }
+        ensures start { IfOk result IsAtStart }
+
+        // The head shows the fault.
+        ensures fault { IfErr result (λ fault. OnInputFault fault (OfInput (S.left source.old) (λ bytes. ShowsFault bytes fault))) }
+
+        // A read failed, before the head was there.
+        ensures read_fault { IfErr result (λ fault. OnReadFault fault (Rose (S.faults source.old) (S.faults source.new))) }
+        ensures interrupted { IfErr result (λ fault. OnReadFault fault (TakesFewer FILE_HEAD (S.left source.old) (S.left source.new))) }
+
+        // Nothing was read.
+        ensures memory { IfErr result (λ fault. OnMemory fault (source.new ≡ source.old)) }
+        ensures counted { S.faults source.old ≤ S.faults source.new }
+    {
+        let mut window = Window::new(alloc)?;
+        gather_head(&mut window, source)?;
+        let order = file_head(window.unread())?;
+        window.skip(FILE_HEAD);
+        Ok(Reader {
+            order,
+            window,
+            offset: FILE_HEAD as u64,
+            given: 0,
+            ended: false,
+        })
+    }
+
+    /// Reads on to the next record, or to the ending of the capture.
+    ///
+    /// Takes no memory. The source is read only where the bytes that are held show neither a whole
+    /// record nor an overlong one.
+    /// Faults: `ReadFault`, only where the source's count rose, and then every record that is whole in
+    /// the bytes taken was given out before; `RecordLength`, exactly where the record at the reader's
+    /// offset shows a captured length above the limit. After an end, a rest or a fault the reader has
+    /// ended.
+    /// Source: pcap-savefile(5), per-packet header.
+    pub fn next<S: Source>(&mut self, source: &mut S) -> Result<Item, CaptureFault>
+        requires going { self.old.ended ≡ false }
+        requires few { self.old.given < 2 ^ 32 - 1 }
+        // One record, or none.
+        ensures packet { MatchPacket result
+            (GivesRecord self.old self.new (to_come self.old (S.left source.old)) (to_come self.new (S.left source.new)))
+            (GivesNone self.old self.new (to_come self.old (S.left source.old)) (to_come self.new (S.left source.new))) }
+
+        // The bytes still to come, where the source tells them, are a remainder with this ending, and
+        // so are those that are held.
+        ensures ending { IfEnding result (λ ending. IfSome (to_come self.old (S.left source.old)) (λ bytes.
+            IsRemainder self.old.order self.old.offset bytes ending)) }
+        ensures held { IfEnding result (IsRemainder self.old.order self.old.offset self.new.pending) }
+
+        // A read failed, and no record is whole in what is held, nor an overlong one shown.
+        ensures read_fault { IfErr result (λ fault. OnReadFault fault (Rose (S.faults source.old) (S.faults source.new))) }
+        ensures interrupted { IfErr result (λ fault. OnReadFault fault (IsCut self.old.order self.new.pending)) }
+        ensures counted { S.faults source.old ≤ S.faults source.new }
+
+        ensures order { self.new.order ≡ self.old.order }
+        ensures within { IsWithinRecords self.new }
+    {
+        match await_record(&mut self.window, self.order, source) {
+            Ok(Shown::Whole { captured }) => {
+                self.give(captured);
+                Ok(Item::Packet)
+            }
+            Ok(Shown::Cut) => {
+                let rest = self.window.unread().len();
+                self.end();
+                Ok(if rest == 0 {
+                    Item::End
+                } else {
+                    Item::Rest(rest as u32)
+                })
+            }
+            Ok(Shown::Overlong { found }) => {
+                let offset = self.offset;
+                self.end();
+                Err(CaptureFault::RecordLength { offset, found })
+            }
+            Err(_failed) => {
+                self.end();
+                Err(CaptureFault::ReadFault)
+            }
+        }
+    }
+
+    /// The captured bytes of the record that was given last; none after an ending.
+    pub fn packet(&self) -> &[u8]
+        ensures { result.now ≡ self.now.packet }
+    {
+        self.window.last()
+    }
+
+    /// Whether an end, a rest or a fault was answered.
+    pub fn ended(&self) -> bool
+        ensures { result ≡ self.now.ended }
+    {
+        self.ended
+    }
+
+    /// Gives out the record that the held bytes begin with.
+    fn give(&mut self, captured: usize)
+        requires begins { BeginsRecord self.old.order self.old.pending captured }
+        requires few { self.old.given < 2 ^ 32 - 1 }
+        ensures { self.new ≡ given_out self.old captured }
+    {
+        self.window.skip(RECORD_HEAD);
+        self.window.take(captured);
+        self.offset += (RECORD_HEAD + captured) as u64;
+        self.given += 1;
+    }
+
+    /// Gives out nothing more.
+    fn end(&mut self)
+        ensures { self.new ≡ record self.old { packet = []; ended = true } }
+    {
+        self.window.forget();
+        self.ended = true;
+    }
+}
+
+/// Reads until the file head is there, or the source is at its end.
+fn gather_head<S: Source>(window: &mut Window, source: &mut S) -> Result<(), Failed>
+    ensures enough { OnOk result ((FILE_HEAD ≤ length window.new.unread) ⊎ IsDrained window.old.unread window.new.unread (S.left source.old)) }
+    ensures bytes { Gathers window.old.unread window.new.unread (S.left source.old) (S.left source.new) }
+    ensures short { OnErr result (length window.new.unread < FILE_HEAD) }
+    ensures failed { OnErr result (Rose (S.faults source.old) (S.faults source.new)) }
+    ensures counted { S.faults source.old ≤ S.faults source.new }
+{
+    while window.unread().len() < FILE_HEAD {
+        if window.fill(source)? == 0 {
+            return Ok(());
+        }
+    }
+    Ok(())
+}
+
+/// Reads until the held bytes show a whole record or an overlong one, or the source is at its end.
+fn await_record<S: Source>(
+    window: &mut Window,
+    order: Order,
+    source: &mut S,
+) -> Result<Shown, Failed>
+    ensures shown { IfOk result (IsShown order window.new.unread) }
+    ensures end { IfOk result (λ seen. OnCut seen (IsDrained window.old.unread window.new.unread (S.left source.old))) }
+    ensures bytes { Gathers window.old.unread window.new.unread (S.left source.old) (S.left source.new) }
+    ensures cut { OnErr result (IsCut order window.new.unread) }
+    ensures failed { OnErr result (Rose (S.faults source.old) (S.faults source.new)) }
+    ensures counted { S.faults source.old ≤ S.faults source.new }
+{
+    loop {
+        let seen = look(order, window.unread());
+        if seen != Shown::Cut || window.fill(source)? == 0 {
+            return Ok(seen);
+        }
+    }
+}

@@ -1,0 +1,151 @@
+//! A buffer with the bytes that were read and not yet taken.
+//!
+//! It is made once. Bytes are taken in place, and those that are left move to the front only where
+//! the room behind them is short of a piece.
+
+ghost use Rattle.std.specs.Prelude.{◌≡◌, ◌≤◌, ◌<◌, ◌+◌, ◌-◌, [], length, take, drop, slice_range, vec_len, IfOk, OnErr};
+ghost use Rattle.std.specs.Io.KnownBytes.{IsAtEnd, Keeps};
+ghost use Rattle.edge_traits.specs.Edge.{Rose};
+ghost use Rattle.pcap_reader.specs.Window.{Fills, Gathers, Held};
+
+use crate::WHOLE_RECORD;
+use edge_traits::{Failed, Source};
+use std::alloc::{AllocError, Global};
+use std::marker::Model;
+
+/// The least piece that a source is asked for, in bytes.
+pub const PIECE: usize = 65_536;
+/// The size of the buffer in bytes: the longest record and a piece behind it have room, and so has
+/// as much again, so that few bytes are moved.
+pub const CAPACITY: usize = 524_288;
+
+/// The bytes that were read and not yet taken, and behind them room for a piece.
+#[derive(Debug, Drop)]
+pub struct Window {
+    buf: Vec<u8>,
+    mark: usize,
+    start: usize,
+    end: usize,
+}
+
+impl Model for Window {
+    ghost use Rattle.std.specs.Prelude.{slice_range};
+    ghost use Rattle.pcap_reader.specs.Window.{Held};
+
+    ghost Value = { Held };
+
+    ghost use Rattle.pcap_reader.specs.Inside.{IsInPlace};
+
+    ghost view = { λ w. record { last = slice_range w.buf.items w.mark w.start; unread = slice_range w.buf.items w.start w.end } };
+
+    ghost invariant = { IsInPlace };
+}
+
+impl Window {
+    /// An empty window.
+    pub fn new(alloc: Global) -> Result<Window, AllocError>
+        ensures { IfOk result (λ window. window ≡ record { last = []; unread = [] }) }
+    {
+        Ok(Window {
+            buf: vec![in alloc; 0u8; CAPACITY]?,
+            mark: 0,
+            start: 0,
+            end: 0,
+        })
+    }
+
+    /// The bytes not yet taken.
+    pub fn unread(&self) -> &[u8]
+        ensures { result.now ≡ self.now.unread }
+    {
+        &self.buf[self.start..self.end]
+    }
+
+    /// The bytes that were taken last.
+    pub fn last(&self) -> &[u8]
+        ensures { result.now ≡ self.now.last }
+    {
+        &self.buf[self.mark..self.start]
+    }
+
+    /// Lets go of what was taken last.
+    pub fn forget(&mut self)
+        ensures { self.new ≡ record { last = []; unread = self.old.unread } }
+    {
+        self.mark = self.start;
+    }
+
+    /// Takes that many bytes, of which nothing stays.
+    pub fn skip(&mut self, count: usize)
+        requires { count ≤ length self.old.unread }
+        ensures { self.new ≡ record { last = []; unread = drop count self.old.unread } }
+    {
+        self.start += count;
+        self.mark = self.start;
+    }
+
+    /// Takes that many bytes, which can then be looked at.
+    pub fn take(&mut self, count: usize)
+        requires { count ≤ length self.old.unread }
+        ensures { self.new ≡ record { last = take count self.old.unread; unread = drop count self.old.unread } }
+    {
+        self.mark = self.start;
+        self.start += count;
+    }
+
+    /// Reads once, and answers how many bytes came: none at the end of input alone.
+    ///
+    /// After `Failed` the bytes not yet taken are as before.
+    pub fn fill<S: Source>(&mut self, source: &mut S) -> Result<usize, Failed>
+        requires { length self.old.unread ≤ WHOLE_RECORD }
+        ensures bytes { Gathers self.old.unread self.new.unread (S.left source.old) (S.left source.new) }
+        ensures count { IfOk result (λ count. length self.old.unread + count ≡ length self.new.unread) }
+        ensures end { IfOk result (λ count. count ≡ 0 → IsAtEnd (S.left source.old)) }
+        ensures unread { OnErr result (self.new.unread ≡ self.old.unread) }
+        ensures failed { OnErr result (Rose (S.faults source.old) (S.faults source.new)) }
+        ensures counted { S.faults source.old ≤ S.faults source.new }
+    {
+        let (start, end) = make_room(&mut self.buf, self.start, self.end);
+        self.mark = start;
+        self.start = start;
+        self.end = end;
+        let count = read_behind(self.buf.as_mut_slice(), end, source)?;
+        self.end = end + count;
+        Ok(count)
+    }
+}
+
+/// Moves the bytes from `start` to `end` to the front where there is no room for a piece behind
+/// them, and answers where they begin and end now.
+fn make_room(buf: &mut Vec<u8>, start: usize, end: usize) -> (usize, usize)
+    requires capacity { vec_len buf.old ≡ CAPACITY }
+    requires order { start ≤ end }
+    requires inside { end ≤ CAPACITY }
+    requires few { end - start ≤ WHOLE_RECORD }
+    ensures len { vec_len buf.new ≡ CAPACITY }
+    ensures order { result.0 ≤ result.1 }
+    ensures room { result.1 + PIECE ≤ CAPACITY }
+    ensures bytes { slice_range buf.new.items result.0 result.1 ≡ slice_range buf.old.items start end }
+{
+    if CAPACITY - end < PIECE {
+        buf.copy_within(start..end, 0);
+        (0, end - start)
+    } else {
+        (start, end)
+    }
+}
+
+/// Reads once, into the bytes from `end` on, and answers how many came.
+fn read_behind<S: Source>(buf: &mut [u8], end: usize, source: &mut S) -> Result<usize, Failed>
+    requires { end < length buf.old }
+    ensures room { IfOk result (λ count. end + count ≤ length buf.old) }
+    ensures fills { IfOk result (λ count. Fills (take end buf.old) (take (end + count) buf.new)
+        (S.left source.old) (S.left source.new) count) }
+    ensures front { OnErr result (take end buf.new ≡ take end buf.old) }
+    ensures kept { OnErr result (Keeps (S.left source.old) (S.left source.new)) }
+    ensures failed { OnErr result (Rose (S.faults source.old) (S.faults source.new)) }
+    ensures counted { S.faults source.old ≤ S.faults source.new }
+{
+    let count = source.read(&mut buf[end..])?;
+    Ok(count)
+}

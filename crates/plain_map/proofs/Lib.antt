@@ -1,0 +1,7 @@
+pub mod KeyLemmas
+mod PlaceLemmas
+mod SessionLemmas
+mod CountLemmas
+mod AnswerLemmas
+pub mod OrderLemmas
+pub mod TurnLemmas

@@ -1,0 +1,10 @@
+pub mod Calls
+pub mod Keys
+pub mod PlainObject
+pub mod Places
+pub mod ClassCounts
+pub mod Held
+pub mod History
+pub mod Rows
+pub mod Room
+pub mod Serving

@@ -1,0 +1,180 @@
+//! The line of an answered or a refused call.
+
+ghost use Rattle.std.specs.Prelude.{◌≡◌, ℕ, ◌+◌, ◌*◌, ◌≤◌, [], ◌∷◌, ◌++◌, codes, decimal, length, take, OnOk, OnErr};
+ghost use Rattle.std.specs.List.{join_by};
+ghost use Rattle.flow_keys.specs.FlowText.{HasText};
+ghost use Rattle.trace_share.specs.Deal.{key_in};
+ghost use Rattle.trace_share.specs.declared.outcome.Outcome.TheVariants.{Answered, Refused};
+ghost use Rattle.report_text.specs.Report.{after_words, call_in, call_words, full_words, outcome_line, reply_words, short_word, steps_words, value_in, verb_word};
+ghost use Rattle.report_text.specs.Lines.{room, Puts};
+
+use crate::pieces::{begin_line, end_line, make_room, put_digits, put_named, put_number, put_text, put_word};
+use flow_keys::key_text;
+use plain_map::{Call, Full, FullKind, Key, Record, Reply, Seen};
+use std::alloc::{AllocError, Global};
+use trace_share::Outcome;
+
+// At least the length of a call's line.
+const LINE_ROOM: usize = 384;
+
+/// Appends the line of a call: its caller's seat, and how the call ended.
+///
+/// Of the counts that the call saw, those of the first `seats` seats are told.
+pub fn outcome_text(_alloc: Global, out: &mut Vec<u8>, seats: u32, seat: u32, outcome: &Outcome) -> Result<(), AllocError>
+    requires seats { seats ≤ 8 }
+    requires key { HasText (key_in (call_in outcome.now)) }
+    ensures appended { OnOk result (out.new.items ≡ out.old.items ++ outcome_line seats seat outcome.now) }
+    ensures kept { OnErr result (out.new.items ≡ out.old.items) }
+{
+    make_room(out, LINE_ROOM)?;
+    match outcome {
+        Outcome::Answered(record) => put_answered(out, seats, seat, record),
+        Outcome::Refused { packet, call, full } => put_refused(out, *packet, seat, call, full),
+    }
+    Ok(())
+}
+
+// Appends the line of an answered call.
+fn put_answered(out: &mut Vec<u8>, seats: u32, seat: u32, record: &Record)
+    requires seats { seats ≤ 8 }
+    requires key { HasText (key_in record.now.call) }
+    requires space { 384 ≤ room out.old }
+    ensures { out.new.items ≡ out.old.items ++ outcome_line seats seat (Answered record.now) }
+{
+    begin_line(out, b"call");
+    put_call(out, record.packet, seat, &record.call);
+    put_reply(out, &record.call, record.reply);
+    put_steps(out, record.steps);
+    put_after(out, seats, &record.seen);
+    end_line(out);
+}
+
+// Appends the line of a refused call.
+fn put_refused(out: &mut Vec<u8>, packet: u32, seat: u32, call: &Call, full: &Full)
+    requires key { HasText (key_in call.now) }
+    requires space { 384 ≤ room out.old }
+    ensures { (seats : ℕ) → out.new.items ≡ out.old.items ++ outcome_line seats seat (Refused packet call.now full.now) }
+{
+    begin_line(out, b"call");
+    put_call(out, packet, seat, call);
+    put_word(out, b"full");
+    put_word(out, short_word(full.what));
+    put_number(out, full.left);
+    put_number(out, full.need);
+    end_line(out);
+}
+
+// Appends which call it is.
+fn put_call(out: &mut Vec<u8>, packet: u32, seat: u32, call: &Call)
+    requires key { HasText (key_in call.now) }
+    requires space { 90 ≤ room out.old }
+    ensures puts { Puts out.old.items (call_words packet seat call.now) out.new.items }
+    ensures taken { room out.old ≤ room out.new + 90 }
+{
+    put_number(out, packet);
+    put_named(out, b"seat", seat);
+    put_word(out, verb_word(call));
+    let text = key_text(key_in(call));
+    put_word(out, &text.bytes[..text.length]);
+}
+
+// The word for what a call asks.
+fn verb_word(call: &Call) -> &'static [u8]
+    ensures word { result.now ≡ verb_word call.now }
+    ensures short { length result.now ≤ 6 }
+{
+    match call {
+        Call::Insert(_, _) => b"insert",
+        Call::Remove(_) => b"remove",
+        Call::Lookup(_) => b"lookup",
+    }
+}
+
+// The key that a call is about.
+fn key_in(call: &Call) -> &Key
+    ensures { result.now ≡ key_in call.now }
+{
+    match call {
+        Call::Insert(key, _) => key,
+        Call::Remove(key) => key,
+        Call::Lookup(key) => key,
+    }
+}
+
+// Appends the reply to a call.
+fn put_reply(out: &mut Vec<u8>, call: &Call, reply: Reply)
+    requires { 27 ≤ room out.old }
+    ensures puts { Puts out.old.items (reply_words call.now reply) out.new.items }
+    ensures taken { room out.old ≤ room out.new + 27 }
+{
+    match reply {
+        Reply::New => put_named(out, b"new", value_in(call)),
+        Reply::Old(value) => put_named(out, b"old", value),
+        Reply::NoRoom => put_word(out, b"noroom"),
+        Reply::Gone(value) => put_named(out, b"gone", value),
+        Reply::Found(value) => put_named(out, b"found", value),
+        Reply::Absent => put_word(out, b"absent"),
+    }
+}
+
+// The value that a call brings.
+fn value_in(call: &Call) -> u64
+    ensures { result ≡ value_in call.now }
+{
+    match call {
+        Call::Insert(_, value) => *value,
+        Call::Remove(_) | Call::Lookup(_) => 0,
+    }
+}
+
+// Appends how many steps a call took, where it took any.
+fn put_steps(out: &mut Vec<u8>, steps: u64)
+    requires { 27 ≤ room out.old }
+    ensures puts { Puts out.old.items (steps_words steps) out.new.items }
+    ensures taken { room out.old ≤ room out.new + 27 }
+{
+    if steps != 0 {
+        put_named(out, b"steps", steps);
+    }
+}
+
+// Appends what a call saw as it began.
+fn put_after(out: &mut Vec<u8>, seats: u32, seen: &Seen)
+    requires seats { seats ≤ 8 }
+    requires space { 103 ≤ room out.old }
+    ensures puts { Puts out.old.items (after_words seats seen.now) out.new.items }
+    ensures taken { room out.old ≤ room out.new + 103 }
+{
+    put_word(out, b"after");
+    put_text(out, b" ");
+    put_counts(out, &seen.counts[..seats as usize]);
+}
+
+// Appends numbers with commas between.
+fn put_counts(out: &mut Vec<u8>, counts: &[u32])
+    requires few { length counts.now ≤ 8 }
+    requires space { 88 ≤ room out.old }
+    ensures appended { out.new.items ≡ out.old.items ++ join_by decimal (codes ",") counts.now }
+    ensures taken { room out.old ≤ room out.new + 88 }
+{
+    if let Some((first, others)) = counts.split_first() {
+        put_digits(out, *first);
+        for count in others {
+            put_text(out, b",");
+            put_digits(out, *count);
+        }
+    }
+}
+
+// The word for what there is too little of.
+fn short_word(what: FullKind) -> &'static [u8]
+    ensures word { result.now ≡ short_word what }
+    ensures short { length result.now ≤ 11 }
+{
+    match what {
+        FullKind::OpRows => b"oprows",
+        FullKind::BucketRows => b"bucketrows",
+        FullKind::BucketWords => b"bucketwords",
+        FullKind::DirRows => b"dirrows",
+    }
+}

@@ -1,0 +1,80 @@
+//! The head line.
+
+ghost use Rattle.std.specs.Prelude.{◌≡◌, ◌+◌, ◌≤◌, ◌++◌, length, OnOk, OnErr};
+ghost use Rattle.report_text.specs.Report.{head_line, hash_words, mode_word, share_word};
+ghost use Rattle.report_text.specs.Lines.{room, Puts};
+
+use crate::parts::Head;
+use crate::pieces::{begin_line, end_line, make_room, put_named, put_word};
+use hash_bits::Hashing;
+use std::alloc::{AllocError, Global};
+use trace_share::Share;
+
+// At least the length of the head line.
+const LINE_ROOM: usize = 256;
+
+/// Appends the head line.
+pub fn head_text(_alloc: Global, out: &mut Vec<u8>, head: &Head) -> Result<(), AllocError>
+    ensures appended { OnOk result (out.new.items ≡ out.old.items ++ head_line head.now) }
+    ensures kept { OnErr result (out.new.items ≡ out.old.items) }
+{
+    make_room(out, LINE_ROOM)?;
+    put_head(out, head);
+    Ok(())
+}
+
+// Appends the head line.
+fn put_head(out: &mut Vec<u8>, head: &Head)
+    requires { 256 ≤ room out.old }
+    ensures { out.new.items ≡ out.old.items ++ head_line head.now }
+{
+    begin_line(out, b"flowdir");
+    put_word(out, mode_word(head.play));
+    put_named(out, b"seats", head.seats);
+    put_named(out, b"items", head.items);
+    put_named(out, b"depth", head.depth);
+    put_named(out, b"start", head.start);
+    put_word(out, b"hash");
+    put_hashing(out, head.hashing);
+    put_word(out, b"share");
+    put_word(out, share_word(head.share));
+    end_line(out);
+}
+
+// The mode's word.
+fn mode_word(play: bool) -> &'static [u8]
+    ensures word { result.now ≡ mode_word play }
+    ensures short { length result.now ≤ 5 }
+{
+    if play { b"play" } else { b"serve" }
+}
+
+// The share's word.
+fn share_word(share: Share) -> &'static [u8]
+    ensures word { result.now ≡ share_word share }
+    ensures short { length result.now ≤ 5 }
+{
+    match share {
+        Share::Round => b"round",
+        Share::Block => b"block",
+        Share::Flow => b"flow",
+    }
+}
+
+// Appends the hash and its seed.
+fn put_hashing(out: &mut Vec<u8>, hashing: Hashing)
+    requires { 40 ≤ room out.old }
+    ensures puts { Puts out.old.items (hash_words hashing) out.new.items }
+    ensures taken { room out.old ≤ room out.new + 40 }
+{
+    match hashing {
+        Hashing::Mix(seed) => {
+            put_word(out, b"mix");
+            put_named(out, b"seed", seed);
+        }
+        Hashing::Ports(seed) => {
+            put_word(out, b"ports");
+            put_named(out, b"seed", seed);
+        }
+    }
+}

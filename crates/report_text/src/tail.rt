@@ -1,0 +1,199 @@
+//! The last lines: the leaves, the input, the counts and the steps.
+
+ghost use Rattle.std.specs.Prelude.{◌≡◌, ◌+◌, ◌<◌, ◌≤◌, false, [], ◌∷◌, ◌++◌, codes, decimal, length, OnOk, OnErr};
+ghost use Rattle.std.specs.Fmt.{digit_glyph};
+ghost use Rattle.report_text.specs.Report.{count_line, ending_words, fault_words, input_line, leaves_line, steps_line, tail_lines, IsEnding, IsFormatFault};
+ghost use Rattle.report_text.specs.Lines.{hexadecimal, room, Puts};
+
+use crate::parts::{Ending, Tail};
+use crate::pieces::{begin_line, end_line, make_room, put_digits, put_named, put_number, put_text, put_word};
+use pcap_reader::CaptureFault;
+use std::alloc::{AllocError, Global};
+
+// At least the length of the last lines.
+const TAIL_ROOM: usize = 512;
+
+// The digits of numbers below 16.
+const HEX_DIGITS: &[u8; 16] = b"0123456789abcdef";
+
+/// Appends the last lines.
+///
+/// Where `bound` is 0 calls take no steps and there is no table, so that there is no line for the
+/// leaves and none for the steps.
+pub fn tail_text(_alloc: Global, out: &mut Vec<u8>, tail: &Tail) -> Result<(), AllocError>
+    requires { IsEnding tail.now.ending }
+    ensures appended { OnOk result (out.new.items ≡ out.old.items ++ tail_lines tail.now) }
+    ensures kept { OnErr result (out.new.items ≡ out.old.items) }
+{
+    make_room(out, TAIL_ROOM)?;
+    if tail.bound == 0 {
+        put_input(out, &tail.ending);
+        put_count(out, tail);
+    } else {
+        put_leaves(out, tail);
+        put_input(out, &tail.ending);
+        put_count(out, tail);
+        put_steps(out, tail);
+    }
+    Ok(())
+}
+
+// Appends how many leaves the last table has.
+fn put_leaves(out: &mut Vec<u8>, tail: &Tail)
+    requires { 46 ≤ room out.old }
+    ensures appended { out.new.items ≡ out.old.items ++ leaves_line tail.now }
+    ensures taken { room out.old ≤ room out.new + 46 }
+{
+    begin_line(out, b"leaves");
+    put_number(out, tail.leaves);
+    put_named(out, b"depth", tail.depth);
+    end_line(out);
+}
+
+// Appends how the input came to its end.
+fn put_input(out: &mut Vec<u8>, ending: &Ending)
+    requires format { IsEnding ending.now }
+    requires space { 74 ≤ room out.old }
+    ensures appended { out.new.items ≡ out.old.items ++ input_line ending.now }
+    ensures taken { room out.old ≤ room out.new + 74 }
+{
+    begin_line(out, b"input");
+    put_ending(out, ending);
+    end_line(out);
+}
+
+// Appends the kind of an ending, and what is to be told of it.
+fn put_ending(out: &mut Vec<u8>, ending: &Ending)
+    requires format { IsEnding ending.now }
+    requires space { 68 ≤ room out.old }
+    ensures puts { Puts out.old.items (ending_words ending.now) out.new.items }
+    ensures taken { room out.old ≤ room out.new + 68 }
+{
+    match ending {
+        Ending::Done { rest } => {
+            put_word(out, b"done");
+            put_named(out, b"rest", *rest);
+        }
+        Ending::ReadFault => put_word(out, b"read-fault"),
+        Ending::Limit { limit } => put_named(out, b"limit", *limit),
+        Ending::Fault(fault) => {
+            put_word(out, b"fault");
+            put_fault(out, fault);
+        }
+    }
+}
+
+// Appends a fault of a capture's format: its name, where it is, and what was found.
+fn put_fault(out: &mut Vec<u8>, fault: &CaptureFault)
+    requires format { IsFormatFault fault.now }
+    requires space { 62 ≤ room out.old }
+    ensures puts { Puts out.old.items (fault_words fault.now) out.new.items }
+    ensures taken { room out.old ≤ room out.new + 62 }
+{
+    match fault {
+        CaptureFault::ShortHeader { have } => {
+            put_place(out, b"short-header", 0);
+            put_number(out, *have);
+        }
+        CaptureFault::Magic { bytes } => {
+            put_place(out, b"magic", 0);
+            put_hexadecimal(out, bytes);
+        }
+        CaptureFault::Version { major, minor } => {
+            put_place(out, b"version", 4);
+            put_version(out, *major, *minor);
+        }
+        CaptureFault::LinkType { found } => {
+            put_place(out, b"link", 20);
+            put_number(out, *found);
+        }
+        CaptureFault::RecordLength { offset, found } => {
+            put_place(out, b"length", *offset);
+            put_number(out, *found);
+        }
+        // No ending has one of these.
+        CaptureFault::ReadFault | CaptureFault::Memory => {}
+    }
+}
+
+// Appends the name of a fault and its place in the file, and says that something was found there.
+fn put_place(out: &mut Vec<u8>, name: &[u8], offset: u64)
+    requires { length name.now + 31 ≤ room out.old }
+    ensures puts { Puts out.old.items (name.now ∷ codes "at" ∷ decimal offset ∷ codes "found" ∷ []) out.new.items }
+    ensures taken { room out.old ≤ room out.new + length name.now + 31 }
+{
+    put_word(out, name);
+    put_named(out, b"at", offset);
+    put_word(out, b"found");
+}
+
+// Appends a version.
+fn put_version(out: &mut Vec<u8>, major: u16, minor: u16)
+    requires { 12 ≤ room out.old }
+    ensures puts { Puts out.old.items ((decimal major ++ (codes "." ++ decimal minor)) ∷ []) out.new.items }
+    ensures taken { room out.old ≤ room out.new + 12 }
+{
+    put_text(out, b" ");
+    put_digits(out, major);
+    put_text(out, b".");
+    put_digits(out, minor);
+}
+
+// Appends bytes in hexadecimal digits, as a word.
+fn put_hexadecimal(out: &mut Vec<u8>, bytes: &[u8; 4])
+    requires { 9 ≤ room out.old }
+    ensures puts { Puts out.old.items (hexadecimal bytes.now ∷ []) out.new.items }
+    ensures taken { room out.old ≤ room out.new + 9 }
+{
+    put_text(out, b" ");
+    put_pairs(out, bytes);
+}
+
+// Appends two hexadecimal digits for each byte.
+#[tactic(auto, unfolding(crate::specs::Lines::hexadecimal))]
+fn put_pairs(out: &mut Vec<u8>, bytes: &[u8])
+    requires few { length bytes.now ≤ 4 }
+    requires space { 8 ≤ room out.old }
+    ensures appended { out.new.items ≡ out.old.items ++ hexadecimal bytes.now }
+    ensures taken { room out.old ≤ room out.new + 8 }
+{
+    for byte in bytes {
+        put_text(out, &[hex_digit(byte >> 4), hex_digit(byte & 15)]);
+    }
+}
+
+// The hexadecimal digit of a number below 16, in lower case.
+fn hex_digit(value: u8) -> u8
+    requires { value < 16 }
+    ensures { result ≡ digit_glyph false value }
+{
+    HEX_DIGITS[usize::from(value)]
+}
+
+// Appends the counts of packets and calls.
+fn put_count(out: &mut Vec<u8>, tail: &Tail)
+    requires { 184 ≤ room out.old }
+    ensures appended { out.new.items ≡ out.old.items ++ count_line tail.now }
+    ensures taken { room out.old ≤ room out.new + 184 }
+{
+    begin_line(out, b"count");
+    put_named(out, b"packets", tail.packets);
+    put_named(out, b"calls", tail.calls);
+    put_named(out, b"passed", tail.passed);
+    put_named(out, b"full", tail.full);
+    put_named(out, b"pending", tail.pending);
+    put_named(out, b"unbegun", tail.unbegun);
+    end_line(out);
+}
+
+// Appends the greatest numbers of steps.
+fn put_steps(out: &mut Vec<u8>, tail: &Tail)
+    requires { 90 ≤ room out.old }
+    ensures { out.new.items ≡ out.old.items ++ steps_line tail.now }
+{
+    begin_line(out, b"steps");
+    put_named(out, b"update", tail.update);
+    put_named(out, b"bound", tail.bound);
+    put_named(out, b"lookup", tail.lookup);
+    end_line(out);
+}

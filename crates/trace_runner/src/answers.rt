@@ -1,0 +1,56 @@
+//! The calls of a run, answered by the plain map with one caller.
+
+use edge_traits::Gate;
+use plain_map::{Call, CallId, PlainMap, Record, Reply, Rules, Seen};
+use std::alloc::{AllocError, Global};
+
+/// The only caller's seat.
+const ONLY_SEAT: u32 = 0;
+
+/// What came of the calls of a run.
+#[derive(Drop)]
+pub(crate) struct Answers {
+    /// One for each call, in packet order.
+    pub records: Vec<Record>,
+    /// The map after all of them.
+    pub map: PlainMap,
+}
+
+impl Answers {
+    /// Answers the calls one after the other, from the empty map. The gate is passed before each call, and told of each answer.
+    pub fn give<G: Gate>(alloc: Global, rules: &Rules, gate: &G, calls: &[(u32, Call)]) -> Result<Answers, AllocError> {
+        let mut map = PlainMap::new(alloc);
+        let mut records = Vec::with_capacity(alloc, calls.len())?;
+        let mut number = 0;
+        for (packet, call) in calls {
+            number += 1;
+            gate.pass(ONLY_SEAT, number);
+            let reply = map.answer(rules, call)?;
+            gate.told(ONLY_SEAT, number, carried(reply));
+            records.push(record_of(number, *packet, *call, reply))?;
+        }
+        Ok(Answers { records, map })
+    }
+}
+
+/// The record of the only caller's call with this number, which took no atomic step.
+fn record_of(number: u32, packet: u32, call: Call, reply: Reply) -> Record {
+    Record {
+        seat: ONLY_SEAT,
+        number,
+        packet,
+        call,
+        reply,
+        steps: 0,
+        seen: Seen { counts: [number - 1, 0, 0, 0, 0, 0, 0, 0] },
+        place: 0,
+    }
+}
+
+/// The number that a reply carries, or 0.
+fn carried(reply: Reply) -> u64 {
+    match reply {
+        Reply::Old(value) | Reply::Gone(value) | Reply::Found(value) => value,
+        Reply::New | Reply::NoRoom | Reply::Absent => 0,
+    }
+}
