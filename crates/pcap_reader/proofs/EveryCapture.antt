@@ -1,6 +1,6 @@
 -- Each list of bytes has a capture.
-use Rattle.std.proofs.Common.{◌≡◌, ℕ, zero, suc, ◌+◌, ◌-◌, ◌<◌, ◌≤◌, ◌⊎◌, List, [], ◌∷◌, ◌++◌, length, take, drop, Result, Ok, Err, refl, sym, ap, ◌∙◌, subst, inl, inr, arith, length-append, length-drop, append_assoc}
-use Rattle.std.specs.List.{flat_map, All, AllByRecursion}
+use Rattle.std.proofs.Common.{◌≡◌, ℕ, zero, suc, ◌+◌, ◌<◌, ◌⊎◌, List, [], ◌∷◌, ◌++◌, length, take, drop, Result, Ok, Err, refl, sym, ap, ◌∙◌, subst, inl, inr, arith, length-append, length-drop, append_assoc}
+use Rattle.std.specs.List.{flat_map, AllByRecursion}
 use Rattle.std.proofs.lemmas.Bool.{cases_lt, cases_eq}
 use Rattle.std.proofs.lemmas.List.Elements.{All-from_recursion}
 use Rattle.pcap_reader.specs.declared.order.Order.{Order}
@@ -66,7 +66,8 @@ versioned order bytes begins = elim (both (cases_eq (version_major order bytes) 
       )
 ]
 
-neither : (bytes : List ℕ) → (IsWrittenIn Little bytes → ⊥) → (IsWrittenIn Big bytes → ⊥) → (order : Order) → ¬ IsWrittenIn order bytes
+neither : (bytes : List ℕ) → (IsWrittenIn Little bytes → ⊥) → (IsWrittenIn Big bytes → ⊥) → (order : Order)
+    → ¬ IsWrittenIn order bytes
 neither bytes p q Little = p
 neither bytes p q Big = q
 
@@ -111,19 +112,22 @@ record Cutting (order : Order) (offset : ℕ) (bytes : List ℕ) : Type 0 where
   ending : Result ℕ CaptureFault
   ends : IsRemainder order (offset + length (flat_map bytes_of records)) rest ending
 
-no_record : (order : Order) (offset : ℕ) (bytes : List ℕ) (ending : Result ℕ CaptureFault) → IsRemainder order offset bytes ending → Cutting order offset bytes
+no_record : (order : Order) (offset : ℕ) (bytes : List ℕ) (ending : Result ℕ CaptureFault)
+    → IsRemainder order offset bytes ending → Cutting order offset bytes
 no_record order offset bytes ending ends =
     let same : offset ≡ offset + 0 = omega arith in
     record { records = []; each = tt; rest = bytes; whole = refl; ending = ending; ends = subst (λ (n : ℕ). IsRemainder order n bytes ending) same ends }
 
 one_more : (order : Order) (offset : ℕ) (bytes : List ℕ) (captured : ℕ) → BeginsRecord order bytes captured
-    → Cutting order (offset + (RECORD_HEAD + captured)) (drop captured (drop RECORD_HEAD bytes)) → Cutting order offset bytes
+    → Cutting order (offset + (RECORD_HEAD + captured)) (drop captured (drop RECORD_HEAD bytes))
+    → Cutting order offset bytes
 one_more order offset bytes captured begins later =
     let first = first_record bytes captured in
     let rest = drop captured (drop RECORD_HEAD bytes) in
     let after = flat_map bytes_of later.records in
     let whole : bytes ≡ (bytes_of first ++ after) ++ later.rest =
-    sym (first_record_rest bytes captured) ∙ ap (λ (l : List ℕ). bytes_of first ++ l) later.whole ∙ sym (append_assoc (bytes_of first) after later.rest) in
+    sym (first_record_rest bytes captured) ∙ ap (λ (l : List ℕ). bytes_of first ++ l) later.whole
+    ∙ sym (append_assoc (bytes_of first) after later.rest) in
     let place : offset + (RECORD_HEAD + captured) + length after ≡ offset + length (bytes_of first ++ after) =
     omega (arith, length-append (bytes_of first) after, length-first_record order bytes captured begins) in
     record {
@@ -158,7 +162,8 @@ holding order bytes head cut = (
   inr (order, record { head = head; each = All-from_recursion _ cut.records cut.each; rest = cut.rest; whole = cut.whole; ends = cut.ends }),
 )
 
-pub some_capture : (bytes : List ℕ) → (records : List Saved) × (ending : Result ℕ CaptureFault) × Capture bytes records ending
+pub some_capture : (bytes : List ℕ) → (records : List Saved) × (ending : Result ℕ CaptureFault)
+    × Capture bytes records ending
 some_capture bytes = elim (judged bytes) [
   | inl (fault, shown) ↦ ([], Err fault, inl (record { none = refl; fault = fault; ends = refl; shown = shown }))
   | inr (order, head) ↦

@@ -1,15 +1,14 @@
 -- A list of bytes has at most one capture.
-use Rattle.std.proofs.Common.{◌≡◌, ℕ, ◌+◌, ◌<◌, ◌≤◌, ◌⊎◌, List, [], ◌∷◌, ◌++◌, length, take, drop, get_or, Result, Ok, Err, refl, sym, ap, ◌∙◌, subst, inl, inr, arith, length-append, append_assoc}
-use Rattle.std.specs.List.{flat_map, All, AllByRecursion}
-use Rattle.std.proofs.lemmas.List.{append_cancel_left, take_at, drop_at}
+use Rattle.std.proofs.Common.{◌≡◌, ℕ, ◌+◌, ◌⊎◌, List, [], ◌∷◌, ◌++◌, length, take, drop, get_or, Result, Ok, Err, refl, sym, ap, ◌∙◌, subst, inl, inr, arith, length-append, append_assoc}
+use Rattle.std.specs.List.{flat_map, AllByRecursion}
+use Rattle.std.proofs.lemmas.List.{take_at, drop_at}
 use Rattle.std.proofs.lemmas.List.Elements.{recursion_from_All}
 use Rattle.pcap_reader.specs.declared.order.Order.{Order}
 use Rattle.pcap_reader.specs.declared.order.Order.TheVariants.{Little, Big}
 use Rattle.pcap_reader.specs.declared.fault.CaptureFault.{CaptureFault}
 use Rattle.pcap_reader.specs.declared.fault.CaptureFault.TheVariants.{ReadFault, ShortHeader, Magic, Version, LinkType, RecordLength, Memory}
 use Rattle.pcap_reader.specs.declared.head.TheConstants.{FILE_HEAD}
-use Rattle.pcap_reader.specs.declared.record.TheConstants.{RECORD_HEAD}
-use Rattle.pcap_reader.specs.Capture.{IsWrittenIn, HasMagic, HasFileHead, IsVersion, link_type, version_major, version_minor, ShowsFault, RefusesMagic, RefusesVersion, RefusesLink, Saved, bytes_of, captured_length, IsSaved, IsCut, IsOverlong, IsRemainder, IsRefused, HoldsRecords, Capture}
+use Rattle.pcap_reader.specs.Capture.{IsWrittenIn, HasFileHead, IsVersion, link_type, version_major, version_minor, ShowsFault, RefusesVersion, RefusesLink, Saved, bytes_of, captured_length, IsSaved, IsCut, IsOverlong, IsRemainder, HoldsRecords, Capture}
 use Rattle.pcap_reader.specs.Record.{BeginsRecord}
 use Rattle.pcap_reader.proofs.CaptureFacts.{captured_length_front}
 
@@ -19,7 +18,8 @@ use Rattle.pcap_reader.proofs.CaptureFacts.{captured_length_front}
 first : List ℕ → ℕ
 first bytes = get_or bytes 0 0
 
-little_first : (bytes : List ℕ) → IsWrittenIn Little bytes → (first (take 4 bytes) ≡ 0xd4) ⊎ (first (take 4 bytes) ≡ 0x4d)
+little_first : (bytes : List ℕ) → IsWrittenIn Little bytes
+    → (first (take 4 bytes) ≡ 0xd4) ⊎ (first (take 4 bytes) ≡ 0x4d)
 unfolding first
 little_first bytes (inl p) = inl (ap first p)
 little_first bytes (inr p) = inr (ap first p)
@@ -39,7 +39,8 @@ same_order Little Big bytes p q = absurd (not_both bytes p q)
 same_order Big Little bytes p q = absurd (not_both bytes q p)
 
 -- two faults of a version, and one of a version and one of a link type
-same_version : (bytes : List ℕ) (a b c d : ℕ) → RefusesVersion bytes a b → RefusesVersion bytes c d → Version a b ≡ Version c d
+same_version : (bytes : List ℕ) (a b c d : ℕ) → RefusesVersion bytes a b → RefusesVersion bytes c d
+    → Version a b ≡ Version c d
 same_version bytes a b c d p q =
     let same = same_order p.order q.order bytes p.begins.magic q.begins.magic in
     let major : a ≡ c = p.found_major ∙ ap (λ o. version_major o bytes) same ∙ sym q.found_major in
@@ -90,7 +91,8 @@ same_fault bytes (LinkType n) (RecordLength o f) p q = absurd q
 same_fault bytes (LinkType n) Memory p q = absurd q
 
 -- a head that keeps every rule shows no fault
-no_fault : (order : Order) (bytes : List ℕ) (fault : CaptureFault) → HasFileHead order bytes → ShowsFault bytes fault → ⊥
+no_fault : (order : Order) (bytes : List ℕ) (fault : CaptureFault) → HasFileHead order bytes → ShowsFault bytes fault
+    → ⊥
 no_fault order bytes ReadFault h p = p
 no_fault order bytes (ShortHeader k) h p = omega (arith, p.0, h.begins.whole)
 no_fault order bytes (Magic m) h p = p.magic order h.begins.magic
@@ -111,10 +113,12 @@ cut_begins_none : (order : Order) (bytes : List ℕ) → IsCut order bytes → B
 cut_begins_none order bytes (inl few) captured h = omega (arith, few, h.whole)
 cut_begins_none order bytes (inr cut) captured h = omega (arith, cut.shorter, h.whole, h.shown)
 
-overlong_begins_none : (order : Order) (bytes : List ℕ) (found : ℕ) → IsOverlong order bytes found → BeginsNone order bytes
+overlong_begins_none : (order : Order) (bytes : List ℕ) (found : ℕ) → IsOverlong order bytes found
+    → BeginsNone order bytes
 overlong_begins_none order bytes found p captured h = omega (arith, p.above, h.shown, h.within)
 
-remainder_begins_none : (order : Order) (offset : ℕ) (bytes : List ℕ) (ending : Result ℕ CaptureFault) → IsRemainder order offset bytes ending → BeginsNone order bytes
+remainder_begins_none : (order : Order) (offset : ℕ) (bytes : List ℕ) (ending : Result ℕ CaptureFault)
+    → IsRemainder order offset bytes ending → BeginsNone order bytes
 remainder_begins_none order offset bytes (Ok rest) p = cut_begins_none order bytes p.0
 remainder_begins_none order offset bytes (Err ReadFault) p = absurd p
 remainder_begins_none order offset bytes (Err (ShortHeader k)) p = absurd p
@@ -125,10 +129,12 @@ remainder_begins_none order offset bytes (Err (RecordLength place found)) p = ov
 remainder_begins_none order offset bytes (Err Memory) p = absurd p
 
 -- what begins with the bytes of a record begins with a record of that length
-saved_begins : (order : Order) (r : Saved) (more : List ℕ) → IsSaved order r → BeginsRecord order (bytes_of r ++ more) (length r.packet)
+saved_begins : (order : Order) (r : Saved) (more : List ℕ) → IsSaved order r
+    → BeginsRecord order (bytes_of r ++ more) (length r.packet)
 saved_begins order r more h =
     let split = append_assoc r.head r.packet more in
-    let shown = ap (captured_length order) split ∙ captured_length_front order r.head (r.packet ++ more) (omega (arith, h.head_length)) ∙ h.shown in
+    let shown = ap (captured_length order) split
+    ∙ captured_length_front order r.head (r.packet ++ more) (omega (arith, h.head_length)) ∙ h.shown in
     record { whole = omega (arith, h.head_length, length-append r.head r.packet, length-append (bytes_of r) more); shown = shown; within = h.within }
 
 abbrev saved : List ℕ → List ℕ → Saved
@@ -138,21 +144,27 @@ same_saved : (r s : Saved) → r.head ≡ s.head → r.packet ≡ s.packet → r
 same_saved r s head packet = ap (λ (l : List ℕ). saved l r.packet) head ∙ ap (λ (l : List ℕ). saved s.head l) packet
 
 -- two records at the front of the same bytes are one, and what follows is one
-same_first : (order : Order) (r s : Saved) (more others : List ℕ) → IsSaved order r → IsSaved order s → bytes_of r ++ more ≡ bytes_of s ++ others → (r ≡ s) × (more ≡ others)
+same_first : (order : Order) (r s : Saved) (more others : List ℕ) → IsSaved order r → IsSaved order s
+    → bytes_of r ++ more ≡ bytes_of s ++ others → (r ≡ s) × (more ≡ others)
 same_first order r s more others p q same =
     let split : r.head ++ (r.packet ++ more) ≡ s.head ++ (s.packet ++ others) = sym (append_assoc r.head r.packet more) ∙ same ∙ append_assoc s.head s.packet others in
     let head : r.head ≡ s.head =
-    sym (take_at r.head (r.packet ++ more) 16 p.head_length) ∙ ap (take 16) split ∙ take_at s.head (s.packet ++ others) 16 q.head_length in
+    sym (take_at r.head (r.packet ++ more) 16 p.head_length) ∙ ap (take 16) split
+    ∙ take_at s.head (s.packet ++ others) 16 q.head_length in
     let rest : r.packet ++ more ≡ s.packet ++ others =
-    sym (drop_at r.head (r.packet ++ more) 16 p.head_length) ∙ ap (drop 16) split ∙ drop_at s.head (s.packet ++ others) 16 q.head_length in
+    sym (drop_at r.head (r.packet ++ more) 16 p.head_length) ∙ ap (drop 16) split
+    ∙ drop_at s.head (s.packet ++ others) 16 q.head_length in
     let size : length r.packet ≡ length s.packet = sym p.shown ∙ ap (captured_length order) head ∙ q.shown in
     let packet : r.packet ≡ s.packet =
-    sym (take_at r.packet more (length s.packet) size) ∙ ap (take (length s.packet)) rest ∙ take_at s.packet others (length s.packet) refl in
+    sym (take_at r.packet more (length s.packet) size) ∙ ap (take (length s.packet)) rest
+    ∙ take_at s.packet others (length s.packet) refl in
     let after : more ≡ others =
-    sym (drop_at r.packet more (length s.packet) size) ∙ ap (drop (length s.packet)) rest ∙ drop_at s.packet others (length s.packet) refl in
+    sym (drop_at r.packet more (length s.packet) size) ∙ ap (drop (length s.packet)) rest
+    ∙ drop_at s.packet others (length s.packet) refl in
     (same_saved r s head packet, after)
 
-same_records : (order : Order) (rs ss : List Saved) (rest other : List ℕ) → AllByRecursion (IsSaved order) rs → AllByRecursion (IsSaved order) ss → BeginsNone order rest → BeginsNone order other
+same_records : (order : Order) (rs ss : List Saved) (rest other : List ℕ) → AllByRecursion (IsSaved order) rs
+    → AllByRecursion (IsSaved order) ss → BeginsNone order rest → BeginsNone order other
     → flat_map bytes_of rs ++ rest ≡ flat_map bytes_of ss ++ other → (rs ≡ ss) × (rest ≡ other)
 same_records order [] [] rest other p q none never same = (refl, same)
 same_records order [] (s ∷ ss) rest other p q none never same =
@@ -169,7 +181,8 @@ same_records order (r ∷ rs) (s ∷ ss) rest other p q none never same =
     let more = flat_map bytes_of rs ++ rest in
     let others = flat_map bytes_of ss ++ other in
     let split : bytes_of r ++ more ≡ bytes_of s ++ others =
-    sym (append_assoc (bytes_of r) (flat_map bytes_of rs) rest) ∙ same ∙ append_assoc (bytes_of s) (flat_map bytes_of ss) other in
+    sym (append_assoc (bytes_of r) (flat_map bytes_of rs) rest) ∙ same
+    ∙ append_assoc (bytes_of s) (flat_map bytes_of ss) other in
     let first = same_first order r s more others p.0 q.0 split in
     let later = same_records order rs ss rest other p.1 q.1 none never first.1 in
     (ap (λ (x : Saved). x ∷ rs) first.0 ∙ ap (λ (l : List Saved). s ∷ l) later.0, later.1)
@@ -180,14 +193,16 @@ cut_or_overlong : (order : Order) (bytes : List ℕ) (found : ℕ) → IsCut ord
 cut_or_overlong order bytes found (inl few) p = omega (arith, few, p.head)
 cut_or_overlong order bytes found (inr cut) p = omega (arith, cut.within, p.above)
 
-same_overlong : (order : Order) (offset : ℕ) (bytes : List ℕ) (place found other_place other : ℕ) → (place ≡ offset) × IsOverlong order bytes found → (other_place ≡ offset) × IsOverlong order bytes other
+same_overlong : (order : Order) (offset : ℕ) (bytes : List ℕ) (place found other_place other : ℕ)
+    → (place ≡ offset) × IsOverlong order bytes found → (other_place ≡ offset) × IsOverlong order bytes other
     → RecordLength place found ≡ RecordLength other_place other
 same_overlong order offset bytes place found other_place other p q =
     let places : place ≡ other_place = p.0 ∙ sym q.0 in
     let lengths : found ≡ other = p.1.found_length ∙ sym q.1.found_length in
     ap (λ n. RecordLength n found) places ∙ ap (λ n. RecordLength other_place n) lengths
 
-same_ending : (order : Order) (offset : ℕ) (bytes : List ℕ) (ending other : Result ℕ CaptureFault) → IsRemainder order offset bytes ending → IsRemainder order offset bytes other → ending ≡ other
+same_ending : (order : Order) (offset : ℕ) (bytes : List ℕ) (ending other : Result ℕ CaptureFault)
+    → IsRemainder order offset bytes ending → IsRemainder order offset bytes other → ending ≡ other
 same_ending order offset bytes (Ok rest) (Ok other) p q = ap (λ n. Ok n) (p.1 ∙ sym q.1)
 same_ending order offset bytes (Ok rest) (Err ReadFault) p q = absurd q
 same_ending order offset bytes (Ok rest) (Err (ShortHeader k)) p q = absurd q
@@ -213,7 +228,8 @@ same_ending order offset bytes (Err (RecordLength place found)) (Err Memory) p q
 
 -- ---- captures
 
-both_hold : (order : Order) (bytes : List ℕ) (records others : List Saved) (ending other : Result ℕ CaptureFault) → HoldsRecords order bytes records ending → HoldsRecords order bytes others other
+both_hold : (order : Order) (bytes : List ℕ) (records others : List Saved) (ending other : Result ℕ CaptureFault)
+    → HoldsRecords order bytes records ending → HoldsRecords order bytes others other
     → (records ≡ others) × (ending ≡ other)
 both_hold order bytes records others ending other p q =
     let none = remainder_begins_none order _ p.rest ending p.ends in
@@ -223,7 +239,8 @@ both_hold order bytes records others ending other p q =
     let ends = subst (λ (l : List Saved). IsRemainder order (FILE_HEAD + length (flat_map bytes_of l)) q.rest ending) same.0 moved in
     (same.0, same_ending order (FILE_HEAD + length (flat_map bytes_of others)) q.rest ending other ends q.ends)
 
-pub same_capture : (bytes : List ℕ) (records others : List Saved) (ending other : Result ℕ CaptureFault) → Capture bytes records ending → Capture bytes others other → (records ≡ others) × (ending ≡ other)
+pub same_capture : (bytes : List ℕ) (records others : List Saved) (ending other : Result ℕ CaptureFault)
+    → Capture bytes records ending → Capture bytes others other → (records ≡ others) × (ending ≡ other)
 same_capture bytes records others ending other (inl p) (inl q) =
     (p.none ∙ sym q.none, p.ends ∙ ap (λ (f : CaptureFault). Err f) (same_fault bytes p.fault q.fault p.shown q.shown) ∙ sym q.ends)
 same_capture bytes records others ending other (inl p) (inr q) = absurd (no_fault q.0 bytes p.fault q.1.head p.shown)

@@ -1,14 +1,14 @@
 -- Parts of a list next to one another, and bytes that are gathered in turns.
-use Rattle.std.proofs.Common.{◌≡◌, ℕ, zero, ◌+◌, ◌-◌, ◌<◌, ◌≤◌, List, [], ◌∷◌, ◌++◌, length, take, drop, Option, Some, None, IfSome, Result, Ok, Err, OnErr, refl, sym, ap, ◌∙◌, subst, inl, inr, arith, append_assoc, append-nil, length-append, length-take-le}
+use Rattle.std.proofs.Common.{◌≡◌, ℕ, ◌+◌, ◌-◌, ◌≤◌, List, [], ◌++◌, length, take, drop, Option, Some, None, Result, Ok, Err, OnErr, sym, ap, ◌∙◌, subst, inl, inr, arith, append_assoc, append-nil, length-append, length-take-le}
 use Rattle.std.specs.List.{slice_range}
 use Rattle.std.specs.Io.KnownBytes.{Consumes, IsAtEnd, Keeps}
 use Rattle.std.proofs.Math.Seq.{take-append-add}
-use Rattle.std.proofs.lemmas.List.{drop-drop, take-take, drop-append-le, take-append-le, take_at, nil_from_length}
+use Rattle.std.proofs.lemmas.List.{drop-drop, take-take, drop-append-le, take-append-le, nil_from_length}
 use Rattle.std.proofs.lemmas.Slice.{between_is}
 use Rattle.std.proofs.KnownBytes.{Consumes-nil, Consumes-kept, Consumes-trans}
 use borrow.Rule.Slice.PartMut.{put_mid}
 use Rattle.edge_traits.specs.Edge.{Rose, IsEndExactly}
-use Rattle.pcap_reader.specs.Window.{Held, Gathers, IsDrained, Fills}
+use Rattle.pcap_reader.specs.Window.{Held, Gathers, IsDrained}
 
 -- ---- parts of a list
 
@@ -21,22 +21,26 @@ range_front xs i j n within =
     ap (λ k. take k (drop i xs)) same ∙ sym (take-take n (j - i) (drop i xs) (omega arith))
 
 -- what stands behind a part after more was written behind it
-pub range_grown : (xs ys taken : List ℕ) (i j k : ℕ) → i ≤ j → j ≤ length xs → take j xs ++ taken ≡ take k ys → slice_range xs i j ++ taken ≡ slice_range ys i k
+pub range_grown : (xs ys taken : List ℕ) (i j k : ℕ) → i ≤ j → j ≤ length xs → take j xs ++ taken ≡ take k ys
+    → slice_range xs i j ++ taken ≡ slice_range ys i k
 range_grown xs ys taken i j k order inside grown =
     let long : i ≤ length (take j xs) = omega (arith, length-take-le j xs inside) in
-    ap (λ l. l ++ taken) (between_is xs i j) ∙ sym (drop-append-le i (take j xs) taken long) ∙ ap (drop i) grown ∙ sym (between_is ys i k)
+    ap (λ l. l ++ taken) (between_is xs i j) ∙ sym (drop-append-le i (take j xs) taken long) ∙ ap (drop i) grown
+    ∙ sym (between_is ys i k)
 
 -- a part before which and in which nothing was written
 pub range_kept : (xs ys : List ℕ) (i j : ℕ) → take j ys ≡ take j xs → slice_range ys i j ≡ slice_range xs i j
 range_kept xs ys i j same = between_is ys i j ∙ ap (drop i) same ∙ sym (between_is xs i j)
 
 -- the front of a list after a write of ys behind the first a
-pub take_written : (xs ys : List ℕ) (a k n : ℕ) → a ≤ length xs → n ≤ length ys → take a xs ++ take n ys ≡ take (a + n) (put_mid a k xs ys)
+pub take_written : (xs ys : List ℕ) (a k n : ℕ) → a ≤ length xs → n ≤ length ys
+    → take a xs ++ take n ys ≡ take (a + n) (put_mid a k xs ys)
 take_written xs ys a k n inside few =
     let front = take a xs in
     let size : length front ≡ a = length-take-le a xs inside in
     let behind = ys ++ drop k (drop a xs) in
-    ap (λ l. front ++ l) (sym (take-append-le n ys (drop k (drop a xs)) few)) ∙ sym (take-append-add front behind n) ∙ ap (λ m. take (m + n) (front ++ behind)) size
+    ap (λ l. front ++ l) (sym (take-append-le n ys (drop k (drop a xs)) few)) ∙ sym (take-append-add front behind n)
+    ∙ ap (λ m. take (m + n) (front ++ behind)) size
 
 -- ---- a window's value
 
@@ -48,11 +52,13 @@ make_held a b c d p q = ap (λ (l : List ℕ). the_held l b) p ∙ ap (λ (l : L
 
 -- ---- bytes gathered in turns
 
-pub gathers_none : (old new : List ℕ) (before after : Option (List ℕ)) → new ≡ old → Keeps before after → Gathers old new before after
+pub gathers_none : (old new : List ℕ) (before after : Option (List ℕ)) → new ≡ old → Keeps before after
+    → Gathers old new before after
 gathers_none old new before after same kept =
     record { taken = []; held = append-nil old ∙ sym same; told = Consumes-kept before before after [] (Consumes-nil before) kept }
 
-pub gathers_more : (old mid new : List ℕ) (before between after : Option (List ℕ)) → Gathers old mid before between → Gathers mid new between after → Gathers old new before after
+pub gathers_more : (old mid new : List ℕ) (before between after : Option (List ℕ)) → Gathers old mid before between
+    → Gathers mid new between after → Gathers old new before after
 gathers_more old mid new before between after first second =
     record {
       taken = first.taken ++ second.taken;
@@ -61,19 +67,22 @@ gathers_more old mid new before between after first second =
     }
 
 -- a read that gave nothing left nothing
-pub gathered_none : (mid new : List ℕ) (between after : Option (List ℕ)) → Gathers mid new between after → length mid + 0 ≡ length new → new ≡ mid
+pub gathered_none : (mid new : List ℕ) (between after : Option (List ℕ)) → Gathers mid new between after
+    → length mid + 0 ≡ length new → new ≡ mid
 gathered_none mid new between after read size =
     let none : read.taken ≡ [] = nil_from_length read.taken (omega (arith, length-append mid read.taken, ap length read.held)) in
     sym read.held ∙ ap (λ l. mid ++ l) none ∙ append-nil mid
 
-all_held : (old mid taken : List ℕ) (before between : Option (List ℕ)) → Consumes before between taken → old ++ taken ≡ mid → IsAtEnd between → IsDrained old mid before
+all_held : (old mid taken : List ℕ) (before between : Option (List ℕ)) → Consumes before between taken
+    → old ++ taken ≡ mid → IsAtEnd between → IsDrained old mid before
 all_held old mid taken None between told held end = tt
 all_held old mid taken (Some xs) None told held end = absurd told
 all_held old mid taken (Some xs) (Some ys) told held end =
     ap (λ l. old ++ l) (told ∙ ap (λ l. taken ++ l) end ∙ append-nil taken) ∙ held
 
 -- all is held once a read gives nothing
-pub drained : (old mid new : List ℕ) (before between after : Option (List ℕ)) → Gathers old mid before between → Gathers mid new between after → length mid + 0 ≡ length new → IsAtEnd between
+pub drained : (old mid new : List ℕ) (before between after : Option (List ℕ)) → Gathers old mid before between
+    → Gathers mid new between after → length mid + 0 ≡ length new → IsAtEnd between
     → IsDrained old new before
 drained old mid new before between after first second size end =
     subst (λ l. IsDrained old l before) (sym (gathered_none mid new between after second size)) (all_held old mid first.taken before between first.told first.held end)

@@ -1,7 +1,7 @@
 -- A savefile as one list of bytes: a file head, then whole records, then a remainder.
 -- Source: pcap-savefile(5), the per-file header and the per-packet header; the limit is libpcap's MAXIMUM_SNAPLEN.
 -- Places count bytes from 0, and lengths are in bytes. The reader goes piece by piece; this cuts a whole list.
--- Not looked at: the reserved fields, the snapshot length, the link field's upper 16 bits, times, original lengths.
+-- Not looked at: the reserved fields, the snapshot length, the link field's upper 16 bits, times and original lengths.
 use Rattle.std.specs.Prelude.{◌≡◌, ◌≤◌, ◌<◌, ℕ, ◌+◌, ◌%◌, ◌^◌, ◌⊎◌, ◌++◌, List, [], length, take, drop, All, Result, Ok, Err}
 use Rattle.std.specs.List.{flat_map}
 use Rattle.byteorder.specs.Endian.{little_number, big_number, little_bytes, big_bytes}

@@ -186,7 +186,7 @@ fn gather_head<S: Source>(window: &mut Window, source: &mut S) -> Result<(), Fai
     ensures failed { OnErr result (Rose (S.faults source.old) (S.faults source.new)) }
     ensures counted { S.faults source.old ≤ S.faults source.new }
 {
-    while window.unread().len() < FILE_HEAD {
+    'head: while window.unread().len() < FILE_HEAD {
         if window.fill(source)? == 0 {
             return Ok(());
         }
@@ -207,7 +207,7 @@ fn await_record<S: Source>(
     ensures failed { OnErr result (Rose (S.faults source.old) (S.faults source.new)) }
     ensures counted { S.faults source.old ≤ S.faults source.new }
 {
-    loop {
+    'records: loop {
         let seen = look(order, window.unread());
         if seen != Shown::Cut || window.fill(source)? == 0 {
             return Ok(seen);

@@ -2,7 +2,7 @@
 use Rattle.std.proofs.Common.{◌≡◌, List, [], ◌∷◌, ◌++◌, refl}
 use Rattle.plain_map.specs.declared.rules.Rules.{Rules}
 use Rattle.plain_map.specs.PlainObject.{Sessions, map_after}
-use Rattle.plain_map.specs.History.{Placed, call_in, HasReply, Legal, sessions_after, CutsLegally, GrowsLegally}
+use Rattle.plain_map.specs.History.{Placed, call_in, Legal, sessions_after, CutsLegally, GrowsLegally}
 
 -- the front of a legal order is legal, and so is the rest, from what the front leaves
 pub Legal-parts : (rules : Rules) (sessions : Sessions) (front back : List Placed)

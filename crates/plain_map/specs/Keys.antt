@@ -1,5 +1,5 @@
 -- Keys, their order, their hash, and a pair as an entry of a finite map.
-use Rattle.std.specs.Prelude.{ℕ}
+use Rattle.std.specs.Prelude.{ℕ, List, [], ◌∷◌}
 use Rattle.std.specs.declared.cmp.Ordering.{Ordering}
 use Rattle.std.specs.Ordering.{nat_cmp, ordering_then}
 use Rattle.std.specs.Coded.{Coded, coded_ℕ, coded×, code_by}
@@ -8,6 +8,10 @@ use Rattle.hash_bits.specs.declared.hashing.Hashing.{Hashing}
 use Rattle.hash_bits.specs.Hashing.{hash_of}
 use Rattle.plain_map.specs.declared.keys.Key.{Key}
 use Rattle.plain_map.specs.declared.keys.Pair.{Pair}
+
+-- the key's words, in the order in which keys are compared
+abbrev pub words_of_key : Key → List ℕ
+words_of_key key = key.k0 ∷ key.k1 ∷ []
 
 -- by the first word, and then by the second
 abbrev pub key_cmp : Key → Key → Ordering

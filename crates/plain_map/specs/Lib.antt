@@ -4,7 +4,9 @@ pub mod PlainObject
 pub mod Places
 pub mod ClassCounts
 pub mod Held
+pub mod Locality
 pub mod History
+pub mod Asked
 pub mod Rows
 pub mod Room
 pub mod Serving

@@ -15,8 +15,18 @@ pub struct Key {
     pub k1: u64,
 }
 
+/// How many words a key has.
+pub const KEY_WORDS: usize = 2;
+
 impl Key {
-    ghost use Rattle.plain_map.specs.Keys.{hash_of_key};
+    ghost use Rattle.plain_map.specs.Keys.{hash_of_key, words_of_key};
+
+    /// The key's words, in the order in which keys are compared.
+    pub fn words(&self) -> [u64; KEY_WORDS]
+        ensures { result ≡ words_of_key self.now }
+    {
+        [self.k0, self.k1]
+    }
 
     /// The key's hash.
     pub fn hash(&self, hashing: &Hashing) -> u64

@@ -17,11 +17,11 @@ infixr 30 ◌⨟◌
 pub ◌⨟◌ : {old between new : List ℕ} {xs ys : List (List ℕ)} →
     Puts old xs between → Puts between ys new → Puts old (xs ++ ys) new
 ◌⨟◌ {old} {between} {new} {xs} {ys} before after = record {
-    appended =
-        after.appended
-        ∙ ap (λ (text : List ℕ). text ++ spaced ys) before.appended
-        ∙ append_assoc old (spaced xs) (spaced ys)
-        ∙ ap (λ (text : List ℕ). old ++ text) (sym (spaced-append xs ys));
+  appended =
+      after.appended
+      ∙ ap (λ (text : List ℕ). text ++ spaced ys) before.appended
+      ∙ append_assoc old (spaced xs) (spaced ys)
+      ∙ ap (λ (text : List ℕ). old ++ text) (sym (spaced-append xs ys));
 }
 
 -- no words
@@ -33,11 +33,11 @@ puts_none text = record { appended = sym (append-nil text) }
 pub puts_after_space : {old between new text : List ℕ} →
     between ≡ old ++ codes " " → new ≡ between ++ text → Puts old (text ∷ []) new
 puts_after_space {old} {between} {new} {text} space put = record {
-    appended =
-        put
-        ∙ ap (λ (before : List ℕ). before ++ text) space
-        ∙ append_assoc old (codes " ") text
-        ∙ ap (λ (word : List ℕ). old ++ word) (sym (spaced_word text));
+  appended =
+      put
+      ∙ ap (λ (before : List ℕ). before ++ text) space
+      ∙ append_assoc old (codes " ") text
+      ∙ ap (λ (word : List ℕ). old ++ word) (sym (spaced_word text));
 }
 
 -- a line is its first word, its other words, and its end

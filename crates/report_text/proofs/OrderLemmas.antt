@@ -56,10 +56,10 @@ pub order_more : (base out new : List ℕ) (all left x rest : List CallId) →
 order_more base out new all left x rest cut front some before put =
     let front_of_all : length x ≡ min 16 (length (x ++ rest)) = rw cut at front in
     let line_first : order_lines left ≡ order_line x ++ order_lines rest =
-        order_lines_step left some
-        ∙ ap (λ (xs : List CallId). order_line (take 16 xs) ++ order_lines (drop 16 xs)) cut
-        ∙ ap (λ (xs : List CallId). order_line xs ++ order_lines (drop 16 (x ++ rest))) (take_front 16 x rest front_of_all)
-        ∙ ap (λ (xs : List CallId). order_line x ++ order_lines xs) (drop_front 16 x rest front_of_all)
+    order_lines_step left some
+    ∙ ap (λ (xs : List CallId). order_line (take 16 xs) ++ order_lines (drop 16 xs)) cut
+    ∙ ap (λ (xs : List CallId). order_line xs ++ order_lines (drop 16 (x ++ rest))) (take_front 16 x rest front_of_all)
+    ∙ ap (λ (xs : List CallId). order_line x ++ order_lines xs) (drop_front 16 x rest front_of_all)
     in
     ap (λ (text : List ℕ). text ++ order_lines rest) put
     ∙ append_assoc out (order_line x) (order_lines rest)

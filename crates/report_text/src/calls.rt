@@ -8,7 +8,9 @@ ghost use Rattle.trace_share.specs.declared.outcome.Outcome.TheVariants.{Answere
 ghost use Rattle.report_text.specs.Report.{after_words, call_in, call_words, full_words, outcome_line, reply_words, short_word, steps_words, value_in, verb_word};
 ghost use Rattle.report_text.specs.Lines.{room, Puts};
 
-use crate::pieces::{begin_line, end_line, make_room, put_digits, put_named, put_number, put_text, put_word};
+use crate::pieces::{
+    begin_line, end_line, make_room, put_digits, put_named, put_number, put_text, put_word,
+};
 use flow_keys::key_text;
 use plain_map::{Call, Full, FullKind, Key, Record, Reply, Seen};
 use std::alloc::{AllocError, Global};
@@ -20,7 +22,13 @@ const LINE_ROOM: usize = 384;
 /// Appends the line of a call: its caller's seat, and how the call ended.
 ///
 /// Of the counts that the call saw, those of the first `seats` seats are told.
-pub fn outcome_text(_alloc: Global, out: &mut Vec<u8>, seats: u32, seat: u32, outcome: &Outcome) -> Result<(), AllocError>
+pub fn outcome_text(
+    _alloc: Global,
+    out: &mut Vec<u8>,
+    seats: u32,
+    seat: u32,
+    outcome: &Outcome,
+) -> Result<(), AllocError>
     requires seats { seats ≤ 8 }
     requires key { HasText (key_in (call_in outcome.now)) }
     ensures appended { OnOk result (out.new.items ≡ out.old.items ++ outcome_line seats seat outcome.now) }

@@ -15,3 +15,6 @@ pub use order::order_text;
 pub use parts::{Ending, Head, Tail};
 pub use session::session_text;
 pub use tail::tail_text;
+
+#[cfg(test)]
+mod tests;

@@ -6,7 +6,9 @@ ghost use Rattle.report_text.specs.Report.{count_line, ending_words, fault_words
 ghost use Rattle.report_text.specs.Lines.{hexadecimal, room, Puts};
 
 use crate::parts::{Ending, Tail};
-use crate::pieces::{begin_line, end_line, make_room, put_digits, put_named, put_number, put_text, put_word};
+use crate::pieces::{
+    begin_line, end_line, make_room, put_digits, put_named, put_number, put_text, put_word,
+};
 use pcap_reader::CaptureFault;
 use std::alloc::{AllocError, Global};
 

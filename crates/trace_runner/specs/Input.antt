@@ -1,28 +1,45 @@
--- What a run reads of its input.
+-- What a run serves of its input.
 -- Source: pcap-savefile(5), by the definition of a capture.
-use Rattle.std.specs.Prelude.{◌≡◌, ℕ, ◌+◌, ◌≤◌, List, [], ◌++◌, length, map, take, Option, Some, Ok, Err}
-use Rattle.pcap_reader.specs.Capture.{Saved, Capture, BeginsWith}
-use Rattle.report_text.specs.declared.Ending.{Ending}
-use Rattle.report_text.specs.declared.Ending.TheVariants.{Done, ReadFault, Limit, Fault}
-use Rattle.trace_runner.specs.declared.TheConstants.{PACKET_LIMIT}
+use Rattle.std.specs.Prelude.{◌≡◌, ℕ, ◌+◌, ◌≤◌, List, [], ◌++◌, length, map, take, drop, flat_map, All, Option, Some, Result, Ok, Err}
+use Rattle.pcap_reader.specs.declared.order.Order.{Order}
+use Rattle.pcap_reader.specs.declared.fault.CaptureFault.{CaptureFault}
+use Rattle.pcap_reader.specs.declared.head.TheConstants.{FILE_HEAD}
+use Rattle.pcap_reader.specs.Capture.{Saved, bytes_of, Capture, HasFileHead, IsSaved}
+use Rattle.report_text.specs.declared.parts.Ending.{Ending}
+use Rattle.report_text.specs.declared.parts.Ending.TheVariants.{Done, ReadFault, Limit, Fault}
+use Rattle.trace_runner.specs.declared.intake.TheConstants.{PACKET_LIMIT}
 
 -- the captured bytes of each record
 abbrev pub packets_of : List Saved → List (List ℕ)
-packets_of records = map (λ record. record.packet) records
+packets_of records = map (λ saved. saved.packet) records
+
+-- the bytes are a right file head, these whole records, and more
+pub record BeginsWith (bytes : List ℕ) (records : List Saved) (more : List ℕ) : Type 0 where
+  pub order : Order
+  pub head : HasFileHead order bytes
+  pub each : All (IsSaved order) records
+  pub whole : drop FILE_HEAD bytes ≡ flat_map bytes_of records ++ more
+
+-- the bytes are a capture with this ending, with no more records than are served, which are these packets
+abbrev pub HoldsPackets : List ℕ → List (List ℕ) → Result ℕ CaptureFault → Type 0
+HoldsPackets bytes packets ending =
+    (records : List Saved) × Capture bytes records ending × (length records ≤ PACKET_LIMIT) × (packets ≡ packets_of records)
+
+-- the bytes begin with one whole record more than are served, and these packets are those that are
+abbrev pub HoldsMore : List ℕ → List (List ℕ) → Type 0
+HoldsMore bytes packets =
+    (records : List Saved) × (more : List ℕ) × BeginsWith bytes records more × (length records ≡ PACKET_LIMIT + 1)
+    × (packets ≡ packets_of (take PACKET_LIMIT records))
+
+-- of the bytes some were taken, and these packets are those that are whole in them
+abbrev pub HoldsTaken : List ℕ → Option (List ℕ) → List (List ℕ) → Type 0
+HoldsTaken bytes left packets =
+    (taken : List ℕ) × (others : List ℕ) × (ending : Result ℕ CaptureFault) × (bytes ≡ taken ++ others) × (left ≡ Some others)
+    × HoldsPackets taken packets ending
 
 -- Of an input with these bytes, of which these are left, these packets are served, and so it ended.
 abbrev pub Serves : List ℕ → Option (List ℕ) → List (List ℕ) → Ending → Type 0
--- the whole input is a capture with no fault, and was read to its end
-Serves bytes left packets (Done rest) =
-    (records : List Saved) × Capture bytes records (Ok rest) × (length records ≤ PACKET_LIMIT) × (packets ≡ packets_of records) × (left ≡ Some [])
--- the input is a capture with this fault
-Serves bytes left packets (Fault fault) =
-    (records : List Saved) × Capture bytes records (Err fault) × (length records ≤ PACKET_LIMIT) × (packets ≡ packets_of records)
--- the input begins with one whole record more than are allowed
-Serves bytes left packets (Limit limit) =
-    (records : List Saved) × (more : List ℕ) × BeginsWith bytes records more × (length records ≡ PACKET_LIMIT + 1)
-    × (packets ≡ packets_of (take PACKET_LIMIT records)) × (limit ≡ PACKET_LIMIT)
--- the records that are whole in the bytes taken are served
-Serves bytes left packets ReadFault =
-    (taken : List ℕ) × (others : List ℕ) × (records : List Saved) × (ending : Result ℕ CaptureFault) × (left ≡ Some others) × (bytes ≡ taken ++ others)
-    × Capture taken records ending × (length records ≤ PACKET_LIMIT) × (packets ≡ packets_of records)
+Serves bytes left packets (Done rest) = HoldsPackets bytes packets (Ok rest) × (left ≡ Some [])
+Serves bytes left packets (Fault fault) = HoldsPackets bytes packets (Err fault)
+Serves bytes left packets (Limit limit) = HoldsMore bytes packets × (limit ≡ PACKET_LIMIT)
+Serves bytes left packets ReadFault = HoldsTaken bytes left packets

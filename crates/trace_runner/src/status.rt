@@ -22,6 +22,9 @@ pub enum Status {
 }
 
 impl Status {
+    ghost use Rattle.std.specs.Prelude.{◌≡◌};
+    ghost use Rattle.trace_runner.specs.Headline.{status_of};
+
     /// The program's exit status.
     pub fn code(self) -> u8 {
         match self {
@@ -47,7 +50,9 @@ impl Status {
     }
 
     /// The status of a run whose report was put whole.
-    pub(crate) fn of_ending(ending: &Ending) -> Status {
+    pub(crate) fn of_ending(ending: &Ending) -> Status
+        ensures { result ≡ status_of ending.now }
+    {
         match ending {
             Ending::Done { .. } => Status::Done,
             Ending::ReadFault => Status::ReadFault,

@@ -32,10 +32,10 @@ unfolding calls_until dealt calls_of
 deal_all share seats calls i past =
     let size : length (enumerate_from 0 calls) ≡ length calls = length-enumerate_from 0 calls in
     let all : take i (enumerate_from 0 calls) ≡ enumerate_from 0 calls =
-        take_all i (enumerate_from 0 calls) (omega arith) in
+    take_all i (enumerate_from 0 calls) (omega arith) in
     ap (λ (placed : List (ℕ × (ℕ × Call))).
-        map (λ (seat : ℕ). map (λ p. p.1) (filter (makes share seats (length calls) seat) placed))
-        (range_with_len 0 seats)) all
+    map (λ (seat : ℕ). map (λ p. p.1) (filter (makes share seats (length calls) seat) placed))
+    (range_with_len 0 seats)) all
 
 map_one : {X Y : Type 0} (f : X → Y) (b : Bool) (x : X) → map f (cond b (x ∷ []) []) ≡ cond b (f x ∷ []) []
 map_one f true x = refl
@@ -52,18 +52,18 @@ until_more share seats calls i seat call own inside is tested =
     let size : length placed ≡ length calls = length-enumerate_from 0 calls in
     let within : i < length placed = omega arith in
     let next : get_or placed i (i, call) ≡ (i, call) =
-        get_or-enumerate_from 0 calls i (i, call) inside
-        ∙ ap (λ (place : ℕ). (place, get_or calls i call)) (zero-add i)
-        ∙ ap (λ (one : ℕ × Call). (i, one)) (sym is) in
+    get_or-enumerate_from 0 calls i (i, call) inside
+    ∙ ap (λ (place : ℕ). (place, get_or calls i call)) (zero-add i)
+    ∙ ap (λ (one : ℕ × Call). (i, one)) (sym is) in
     let more : filter test (take (i + 1) placed)
-            ≡ filter test (take i placed) ++ cond own ((i, call) ∷ []) [] =
-        filter_more test placed i (i, call) within
-        ∙ ap (λ (one : ℕ × (ℕ × Call)). filter test (take i placed) ++ cond (test one) (one ∷ []) []) next
-        ∙ ap (λ (b : Bool). filter test (take i placed) ++ cond b ((i, call) ∷ []) []) tested in
+    ≡ filter test (take i placed) ++ cond own ((i, call) ∷ []) [] =
+    filter_more test placed i (i, call) within
+    ∙ ap (λ (one : ℕ × (ℕ × Call)). filter test (take i placed) ++ cond (test one) (one ∷ []) []) next
+    ∙ ap (λ (b : Bool). filter test (take i placed) ++ cond b ((i, call) ∷ []) []) tested in
     ap (map (λ (p : ℕ × (ℕ × Call)). p.1)) more
     ∙ map-append (λ (p : ℕ × (ℕ × Call)). p.1) (filter test (take i placed)) (cond own ((i, call) ∷ []) [])
     ∙ ap (λ (one : List (ℕ × Call)). map (λ (p : ℕ × (ℕ × Call)). p.1) (filter test (take i placed)) ++ one)
-        (map_one (λ (p : ℕ × (ℕ × Call)). p.1) own (i, call))
+    (map_one (λ (p : ℕ × (ℕ × Call)). p.1) own (i, call))
 
 pub same_is : (m n : ℕ) → m ≡ n → (m == n) ≡ true
 same_is m n same = grind (arith, nat_tests)
@@ -81,29 +81,33 @@ pub deal_more : (share : Share) (seats : ℕ) (calls : List (ℕ × Call)) (i se
     new ≡ map (calls_until share seats calls (i + 1)) (range_with_len 0 seats)
 deal_more share seats calls i seat call old new inside is below own before put =
     fill_by_all (calls_until share seats calls (i + 1)) new seats [] size each
-    where
-      list : ℕ → List (ℕ × Call)
-      list = calls_until share seats calls i
-      old_size : length old ≡ seats
-      old_size = ap length before ∙ length-map-range_with_len list 0 seats
-      size : length new ≡ seats
-      size = ap length put ∙ length-set old seat (get_or old seat [] ++ call ∷ []) ∙ old_size
-      was : (k : ℕ) → k < seats → get_or old k [] ≡ list k
-      was k within =
-          ap (λ (lists : List (List (ℕ × Call))). get_or lists k []) before
-          ∙ get_or-map-range_with_len list 0 seats k k [] within (zero-add k)
-      each : (k : ℕ) → k < seats → get_or new k [] ≡ calls_until share seats calls (i + 1) k
-      each k within = elim (cases_eq seat k) [
-          inl same ↦
-              ap (λ (lists : List (List (ℕ × Call))). get_or lists k []) put
-              ∙ ap (λ (place : ℕ). get_or (set old place (get_or old place [] ++ call ∷ [])) k []) same
-              ∙ get_or-set_same old k (get_or old k [] ++ call ∷ []) [] (omega (arith, old_size))
-              ∙ ap (λ (front : List (ℕ × Call)). front ++ call ∷ []) (was k within)
-              ∙ sym (until_more share seats calls i k call true inside is (own k within ∙ same_is seat k same))
-        | inr other ↦
-              ap (λ (lists : List (List (ℕ × Call))). get_or lists k []) put
-              ∙ get_or-set_other old seat k (get_or old seat [] ++ call ∷ []) [] (λ (e : k ≡ seat). other (sym e))
-              ∙ was k within
-              ∙ sym (append-nil (list k))
-              ∙ sym (until_more share seats calls i k call false inside is (own k within ∙ other_is seat k other))
-        ]
+  where
+    list : ℕ → List (ℕ × Call)
+    list = calls_until share seats calls i
+
+    old_size : length old ≡ seats
+    old_size = ap length before ∙ length-map-range_with_len list 0 seats
+
+    size : length new ≡ seats
+    size = ap length put ∙ length-set old seat (get_or old seat [] ++ call ∷ []) ∙ old_size
+
+    was : (k : ℕ) → k < seats → get_or old k [] ≡ list k
+    was k within =
+        ap (λ (lists : List (List (ℕ × Call))). get_or lists k []) before
+        ∙ get_or-map-range_with_len list 0 seats k k [] within (zero-add k)
+
+    each : (k : ℕ) → k < seats → get_or new k [] ≡ calls_until share seats calls (i + 1) k
+    each k within = elim (cases_eq seat k) [
+      | inl same ↦
+          ap (λ (lists : List (List (ℕ × Call))). get_or lists k []) put
+          ∙ ap (λ (place : ℕ). get_or (set old place (get_or old place [] ++ call ∷ [])) k []) same
+          ∙ get_or-set_same old k (get_or old k [] ++ call ∷ []) [] (omega (arith, old_size))
+          ∙ ap (λ (front : List (ℕ × Call)). front ++ call ∷ []) (was k within)
+          ∙ sym (until_more share seats calls i k call true inside is (own k within ∙ same_is seat k same))
+      | inr other ↦
+          ap (λ (lists : List (List (ℕ × Call))). get_or lists k []) put
+          ∙ get_or-set_other old seat k (get_or old seat [] ++ call ∷ []) [] (λ (e : k ≡ seat). other (sym e))
+          ∙ was k within
+          ∙ sym (append-nil (list k))
+          ∙ sym (until_more share seats calls i k call false inside is (own k within ∙ other_is seat k other))
+    ]

@@ -42,7 +42,7 @@ flat_map_same f g a zero same = refl
 flat_map_same f g a (suc n) same =
     ap (λ front. front ++ flat_map f (range_with_len (a + 1) n)) (same a (omega arith) (omega arith))
     ∙ ap (λ rest. g a ++ rest)
-        (flat_map_same f g (a + 1) n (λ (s : ℕ) (low : a + 1 ≤ s) (high : s < a + 1 + n). same s (omega arith) (omega arith)))
+    (flat_map_same f g (a + 1) n (λ (s : ℕ) (low : a + 1 ≤ s) (high : s < a + 1 + n). same s (omega arith) (omega arith)))
 
 flat_map_nothing : {X : Type 0} (a n : ℕ) → flat_map (λ s. let none : List X = [] in none) (range_with_len a n) ≡ []
 flat_map_nothing {X = X} a zero = refl
@@ -54,15 +54,15 @@ more_here : {X : Type 0} (f g : ℕ → List X) (x : X) (t a n : ℕ) → t ≡ 
     IsPermutation (flat_map f (range_with_len a (suc n))) (x ∷ flat_map g (range_with_len a (suc n)))
 more_here f g x t a n same is =
     let first : f a ≡ x ∷ g a =
-        is a (omega arith) (omega arith) ∙ ap (λ b. cond b (x ∷ g a) (g a)) (same_is t a same) in
+    is a (omega arith) (omega arith) ∙ ap (λ b. cond b (x ∷ g a) (g a)) (same_is t a same) in
     let others : flat_map f (range_with_len (a + 1) n) ≡ flat_map g (range_with_len (a + 1) n) =
-        flat_map_same f g (a + 1) n
-        (λ (s : ℕ) (from : a + 1 ≤ s) (to : s < a + 1 + n).
-            is s (omega arith) (omega arith)
-            ∙ ap (λ b. cond b (x ∷ g s) (g s)) (other_is t s (λ (e : t ≡ s). omega arith))) in
+    flat_map_same f g (a + 1) n
+    (λ (s : ℕ) (from : a + 1 ≤ s) (to : s < a + 1 + n).
+    is s (omega arith) (omega arith)
+    ∙ ap (λ b. cond b (x ∷ g s) (g s)) (other_is t s (λ (e : t ≡ s). omega arith))) in
     let whole : flat_map f (range_with_len a (suc n)) ≡ x ∷ flat_map g (range_with_len a (suc n)) =
-        ap (λ front. front ++ flat_map f (range_with_len (a + 1) n)) first
-        ∙ ap (λ rest. (x ∷ g a) ++ rest) others in
+    ap (λ front. front ++ flat_map f (range_with_len (a + 1) n)) first
+    ∙ ap (λ rest. (x ∷ g a) ++ rest) others in
     rw whole (IsPermutation-refl (x ∷ flat_map g (range_with_len a (suc n))))
 
 -- the list that has the element comes later
@@ -72,13 +72,13 @@ more_later : {X : Type 0} (f g : ℕ → List X) (x : X) (t a n : ℕ) → t ≢
     IsPermutation (flat_map f (range_with_len a (suc n))) (x ∷ flat_map g (range_with_len a (suc n)))
 more_later f g x t a n other is later =
     let first : f a ≡ g a =
-        is a (omega arith) (omega arith) ∙ ap (λ b. cond b (x ∷ g a) (g a)) (other_is t a other) in
+    is a (omega arith) (omega arith) ∙ ap (λ b. cond b (x ∷ g a) (g a)) (other_is t a other) in
     let whole : flat_map f (range_with_len a (suc n)) ≡ g a ++ flat_map f (range_with_len (a + 1) n) =
-        ap (λ front. front ++ flat_map f (range_with_len (a + 1) n)) first in
+    ap (λ front. front ++ flat_map f (range_with_len (a + 1) n)) first in
     rw whole
     (IsPermutation-trans _ _ _
-        (IsPermutation-append_right (g a) _ _ later)
-        (IsPermutation-middle (g a) x (flat_map g (range_with_len (a + 1) n))))
+    (IsPermutation-append_right (g a) _ _ later)
+    (IsPermutation-middle (g a) x (flat_map g (range_with_len (a + 1) n))))
 
 -- one element more in one of the lists is one element more
 one_more : {X : Type 0} (f g : ℕ → List X) (x : X) (t a n : ℕ) → a ≤ t → t < a + n →
@@ -87,27 +87,27 @@ one_more : {X : Type 0} (f g : ℕ → List X) (x : X) (t a n : ℕ) → a ≤ t
 one_more f g x t a zero low high is = absurd (omega arith)
 one_more f g x t a (suc n) low high is =
     elim (cases_eq t a) [
-      inl same ↦ more_here f g x t a n same is
-    | inr other ↦
-        more_later f g x t a n other is
-        (one_more f g x t (a + 1) n (omega arith) (omega arith)
-            (λ (s : ℕ) (from : a + 1 ≤ s) (to : s < a + 1 + n). is s (omega arith) (omega arith)))
+      | inl same ↦ more_here f g x t a n same is
+      | inr other ↦
+          more_later f g x t a n other is
+          (one_more f g x t (a + 1) n (omega arith) (omega arith)
+          (λ (s : ℕ) (from : a + 1 ≤ s) (to : s < a + 1 + n). is s (omega arith) (omega arith)))
     ]
 
 -- each call stands in one of the lists
 once : (n c : ℕ) (test : ℕ → ℕ × (ℕ × Call) → Bool) (place : ℕ) (calls : List (ℕ × Call)) →
     ((i : ℕ) (call : ℕ × Call) → i < c → PassesOnce n (λ s. test s (i, call))) → place + length calls ≤ c →
     IsPermutation (flat_map (λ s. filter (test s) (enumerate_from place calls)) (range_with_len 0 n))
-        (enumerate_from place calls)
+    (enumerate_from place calls)
 once n c test place [] own within = rw (flat_map_nothing {X = ℕ × (ℕ × Call)} 0 n) (IsPermutation-refl [])
 once n c test place (call ∷ calls) own within =
     let one : PassesOnce n (λ (s : ℕ). test s (place, call)) = own place call (omega arith) in
     let rest : List (ℕ × (ℕ × Call)) = enumerate_from (place + 1) calls in
     IsPermutation-trans _ _ _
     (one_more (λ (s : ℕ). filter (test s) ((place, call) ∷ rest)) (λ (s : ℕ). filter (test s) rest) (place, call)
-        one.seat 0 n (omega arith) (omega arith)
-        (λ (s : ℕ) (from : 0 ≤ s) (to : s < 0 + n).
-            ap (λ b. cond b ((place, call) ∷ filter (test s) rest) (filter (test s) rest)) (one.alone s (omega arith))))
+    one.seat 0 n (omega arith) (omega arith)
+    (λ (s : ℕ) (from : 0 ≤ s) (to : s < 0 + n).
+    ap (λ b. cond b ((place, call) ∷ filter (test s) rest) (filter (test s) rest)) (one.alone s (omega arith))))
     (IsPermutation-cons (place, call) _ _ (once n c test (place + 1) calls own (omega arith)))
 
 -- without their places the placed calls are the calls
@@ -129,13 +129,13 @@ deals_each_once share seats calls some =
     let test : ℕ → ℕ × (ℕ × Call) → Bool = λ s. makes share seats (length calls) s in
     let placed : List (ℕ × (ℕ × Call)) = enumerate_from 0 calls in
     let all : IsPermutation (flat_map (λ s. filter (test s) placed) (range_with_len 0 seats)) placed =
-        once seats (length calls) test 0 calls
-        (λ (i : ℕ) (call : ℕ × Call) (inside : i < length calls). one_makes share seats (length calls) i call some inside)
-        (omega arith) in
+    once seats (length calls) test 0 calls
+    (λ (i : ℕ) (call : ℕ × Call) (inside : i < length calls). one_makes share seats (length calls) i call some inside)
+    (omega arith) in
     rw (map_each (λ (p : ℕ × (ℕ × Call)). p.1) (λ s. filter (test s) placed) (range_with_len 0 seats))
     (let unplaced : IsPermutation
-            (map (λ (p : ℕ × (ℕ × Call)). p.1) (flat_map (λ s. filter (test s) placed) (range_with_len 0 seats)))
-            (map (λ (p : ℕ × (ℕ × Call)). p.1) placed) = IsPermutation-map (λ (p : ℕ × (ℕ × Call)). p.1) _ _ all in
+    (map (λ (p : ℕ × (ℕ × Call)). p.1) (flat_map (λ s. filter (test s) placed) (range_with_len 0 seats)))
+    (map (λ (p : ℕ × (ℕ × Call)). p.1) placed) = IsPermutation-map (λ (p : ℕ × (ℕ × Call)). p.1) _ _ all in
     rw (places_off 0 calls) at unplaced)
 
 -- all elements pass
@@ -151,7 +151,7 @@ makes_all : (share : Share) (c place : ℕ) (calls : List (ℕ × Call)) → pla
 makes_all share c place [] within = tt
 makes_all share c place (call ∷ calls) within =
     let one : PassesOnce 1 (λ (s : ℕ). makes share 1 c s (place, call)) =
-        one_makes share 1 c place call (omega arith) (omega arith) in
+    one_makes share 1 c place call (omega arith) (omega arith) in
     let below : one.seat < 1 = one.below in
     (one.alone 0 (omega arith) ∙ same_is one.seat 0 (omega (arith, below)), makes_all share c (place + 1) calls (omega arith))
 
@@ -159,7 +159,7 @@ pub one_seat_makes_all : OneSeatMakesAll
 unfolding dealt calls_of
 one_seat_makes_all share calls =
     let whole : filter (makes share 1 (length calls) 0) (enumerate_from 0 calls) ≡ enumerate_from 0 calls =
-        filter_all (makes share 1 (length calls) 0) (enumerate_from 0 calls)
-        (makes_all share (length calls) 0 calls (omega arith)) in
+    filter_all (makes share 1 (length calls) 0) (enumerate_from 0 calls)
+    (makes_all share (length calls) 0 calls (omega arith)) in
     ap (λ (placed : List (ℕ × (ℕ × Call))). map (λ p. p.1) placed ∷ []) whole
     ∙ ap (λ (list : List (ℕ × Call)). list ∷ []) (places_off 0 calls)

@@ -16,11 +16,11 @@ pub record IsPartOf (n c i part : ℕ) : Type 0 where
 size_some : (n c i : ℕ) → 0 < n → i < c → c % n * (c / n) + c % n ≤ i → 0 < c / n
 size_some n c i some inside behind =
     elim (cases_lt 0 (c / n)) [
-      inl size ↦ size
-    | inr none ↦ absurd (
-        let all : n * (c / n) + c % n ≡ c = div-add-mod c n in
-        let nothing : n * (c / n) ≤ n * 0 = mul-le-mul_left n none in
-        omega arith)
+      | inl size ↦ size
+      | inr none ↦ absurd (
+          let all : n * (c / n) + c % n ≡ c = div-add-mod c n in
+          let nothing : n * (c / n) ≤ n * 0 = mul-le-mul_left n none in
+          omega arith)
     ]
 
 -- and so it is in the part of a seat
@@ -35,8 +35,8 @@ back_seat n c i some inside behind =
     let whole : q * d + (i - (r * q + r)) % q ≡ i - (r * q + r) = div-add-mod (i - (r * q + r)) q in
     let rest : (i - (r * q + r)) % q < q = mod-lt (i - (r * q + r)) size in
     elim (cases_lt (r + d) n) [
-      inl below ↦ below
-    | inr past ↦ absurd (let sum : n * q ≤ (r + d) * q = mul-le-mul_right q past in omega arith)
+      | inl below ↦ below
+      | inr past ↦ absurd (let sum : n * q ≤ (r + d) * q = mul-le-mul_right q past in omega arith)
     ]
 
 -- a place within the longer parts is in one of them
@@ -67,10 +67,10 @@ back_part n c i some inside behind =
 pub part_some : (n c i : ℕ) → 0 < n → i < c → (part : ℕ) × (part < n) × IsPartOf n c i part
 part_some n c i some inside =
     elim (cases_lt i (c % n * (c / n) + c % n)) [
-      inl front ↦
+      | inl front ↦
           let part = front_part n c i some front in
           (i / (c / n + 1), part.0, part.1)
-    | inr behind ↦
+      | inr behind ↦
           (c % n + (i - (c % n * (c / n) + c % n)) / (c / n), back_seat n c i some inside behind, back_part n c i some inside behind)
     ]
 
@@ -118,9 +118,9 @@ pub part_alone : (n c i part seat : ℕ) → IsPartOf n c i part →
 unfolding is_part
 part_alone n c i part seat own =
     elim (cases_lt seat part) [
-      inl before ↦ before_is_not n c i part seat own before
-    | inr after ↦ elim (cases_lt part seat) [
-        inl later ↦ later_is_not n c i part seat own later
-      | inr same ↦ part_is n c i part seat own (omega arith)
+      | inl before ↦ before_is_not n c i part seat own before
+      | inr after ↦ elim (cases_lt part seat) [
+        | inl later ↦ later_is_not n c i part seat own later
+        | inr same ↦ part_is n c i part seat own (omega arith)
       ]
     ]

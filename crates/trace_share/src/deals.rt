@@ -23,7 +23,12 @@ pub enum Share {
 }
 
 /// The calls of each seat, seat 0 first, each seat's in their order.
-pub fn deal(alloc: Global, share: Share, seats: u32, calls: &[(u32, Call)]) -> Result<Vec<Vec<(u32, Call)>>, AllocError>
+pub fn deal(
+    alloc: Global,
+    share: Share,
+    seats: u32,
+    calls: &[(u32, Call)],
+) -> Result<Vec<Vec<(u32, Call)>>, AllocError>
     requires some { 1 ≤ seats }
     requires few { seats ≤ 8 }
     ensures { IfOk result (λ lists. map (λ list. list.items) lists.items ≡ dealt share seats calls.now) }

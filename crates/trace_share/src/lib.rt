@@ -8,3 +8,6 @@ mod outcome;
 pub use deals::{Share, deal, seat_for};
 pub use laws::deal_laws;
 pub use outcome::Outcome;
+
+#[cfg(test)]
+mod tests;

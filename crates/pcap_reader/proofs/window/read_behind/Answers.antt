@@ -1,4 +1,4 @@
-use Rattle.std.proofs.Common.{arith, take, length, ◌≡◌, ◌<◌, ◌≤◌, length-take-le}
+use Rattle.std.proofs.Common.{arith, take, length, ◌<◌, length-take-le}
 use Rattle.pcap_reader.proofs.WindowFacts.{at_end, take_written}
 use Rattle.pcap_reader.proofs.window.read_behind.Goals as goal
 

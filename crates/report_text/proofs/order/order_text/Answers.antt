@@ -27,6 +27,6 @@ loop-ids-preserved c = record {
 pub returns-clause-appended : goal.returns-clause-appended
 returns-clause-appended c =
     let none : order_lines (chunks_rest c.loop-ids.ids-iterator) ≡ [] =
-        order_lines_none (chunks_rest c.loop-ids.ids-iterator) c.in-None.ensures.steps.1.0 in
+    order_lines_none (chunks_rest c.loop-ids.ids-iterator) c.in-None.ensures.steps.1.0 in
     sym (ap (λ (text : List ℕ). c.loop-ids.out.items ++ text) none ∙ append-nil c.loop-ids.out.items)
     ∙ c.loop-ids.invariant.written

@@ -12,7 +12,7 @@ unfolding makes
 returns-in-Block-clause-own c = λ (seat : ℕ) (inside : seat < c.args.seats).
     rw c.in-Block.is
     (part_alone c.args.seats c.args.count c.args.place c.part_of.result seat
-        record { begun = c.part_of.ensures.begun; ends = c.part_of.ensures.ends })
+    record { begun = c.part_of.ensures.begun; ends = c.part_of.ensures.ends })
 
 pub returns-in-Flow-clause-own : goal.returns-in-Flow-clause-own
 unfolding makes

@@ -1,4 +1,4 @@
-use Rattle.std.proofs.Common.{◌≡◌, List, ℕ, refl, sym, ap, ◌∙◌, subst, Bool, false}
+use Rattle.std.proofs.Common.{◌≡◌, sym, ap, ◌∙◌, subst, false}
 use Rattle.pcap_reader.specs.Reading.{Reading, GivesRecord, to_come}
 use Rattle.pcap_reader.specs.Record.{IsShown, BeginsRecord}
 use Rattle.pcap_reader.proofs.ReaderFacts.{gives_record, overlong_seen}

@@ -1,4 +1,4 @@
-use Rattle.std.proofs.Common.{◌≡◌, List, ℕ, refl, sym, ap, ◌∙◌, subst}
+use Rattle.std.proofs.Common.{ap}
 use Rattle.std.proofs.lemmas.Result.{err_from_is_err_and}
 use Rattle.pcap_reader.specs.Window.{Held}
 use Rattle.pcap_reader.proofs.ReaderFacts.{fault_opened, head_opened, rest_opened}

@@ -1,4 +1,4 @@
-use Rattle.std.proofs.Common.{◌≡◌, ◌+◌, drop, [], List, ℕ, ap, ◌∙◌}
+use Rattle.std.proofs.Common.{◌+◌, drop, ap, ◌∙◌}
 use Rattle.std.proofs.lemmas.List.Edits.{between_none}
 use Rattle.pcap_reader.specs.Window.{Held}
 use Rattle.pcap_reader.proofs.WindowFacts.{range_rest, make_held}

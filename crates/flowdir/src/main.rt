@@ -1,0 +1,38 @@
+//! `flowdir MODE [options]`: reads a packet capture on standard input, and reports on standard output.
+#![tactic(auto)]
+
+use edge_traits::{OpenGate, StdSink, StdSource};
+use std::env;
+use std::io;
+use std::process::ExitCode;
+use trace_runner::{Status, run};
+
+fn main(rt: HostRuntime) -> ExitCode {
+    let status = match words_of(&rt) {
+        Ok(words) => {
+            let mut source = StdSource::new(rt.stdin());
+            let mut sink = StdSink::new(rt.stdout());
+            run(&rt, rt.alloc(), &words, &mut source, &mut sink, &OpenGate)
+        }
+        Err(status) => status,
+    };
+    if let Some(complaint) = status.complaint() {
+        let _ = eprintln!(rt; "{complaint}");
+    }
+    ExitCode::from(status.code())
+}
+
+/// The words after the program's name.
+///
+/// A word that is not UTF-8 is none of the command's, so it is `Status::Usage`.
+fn words_of(rt: &HostRuntime) -> Result<Vec<String>, Status> {
+    let all = match env::args(rt) {
+        Ok(all) => all,
+        Err(error) if error.kind() == io::ErrorKind::OutOfMemory => return Err(Status::Memory),
+        Err(_) => return Err(Status::Usage),
+    };
+    match all.skip(1).collect(rt.alloc()) {
+        Ok(words) => Ok(words),
+        Err(_) => Err(Status::Memory),
+    }
+}

@@ -1,0 +1,389 @@
+//! Whole texts, worked by hand from the table of lines.
+
+ghost use Rattle.std.specs.Prelude.{◌≡◌, ◌≤◌};
+ghost use Rattle.flow_keys.specs.FlowText.{HasText};
+ghost use Rattle.trace_share.specs.Deal.{key_in};
+ghost use Rattle.report_text.specs.Report.{IsEnding};
+
+use crate::{Ending, Head, Tail, head_text, order_text, outcome_text, session_text, tail_text};
+use hash_bits::Hashing;
+use pcap_reader::CaptureFault;
+use plain_map::{Call, CallId, Full, FullKind, Key, Pair, Record, Reply, Seen};
+use std::alloc::{AllocError, Global};
+use std::test::Fail;
+use trace_share::{Outcome, Share};
+
+// 192.168.1.1 port 53 and 192.168.1.10 port 53211, over UDP.
+const QUERIES: Key = Key {
+    k0: 0xc0a8_0101_c0a8_010a,
+    k1: 0x35_cfdb_11,
+};
+
+// 93.184.216.34 port 443 and 192.168.1.10 port 50412, over TCP.
+const PAGES: Key = Key {
+    k0: 0x5db8_d822_c0a8_010a,
+    k1: 0x1bb_c4ec_06,
+};
+
+/// The flow between 10.0.0.1 at a port and 10.0.0.2 at port 80, over TCP.
+fn key(port: u16) -> Key
+    ensures { HasText result }
+{
+    Key {
+        k0: 0x0a00_0001_0a00_0002,
+        k1: u64::from(port) * 0x100_0000 + 0x50_06,
+    }
+}
+
+fn seen(first: u32, second: u32) -> Seen {
+    Seen {
+        counts: [first, second, 0, 0, 0, 0, 0, 0],
+    }
+}
+
+/// Appends the line of an answered call.
+fn answered(
+    out: &mut Vec<u8>,
+    seats: u32,
+    name: (u32, u32),
+    call: Call,
+    reply: Reply,
+    steps: u64,
+    seen: Seen,
+) -> Result<(), AllocError>
+    requires seats { seats ≤ 8 }
+    requires key { HasText (key_in call) }
+{
+    let alloc = *out.allocator();
+    let record = Record {
+        seat: name.1,
+        number: 1,
+        packet: name.0,
+        call,
+        reply,
+        steps,
+        seen,
+        place: 0,
+    };
+    outcome_text(alloc, out, seats, name.1, &Outcome::Answered(record))
+}
+
+/// Appends the line of a refused insert of packet 2.
+fn refused(out: &mut Vec<u8>, what: FullKind, left: u64, need: u64) -> Result<(), AllocError> {
+    let alloc = *out.allocator();
+    let outcome = Outcome::Refused {
+        packet: 2,
+        call: Call::Insert(key(2), 2),
+        full: Full { what, left, need },
+    };
+    outcome_text(alloc, out, 1, 0, &outcome)
+}
+
+// The lines of calls by their replies and causes; the numbers are those of a browsing session that was
+// worked by hand, of a full bucket, of two callers that met, and of tables with too few rows.
+#[test]
+fn calls_are_told(rt: HostRuntime) -> Result<(), Fail> {
+    let mut out = Vec::new(rt.alloc());
+    answered(
+        &mut out,
+        1,
+        (2, 0),
+        Call::Insert(QUERIES, 2),
+        Reply::Old(1),
+        81,
+        seen(1, 0),
+    )?;
+    answered(
+        &mut out,
+        1,
+        (3, 0),
+        Call::Insert(PAGES, 3),
+        Reply::New,
+        81,
+        seen(2, 0),
+    )?;
+    answered(
+        &mut out,
+        1,
+        (4, 0),
+        Call::Lookup(PAGES),
+        Reply::Found(3),
+        13,
+        seen(3, 0),
+    )?;
+    answered(
+        &mut out,
+        1,
+        (7, 0),
+        Call::Remove(PAGES),
+        Reply::Gone(3),
+        81,
+        seen(6, 0),
+    )?;
+    answered(
+        &mut out,
+        1,
+        (8, 0),
+        Call::Remove(PAGES),
+        Reply::Absent,
+        81,
+        seen(7, 0),
+    )?;
+    answered(
+        &mut out,
+        1,
+        (3, 0),
+        Call::Insert(key(3), 3),
+        Reply::NoRoom,
+        117,
+        seen(2, 0),
+    )?;
+    answered(
+        &mut out,
+        2,
+        (2, 1),
+        Call::Insert(key(2), 2),
+        Reply::New,
+        56,
+        seen(1, 0),
+    )?;
+    refused(&mut out, FullKind::OpRows, 0, 1)?;
+    refused(&mut out, FullKind::BucketRows, 3, 4)?;
+    refused(&mut out, FullKind::BucketWords, 1, 2)?;
+    refused(&mut out, FullKind::DirRows, 0, 1)?;
+    let text: &[u8] = b"\
+        call 2 seat 0 insert 192.168.1.1:53-192.168.1.10:53211/udp old 1 steps 81 after 1\n\
+        call 3 seat 0 insert 93.184.216.34:443-192.168.1.10:50412/tcp new 3 steps 81 after 2\n\
+        call 4 seat 0 lookup 93.184.216.34:443-192.168.1.10:50412/tcp found 3 steps 13 after 3\n\
+        call 7 seat 0 remove 93.184.216.34:443-192.168.1.10:50412/tcp gone 3 steps 81 after 6\n\
+        call 8 seat 0 remove 93.184.216.34:443-192.168.1.10:50412/tcp absent steps 81 after 7\n\
+        call 3 seat 0 insert 10.0.0.1:3-10.0.0.2:80/tcp noroom steps 117 after 2\n\
+        call 2 seat 1 insert 10.0.0.1:2-10.0.0.2:80/tcp new 2 steps 56 after 1,0\n\
+        call 2 seat 0 insert 10.0.0.1:2-10.0.0.2:80/tcp full oprows 0 1\n\
+        call 2 seat 0 insert 10.0.0.1:2-10.0.0.2:80/tcp full bucketrows 3 4\n\
+        call 2 seat 0 insert 10.0.0.1:2-10.0.0.2:80/tcp full bucketwords 1 2\n\
+        call 2 seat 0 insert 10.0.0.1:2-10.0.0.2:80/tcp full dirrows 0 1\n";
+    assert_eq!(rt; out.as_slice(), text);
+    Ok(())
+}
+
+/// The report of a run of one seat that inserted one flow.
+fn one_insert(alloc: Global, head: &Head, steps: u64, tail: &Tail) -> Result<Vec<u8>, AllocError>
+    requires { IsEnding tail.now.ending }
+{
+    let mut out = Vec::new(alloc);
+    head_text(alloc, &mut out, head)?;
+    answered(
+        &mut out,
+        1,
+        (1, 0),
+        Call::Insert(key(1), 1),
+        Reply::New,
+        steps,
+        seen(0, 0),
+    )?;
+    let first = CallId {
+        seat: 0,
+        number: 1,
+        packet: 1,
+    };
+    order_text(alloc, &mut out, &[first])?;
+    let pair = Pair {
+        key: key(1),
+        value: 1,
+    };
+    session_text(alloc, &mut out, &pair)?;
+    tail_text(alloc, &mut out, tail)?;
+    Ok(out)
+}
+
+// The words of the other mode, hash and shares.
+#[test]
+fn settings_are_told(rt: HostRuntime) -> Result<(), Fail> {
+    let alloc = rt.alloc();
+    let mut out = Vec::new(alloc);
+    let head = Head {
+        play: true,
+        seats: 2,
+        items: 2,
+        depth: 12,
+        start: 1,
+        hashing: Hashing::Mix(u64::MAX),
+        share: Share::Block,
+    };
+    head_text(alloc, &mut out, &head)?;
+    let flow = Head {
+        share: Share::Flow,
+        ..head
+    };
+    head_text(alloc, &mut out, &flow)?;
+    let text: &[u8] = b"\
+        flowdir play seats 2 items 2 depth 12 start 1 hash mix seed 18446744073709551615 share block\n\
+        flowdir play seats 2 items 2 depth 12 start 1 hash mix seed 18446744073709551615 share flow\n";
+    assert_eq!(rt; out.as_slice(), text);
+    Ok(())
+}
+
+/// The last lines of a run without a table, which served nothing.
+fn tail_of(ending: Ending) -> Tail
+    ensures { result.ending ≡ ending }
+{
+    Tail {
+        leaves: 0,
+        depth: 0,
+        ending,
+        packets: 0,
+        calls: 0,
+        passed: 0,
+        full: 0,
+        pending: 0,
+        unbegun: 0,
+        update: 0,
+        bound: 0,
+        lookup: 0,
+    }
+}
+
+// The whole report of one insert, once on a table and once on a plain map, where no step is told.
+// It is the only place where the order of the lines stands as text.
+#[test]
+fn one_insert_is_reported(rt: HostRuntime) -> Result<(), Fail> {
+    let head = Head {
+        play: false,
+        seats: 1,
+        items: 2,
+        depth: 1,
+        start: 1,
+        hashing: Hashing::Ports(0),
+        share: Share::Round,
+    };
+    let tail = Tail {
+        leaves: 2,
+        depth: 1,
+        packets: 1,
+        calls: 1,
+        update: 45,
+        bound: 423,
+        ..tail_of(Ending::Done { rest: 0 })
+    };
+    let on_table = one_insert(rt.alloc(), &head, 45, &tail)?;
+    let text: &[u8] = b"\
+        flowdir serve seats 1 items 2 depth 1 start 1 hash ports seed 0 share round\n\
+        call 1 seat 0 insert 10.0.0.1:1-10.0.0.2:80/tcp new 1 steps 45 after 0\n\
+        order 1\n\
+        session 10.0.0.1:1-10.0.0.2:80/tcp 1\n\
+        leaves 2 depth 1\n\
+        input done rest 0\n\
+        count packets 1 calls 1 passed 0 full 0 pending 0 unbegun 0\n\
+        steps update 45 bound 423 lookup 0\n";
+    assert_eq!(rt; on_table.as_slice(), text);
+    let head = Head {
+        items: 8,
+        depth: 0,
+        start: 0,
+        hashing: Hashing::Mix(0),
+        ..head
+    };
+    let tail = Tail {
+        packets: 1,
+        calls: 1,
+        ..tail_of(Ending::Done { rest: 0 })
+    };
+    let on_plain_map = one_insert(rt.alloc(), &head, 0, &tail)?;
+    let text: &[u8] = b"\
+        flowdir serve seats 1 items 8 depth 0 start 0 hash mix seed 0 share round\n\
+        call 1 seat 0 insert 10.0.0.1:1-10.0.0.2:80/tcp new 1 after 0\n\
+        order 1\n\
+        session 10.0.0.1:1-10.0.0.2:80/tcp 1\n\
+        input done rest 0\n\
+        count packets 1 calls 1 passed 0 full 0 pending 0 unbegun 0\n";
+    assert_eq!(rt; on_plain_map.as_slice(), text);
+    Ok(())
+}
+
+/// Appends the last lines of an input that ended so.
+fn ended(out: &mut Vec<u8>, ending: Ending) -> Result<(), AllocError>
+    requires { IsEnding ending }
+{
+    let alloc = *out.allocator();
+    tail_text(alloc, out, &tail_of(ending))
+}
+
+// Each way in which an input ends; the numbers are those of captures that were worked by hand.
+#[test]
+fn endings_are_told(rt: HostRuntime) -> Result<(), Fail> {
+    let mut out = Vec::new(rt.alloc());
+    ended(&mut out, Ending::Done { rest: 69 })?;
+    ended(&mut out, Ending::ReadFault)?;
+    ended(&mut out, Ending::Limit { limit: 20_000 })?;
+    ended(
+        &mut out,
+        Ending::Fault(CaptureFault::ShortHeader { have: 23 }),
+    )?;
+    ended(
+        &mut out,
+        Ending::Fault(CaptureFault::Magic {
+            bytes: [0x00, 0xc3, 0xb2, 0xa1],
+        }),
+    )?;
+    ended(
+        &mut out,
+        Ending::Fault(CaptureFault::Version { major: 2, minor: 5 }),
+    )?;
+    ended(
+        &mut out,
+        Ending::Fault(CaptureFault::LinkType { found: 101 }),
+    )?;
+    ended(
+        &mut out,
+        Ending::Fault(CaptureFault::RecordLength {
+            offset: 164,
+            found: 262_145,
+        }),
+    )?;
+    let text: &[u8] = b"\
+        input done rest 69\n\
+        count packets 0 calls 0 passed 0 full 0 pending 0 unbegun 0\n\
+        input read-fault\n\
+        count packets 0 calls 0 passed 0 full 0 pending 0 unbegun 0\n\
+        input limit 20000\n\
+        count packets 0 calls 0 passed 0 full 0 pending 0 unbegun 0\n\
+        input fault short-header at 0 found 23\n\
+        count packets 0 calls 0 passed 0 full 0 pending 0 unbegun 0\n\
+        input fault magic at 0 found 00c3b2a1\n\
+        count packets 0 calls 0 passed 0 full 0 pending 0 unbegun 0\n\
+        input fault version at 4 found 2.5\n\
+        count packets 0 calls 0 passed 0 full 0 pending 0 unbegun 0\n\
+        input fault link at 20 found 101\n\
+        count packets 0 calls 0 passed 0 full 0 pending 0 unbegun 0\n\
+        input fault length at 164 found 262145\n\
+        count packets 0 calls 0 passed 0 full 0 pending 0 unbegun 0\n";
+    assert_eq!(rt; out.as_slice(), text);
+    Ok(())
+}
+
+// Orders of no call, of two calls in another order than their packets', of one full line and of one more.
+#[test]
+fn orders_are_told(rt: HostRuntime) -> Result<(), Fail> {
+    let alloc = rt.alloc();
+    let mut order = [CallId {
+        seat: 0,
+        number: 0,
+        packet: 0,
+    }; 17];
+    for (packet, id) in (1..).zip(&mut order) {
+        id.packet = packet;
+    }
+    let mut out = Vec::new(alloc);
+    order_text(alloc, &mut out, &[])?;
+    order_text(alloc, &mut out, &[order[1], order[0]])?;
+    order_text(alloc, &mut out, &order[..16])?;
+    order_text(alloc, &mut out, &order)?;
+    let text: &[u8] = b"\
+        order 2 1\n\
+        order 1 2 3 4 5 6 7 8 9 10 11 12 13 14 15 16\n\
+        order 1 2 3 4 5 6 7 8 9 10 11 12 13 14 15 16\n\
+        order 17\n";
+    assert_eq!(rt; out.as_slice(), text);
+    Ok(())
+}

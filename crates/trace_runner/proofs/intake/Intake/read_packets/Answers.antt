@@ -1,0 +1,51 @@
+-- The loop's facts say what was read so far; the lemmas say what one packet more, or an ending, makes of it.
+use Rattle.std.proofs.Common.{◌≡◌, ◌≤◌, ◌+◌, List, length, ◌∙◌, ap, sym, arith}
+use Rattle.std.proofs.lemmas.List.{length-map}
+use Rattle.trace_runner.specs.Input.{packets_of}
+use Rattle.trace_runner.proofs.ServingLemmas.{Serves-ended, Serves-limit}
+use Rattle.trace_runner.proofs.IntakeLemmas.{HasRead-more}
+use Rattle.trace_runner.proofs.intake.Intake.read_packets.Goals as goal
+
+pub returns-in-Some-clause-served : goal.returns-in-Some-clause-served
+returns-in-Some-clause-served g c = λ bytes start.
+    let read = c.loop-packets.invariant.read bytes start in (
+      packets_of read.0,
+      Serves-ended bytes c.loop-packets.reader c.read_on.new.reader _ _ read.0 c.in-Some.ending read.1 (omega (arith, read.3)) c.in-Some.ensures.ended,
+      read.2,
+      length-map read.0 _ ∙ read.3,
+    )
+
+pub loop-packets-preserved : goal.loop-packets-preserved
+loop-packets-preserved g c =
+    let before = c.loop-packets.invariant in
+    let given = c.in_default.ensures.packet in
+    record {
+      going = given.goes_on;
+      given = given.given ∙ ap (λ n. n + 1) before.given;
+      few = omega (arith, c.in_ok-keep_call.ensures.few, before.few);
+      texts = c.in_ok-keep_call.ensures.texts before.texts;
+      counted = omega (arith, before.counted, c.read_on.ensures.counted);
+      read = λ bytes start.
+          let read = before.read bytes start in
+          HasRead-more bytes _ _ _ _ read.0 _ _ (c.loop-packets.packets + 1) read.1 read.2 given c.read_on.ensures.order (ap (λ n. n + 1) (sym read.3)) c.in_ok-keep_call.ensures.kept;
+    }
+
+pub returns-in-Some-read_on-clause-served : goal.returns-in-Some-read_on-clause-served
+returns-in-Some-read_on-clause-served g c = λ bytes start.
+    let read = c.loop-packets.invariant.read bytes start in
+    let all : length read.0 ≡ 20000 = omega (arith, read.3) in (
+      packets_of read.0,
+      Serves-ended bytes c.loop-packets.reader c.read_on-2.new.reader _ _ read.0 c.in-Some-read_on.ending read.1 (omega (arith, all)) c.in-Some-read_on.ensures.ended,
+      read.2,
+      length-map read.0 _ ∙ all,
+    )
+
+pub returns-in-None-clause-served : goal.returns-in-None-clause-served
+returns-in-None-clause-served g c = λ bytes start.
+    let read = c.loop-packets.invariant.read bytes start in
+    let all : length read.0 ≡ 20000 = omega (arith, read.3) in (
+      packets_of read.0,
+      Serves-limit bytes _ _ _ _ read.0 c.from.result read.1 c.in-None.ensures.packet c.read_on-2.ensures.order all c.from.ensures,
+      read.2,
+      length-map read.0 _ ∙ all,
+    )

@@ -1,0 +1,10 @@
+pub mod Command
+pub mod Words
+pub mod CommandLines
+pub mod PacketCalls
+pub mod Input
+pub mod Endings
+pub mod Reading
+pub mod Answering
+pub mod Headline
+pub mod Printing

@@ -1,0 +1,64 @@
+//! One step of reading the input: the next packet and its call, or how the input ended.
+
+ghost use Rattle.std.specs.Prelude.{◌≡◌, ◌≤◌, ◌<◌, ◌-◌, ◌+◌, ◌^◌, [], ◌∷◌, false, Some, IfSome, IfNone, OnOk, vec_len};
+ghost use Rattle.edge_traits.specs.Edge.{Rose};
+ghost use Rattle.pcap_reader.specs.Reading.{GivesRecord, to_come};
+ghost use Rattle.report_text.specs.Report.{IsEnding};
+ghost use Rattle.trace_runner.specs.PacketCalls.{MakesCall};
+ghost use Rattle.trace_runner.specs.Reading.{MeetsEnding, HasTexts, TakesCall};
+
+use edge_traits::Source;
+use flow_keys::call_of;
+use packet_heads::heads;
+use pcap_reader::{CaptureFault, Item, Reader};
+use plain_map::Call;
+use report_text::Ending;
+use std::alloc::AllocError;
+
+/// Reads on to the next packet, or answers how the input ended.
+pub(crate) fn read_on<S: Source>(reader: &mut Reader, source: &mut S) -> Option<Ending>
+    requires going { reader.old.ended ≡ false }
+    requires few { reader.old.given < 2 ^ 32 - 1 }
+    ensures packet { IfNone result
+        (GivesRecord reader.old reader.new (to_come reader.old (S.left source.old)) (to_come reader.new (S.left source.new))) }
+    ensures ended { IfSome result (MeetsEnding reader.old reader.new (S.left source.old) (S.left source.new)) }
+    ensures ending { IfSome result IsEnding }
+    ensures read_fault { result ≡ Some Ending.ReadFault → Rose (S.faults source.old) (S.faults source.new) }
+    ensures counted { S.faults source.old ≤ S.faults source.new }
+    ensures order { reader.new.order ≡ reader.old.order }
+{
+    match reader.next(source) {
+        Ok(Item::Packet) => None,
+        Ok(Item::End) => Some(Ending::Done { rest: 0 }),
+        Ok(Item::Rest(rest)) => Some(Ending::Done { rest }),
+        Err(CaptureFault::ReadFault) => Some(Ending::ReadFault),
+        Err(fault) => Some(Ending::Fault(fault)),
+    }
+}
+
+/// The call of the packet with this number, or `None` where it makes none.
+fn call_in(packet: &[u8], number: u32) -> Option<Call>
+    ensures made { MakesCall number packet.now result }
+    ensures text { IfSome result (λ call. HasTexts ((number, call) ∷ [])) }
+{
+    match heads(packet) {
+        Some(heads) => Some(call_of(&heads, number)),
+        None => None,
+    }
+}
+
+/// Keeps the call of the packet that was read last and has this number, where it makes one.
+pub(crate) fn keep_call(
+    reader: &Reader,
+    number: u32,
+    calls: &mut Vec<(u32, Call)>,
+) -> Result<(), AllocError>
+    ensures kept { OnOk result (TakesCall number reader.now.packet calls.old.items calls.new.items) }
+    ensures texts { OnOk result (HasTexts calls.old.items → HasTexts calls.new.items) }
+    ensures few { OnOk result (vec_len calls.new ≤ vec_len calls.old + 1) }
+{
+    if let Some(call) = call_in(reader.packet(), number) {
+        calls.push((number, call))?;
+    }
+    Ok(())
+}
