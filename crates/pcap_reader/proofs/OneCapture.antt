@@ -10,6 +10,7 @@ use Rattle.pcap_reader.specs.declared.fault.CaptureFault.TheVariants.{ReadFault,
 use Rattle.pcap_reader.specs.declared.head.TheConstants.{FILE_HEAD}
 use Rattle.pcap_reader.specs.Capture.{IsWrittenIn, HasFileHead, IsVersion, link_type, version_major, version_minor, ShowsFault, RefusesVersion, RefusesLink, Saved, bytes_of, captured_length, IsSaved, IsCut, IsOverlong, IsRemainder, HoldsRecords, Capture}
 use Rattle.pcap_reader.specs.Record.{BeginsRecord}
+use Rattle.pcap_reader.specs.Laws.{BeginsWith}
 use Rattle.pcap_reader.proofs.CaptureFacts.{captured_length_front}
 
 -- ---- the file head
@@ -248,3 +249,33 @@ same_capture bytes records others ending other (inr p) (inl q) = absurd (no_faul
 same_capture bytes records others ending other (inr p) (inr q) =
     let order = same_order p.0 q.0 bytes p.1.head.begins.magic q.1.head.begins.magic in
     both_hold q.0 bytes records others ending other (subst (λ (o : Order). HoldsRecords o bytes records ending) order p.1) q.1
+
+-- ---- the records that the bytes begin with
+
+front_records : (order : Order) (rs ss : List Saved) (rest other : List ℕ) → AllByRecursion (IsSaved order) rs
+    → AllByRecursion (IsSaved order) ss → BeginsNone order other
+    → flat_map bytes_of rs ++ rest ≡ flat_map bytes_of ss ++ other → (others : List Saved) × (ss ≡ rs ++ others)
+front_records order [] ss rest other p q never same = (ss, refl)
+front_records order (r ∷ rs) [] rest other p q never same =
+    let more = flat_map bytes_of rs ++ rest in
+    let begins = saved_begins order r more p.0 in
+    let split : bytes_of r ++ more ≡ other = sym (append_assoc (bytes_of r) (flat_map bytes_of rs) rest) ∙ same in
+    absurd (never (length r.packet) (subst (λ (l : List ℕ). BeginsRecord order l (length r.packet)) split begins))
+front_records order (r ∷ rs) (s ∷ ss) rest other p q never same =
+    let more = flat_map bytes_of rs ++ rest in
+    let others = flat_map bytes_of ss ++ other in
+    let split : bytes_of r ++ more ≡ bytes_of s ++ others =
+    sym (append_assoc (bytes_of r) (flat_map bytes_of rs) rest) ∙ same
+    ∙ append_assoc (bytes_of s) (flat_map bytes_of ss) other in
+    let first = same_first order r s more others p.0 q.0 split in
+    let later = front_records order rs ss rest other p.1 q.1 never first.1 in
+    (later.0, ap (λ (x : Saved). x ∷ ss) (sym first.0) ∙ ap (λ (l : List Saved). r ∷ l) later.1)
+
+pub front_of_capture : (bytes : List ℕ) (front records : List Saved) (more : List ℕ) (ending : Result ℕ CaptureFault)
+    → BeginsWith bytes front more → Capture bytes records ending → (others : List Saved) × (records ≡ front ++ others)
+front_of_capture bytes front records more ending begins (inl p) = absurd (no_fault begins.order bytes p.fault begins.head p.shown)
+front_of_capture bytes front records more ending begins (inr q) =
+    let same = same_order q.0 begins.order bytes q.1.head.begins.magic begins.head.begins.magic in
+    let holds : HoldsRecords begins.order bytes records ending = subst (λ (o : Order). HoldsRecords o bytes records ending) same q.1 in
+    front_records begins.order front records more holds.rest (recursion_from_All _ front begins.each) (recursion_from_All _ records holds.each)
+        (remainder_begins_none begins.order _ holds.rest ending holds.ends) (sym begins.whole ∙ holds.whole)

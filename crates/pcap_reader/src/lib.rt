@@ -11,7 +11,7 @@ mod window;
 
 pub use fault::CaptureFault;
 pub use head::{ETHERNET, FILE_HEAD, MICROSECONDS, NANOSECONDS, VERSION_MAJOR, VERSION_MINOR};
-pub use laws::{every_capture, one_capture};
+pub use laws::{capture_front, every_capture, one_capture};
 pub use order::Order;
 pub use reader::{Item, Reader};
 pub use record::{MAXIMUM_CAPTURED, RECORD_HEAD, WHOLE_RECORD};

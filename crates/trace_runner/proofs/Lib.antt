@@ -12,3 +12,4 @@ pub mod ServingLemmas
 pub mod IntakeLemmas
 pub mod PrintLemmas
 pub mod ServeLemmas
+pub mod ExactLemmas

@@ -1,5 +1,5 @@
 -- Which packets are served of an input, where its reading ends.
-use Rattle.std.proofs.Common.{◌≡◌, ◌≤◌, ◌<◌, ℕ, suc, ◌+◌, List, [], ◌∷◌, ◌++◌, length, map, take, drop, Option, Some, None, Result, Ok, Err, sym, ◌∙◌, ap, subst, refl, length-append, length-take-le, arith, inl, inr, IsSome, IfSome}
+use Rattle.std.proofs.Common.{◌≡◌, ◌≤◌, ◌<◌, ℕ, suc, ◌+◌, List, [], ◌∷◌, ◌++◌, length, map, take, drop, Option, Some, None, Result, Ok, Err, sym, ◌∙◌, ap, subst, refl, append_assoc, length-append, length-take-le, arith, inl, inr, IsSome, IfSome}
 use Rattle.std.specs.List.{flat_map, All}
 use Rattle.std.specs.Io.KnownBytes.{Keeps, Consumes}
 use Rattle.std.proofs.lemmas.List.{map-append, length-map, take-append-le}
@@ -9,11 +9,12 @@ use Rattle.pcap_reader.specs.declared.fault.CaptureFault.{CaptureFault}
 use Rattle.pcap_reader.specs.declared.fault.CaptureFault.TheVariants.{ShortHeader}
 use Rattle.pcap_reader.specs.declared.head.TheConstants.{FILE_HEAD}
 use Rattle.pcap_reader.specs.Capture.{Saved, bytes_of, Capture, HasFileHead, IsSaved, IsCut, IsRemainder, ShowsFault}
+use Rattle.pcap_reader.specs.Laws.{BeginsWith, HasCapture, HoldsFront}
 use Rattle.pcap_reader.specs.Reading.{Reading, GivesRecord, to_come}
 use Rattle.report_text.specs.declared.parts.Ending.{Ending}
 use Rattle.report_text.specs.declared.parts.Ending.TheVariants.{Done, ReadFault, Limit, Fault}
 use Rattle.trace_runner.specs.declared.intake.TheConstants.{PACKET_LIMIT}
-use Rattle.trace_runner.specs.Input.{BeginsWith, HoldsPackets, HoldsMore, HoldsTaken, Serves, packets_of}
+use Rattle.trace_runner.specs.Input.{HoldsPackets, HoldsMore, HoldsTaken, Serves, packets_of}
 use Rattle.trace_runner.specs.Reading.{HasRead, MeetsEnding}
 use Rattle.trace_runner.proofs.InputLemmas.{HasRead-next, HasRead-ends}
 use Rattle.trace_runner.proofs.TakenLemmas.{HasFileHead-front, taken_of, drop-taken_of, taken_of-whole}
@@ -69,22 +70,21 @@ Serves-ended bytes old new before after records (Limit limit) read few meets = a
 -- where one more record is whole than are served, those before it are
 pub Serves-limit :
     (bytes : List ℕ) (old new : Reading) (before after : Option (List ℕ)) (records : List Saved) (limit : ℕ) →
+    HasCapture bytes → HoldsFront bytes →
     HasRead bytes old before records → GivesRecord old new (to_come old before) (to_come new after) → new.order ≡ old.order →
     length records ≡ PACKET_LIMIT → limit ≡ PACKET_LIMIT → Serves bytes after (packets_of records) (Limit limit)
-Serves-limit bytes old new before after records limit read given same many is =
+Serves-limit bytes old new before after records limit capture front read given same many is =
     let further : HasRead bytes new after (records ++ given.saved ∷ []) = HasRead-next bytes old new before after records read given same in
-    let one_more : length (records ++ given.saved ∷ []) ≡ PACKET_LIMIT + 1 = omega (arith, length-append records (given.saved ∷ []), many) in
-    let front : take PACKET_LIMIT (records ++ given.saved ∷ []) ≡ records =
-    ap (λ (n : ℕ). take n (records ++ given.saved ∷ [])) (sym many) ∙ take-append_seam records (given.saved ∷ []) in (
-      (
-        records ++ given.saved ∷ [],
-        further.more,
-        record { order = new.order; head = further.head; each = further.each; whole = further.whole },
-        one_more,
-        ap packets_of (sym front),
-      ),
-      is,
-    )
+    let begins : BeginsWith bytes (records ++ given.saved ∷ []) further.more =
+        record { order = new.order; head = further.head; each = further.each; whole = further.whole } in
+    let more : (others : List Saved) × (capture.0 ≡ (records ++ given.saved ∷ []) ++ others) =
+        front (records ++ given.saved ∷ []) capture.0 further.more capture.1 begins capture.2 in
+    let all : capture.0 ≡ records ++ (given.saved ∷ more.0) = more.1 ∙ append_assoc records (given.saved ∷ []) more.0 in
+    let longer : PACKET_LIMIT < length capture.0 =
+        omega (arith, ap length all, length-append records (given.saved ∷ more.0), many) in
+    let served : take PACKET_LIMIT capture.0 ≡ records =
+        ap (λ (n : ℕ). take n capture.0) (sym many) ∙ ap (take (length records)) all ∙ take-append_seam records (given.saved ∷ more.0) in
+    ((capture.0, capture.1, capture.2, longer, ap packets_of (sym served)), is)
 
 -- an input whose file head shows a fault serves no packet
 pub Serves-refused :

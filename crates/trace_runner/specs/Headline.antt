@@ -1,5 +1,5 @@
 -- What a run prints, and so what its user may rely on.
-use Rattle.std.specs.Prelude.{◌≡◌, ℕ, ◌-◌, List, [], ◌∷◌, ◌++◌, length, map, false, Option, Some}
+use Rattle.std.specs.Prelude.{◌≡◌, ℕ, ◌-◌, List, [], ◌∷◌, ◌++◌, length, map, false, nat_lt, if◌then◌else◌, is_ok, Option, Some, Result}
 use Rattle.std.specs.FinMap.{empty}
 use Rattle.std.specs.Io.KnownBytes.{Appends, Keeps}
 use Rattle.plain_map.specs.declared.calls.Call.{Call}
@@ -10,12 +10,14 @@ use Rattle.plain_map.specs.PlainObject.{Sessions, pairs_of}
 use Rattle.trace_share.specs.declared.outcome.Outcome.{Outcome}
 use Rattle.trace_share.specs.declared.outcome.Outcome.TheVariants.{Answered}
 use Rattle.pcap_reader.specs.declared.fault.CaptureFault.{CaptureFault}
+use Rattle.pcap_reader.specs.Capture.{Saved}
 use Rattle.report_text.specs.declared.parts.Head.{Head}
 use Rattle.report_text.specs.declared.parts.Tail.{Tail}
 use Rattle.report_text.specs.declared.parts.Ending.{Ending}
 use Rattle.report_text.specs.declared.parts.Ending.TheVariants.{Done, ReadFault, Limit, Fault}
 use Rattle.report_text.specs.Report.{Batch, Report, report_of}
 use Rattle.trace_runner.specs.declared.plan.Plan.{Plan}
+use Rattle.trace_runner.specs.declared.intake.TheConstants.{PACKET_LIMIT}
 use Rattle.trace_runner.specs.declared.status.Status.{Status}
 use Rattle.trace_runner.specs.declared.status.Status.TheVariants as status
 use Rattle.trace_runner.specs.PacketCalls.{MakeCalls}
@@ -115,3 +117,8 @@ Leaves plan bytes left before after status.ReadFault = PutsReport plan bytes lef
 Leaves plan bytes left before after status.WriteFault = PutsFront plan bytes left before after
 Leaves plan bytes left before after status.Memory = Keeps before after
 Leaves plan bytes left before after status.Usage = ⊥
+
+-- the status that a capture of these records with this ending is answered with, where nothing fails
+abbrev pub status_for : List Saved → Result ℕ CaptureFault → Status
+status_for records ending = if nat_lt PACKET_LIMIT (length records) then status.Limit
+    else (if is_ok ending then status.Done else status.BadCapture)

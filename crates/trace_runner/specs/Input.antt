@@ -1,10 +1,8 @@
 -- What a run serves of its input.
 -- Source: pcap-savefile(5), by the definition of a capture.
-use Rattle.std.specs.Prelude.{◌≡◌, ℕ, ◌+◌, ◌≤◌, List, [], ◌++◌, length, map, take, drop, flat_map, All, Option, Some, Result, Ok, Err}
-use Rattle.pcap_reader.specs.declared.order.Order.{Order}
+use Rattle.std.specs.Prelude.{◌≡◌, ℕ, ◌<◌, ◌≤◌, List, [], ◌++◌, length, map, take, Option, Some, Result, Ok, Err}
 use Rattle.pcap_reader.specs.declared.fault.CaptureFault.{CaptureFault}
-use Rattle.pcap_reader.specs.declared.head.TheConstants.{FILE_HEAD}
-use Rattle.pcap_reader.specs.Capture.{Saved, bytes_of, Capture, HasFileHead, IsSaved}
+use Rattle.pcap_reader.specs.Capture.{Saved, Capture}
 use Rattle.report_text.specs.declared.parts.Ending.{Ending}
 use Rattle.report_text.specs.declared.parts.Ending.TheVariants.{Done, ReadFault, Limit, Fault}
 use Rattle.trace_runner.specs.declared.intake.TheConstants.{PACKET_LIMIT}
@@ -13,22 +11,15 @@ use Rattle.trace_runner.specs.declared.intake.TheConstants.{PACKET_LIMIT}
 abbrev pub packets_of : List Saved → List (List ℕ)
 packets_of records = map (λ saved. saved.packet) records
 
--- the bytes are a right file head, these whole records, and more
-pub record BeginsWith (bytes : List ℕ) (records : List Saved) (more : List ℕ) : Type 0 where
-  pub order : Order
-  pub head : HasFileHead order bytes
-  pub each : All (IsSaved order) records
-  pub whole : drop FILE_HEAD bytes ≡ flat_map bytes_of records ++ more
-
 -- the bytes are a capture with this ending, with no more records than are served, which are these packets
 abbrev pub HoldsPackets : List ℕ → List (List ℕ) → Result ℕ CaptureFault → Type 0
 HoldsPackets bytes packets ending =
     (records : List Saved) × Capture bytes records ending × (length records ≤ PACKET_LIMIT) × (packets ≡ packets_of records)
 
--- the bytes begin with one whole record more than are served, and these packets are those that are
+-- the bytes are a capture of more records than are served, and these packets are those that are
 abbrev pub HoldsMore : List ℕ → List (List ℕ) → Type 0
 HoldsMore bytes packets =
-    (records : List Saved) × (more : List ℕ) × BeginsWith bytes records more × (length records ≡ PACKET_LIMIT + 1)
+    (records : List Saved) × (ending : Result ℕ CaptureFault) × Capture bytes records ending × (PACKET_LIMIT < length records)
     × (packets ≡ packets_of (take PACKET_LIMIT records))
 
 -- of the bytes some were taken, and these packets are those that are whole in them

@@ -8,7 +8,7 @@ ghost use Rattle.trace_runner.specs.Endings.{ending_at};
 
 use crate::steps::{keep_call, read_on};
 use edge_traits::Source;
-use pcap_reader::{CaptureFault, Reader};
+use pcap_reader::{CaptureFault, Reader, capture_front, every_capture};
 use plain_map::Call;
 use report_text::Ending;
 use std::alloc::{AllocError, Global};
@@ -76,6 +76,8 @@ impl Intake {
         ensures read_fault { IfOk result (λ intake. intake.ending ≡ Ending.ReadFault → Rose (S.faults source.old) (S.faults source.new)) }
         ensures counted { S.faults source.old ≤ S.faults source.new }
     {
+        every_capture();
+        capture_front();
         let mut calls = Vec::new(alloc);
         for packets in 0..PACKET_LIMIT {
             if let Some(ending) = read_on(reader, source) {

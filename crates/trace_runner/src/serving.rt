@@ -1,10 +1,12 @@
 //! The top call, which does all that the program does.
 
-ghost use Rattle.std.specs.Prelude.{◌≡◌, ◌≤◌, ◌⊎◌, ℕ, List, map, string_bytes, Some, None, IfOk, OnErr};
+ghost use Rattle.std.specs.Prelude.{◌≡◌, ◌≤◌, ◌⊎◌, ℕ, List, map, string_bytes, Some, None, IfOk, OnErr, Result};
 ghost use Rattle.std.specs.Io.KnownBytes.{Keeps};
 ghost use Rattle.edge_traits.specs.Edge.{Rose};
+ghost use Rattle.pcap_reader.specs.Capture.{Capture, Saved};
+ghost use Rattle.pcap_reader.specs.declared.fault.CaptureFault.{CaptureFault};
 ghost use Rattle.trace_runner.specs.declared.plan.Plan.{Plan};
-ghost use Rattle.trace_runner.specs.Headline.{Leaves, rules_of};
+ghost use Rattle.trace_runner.specs.Headline.{Leaves, rules_of, status_for};
 ghost use Rattle.trace_runner.specs.Words.{IsInRange, reads};
 
 use crate::answers::Answers;
@@ -14,6 +16,7 @@ use crate::print::text_of;
 use crate::status::Status;
 use crate::words::{WordsFault, read_words};
 use edge_traits::{Failed, Gate, Sink, Source, write_all};
+use pcap_reader::one_capture;
 use plain_map::{Rules, session_laws, turn_laws};
 use std::alloc::{AllocError, Global};
 use std::thread::Threads;
@@ -36,6 +39,11 @@ pub fn run<R: Threads + Sync, S: Source, K: Sink, G: Gate + Sync>(
     ensures headline { (plan : Plan) (bytes : List ℕ) → reads (map string_bytes words.now) ≡ Some plan → S.left source.old ≡ Some bytes →
         Leaves plan bytes (S.left source.new) (K.put sink.old) (K.put sink.new) result }
 
+    // Where nothing fails, the capture that the bytes are decides which answer it is, want of memory apart.
+    ensures exact { (plan : Plan) (bytes : List ℕ) (records : List Saved) (ending : Result ℕ CaptureFault) → reads (map string_bytes words.now) ≡ Some plan →
+        S.left source.old ≡ Some bytes → Capture bytes records ending → ¬ Rose (S.faults source.old) (S.faults source.new) →
+        ¬ Rose (K.faults sink.old) (K.faults sink.new) → (result ≡ status_for records ending) ⊎ (result ≡ Status.Memory) }
+
     // The words ask for none.
     ensures usage { result ≡ Status.Usage → reads (map string_bytes words.now) ≡ None }
     ensures refused { reads (map string_bytes words.now) ≡ None → (result ≡ Status.Usage) ⊎ (result ≡ Status.Memory) }
@@ -47,6 +55,7 @@ pub fn run<R: Threads + Sync, S: Source, K: Sink, G: Gate + Sync>(
     ensures write_fault { result ≡ Status.WriteFault → Rose (K.faults sink.old) (K.faults sink.new) }
     ensures counted { (S.faults source.old ≤ S.faults source.new) × (K.faults sink.old ≤ K.faults sink.new) }
 {
+    one_capture();
     match read_words(alloc, words) {
         Ok(plan) => match serve(alloc, &plan, source, sink, gate) {
             Ok(status) => status,

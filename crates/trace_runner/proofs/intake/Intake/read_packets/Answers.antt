@@ -45,7 +45,7 @@ returns-in-None-clause-served g c = λ bytes start.
     let read = c.loop-packets.invariant.read bytes start in
     let all : length read.0 ≡ 20000 = omega (arith, read.3) in (
       packets_of read.0,
-      Serves-limit bytes _ _ _ _ read.0 c.from.result read.1 c.in-None.ensures.packet c.read_on-2.ensures.order all c.from.ensures,
+      Serves-limit bytes _ _ _ _ read.0 c.from.result (c.every_capture.ensures bytes) (c.capture_front.ensures bytes) read.1 c.in-None.ensures.packet c.read_on-2.ensures.order all c.from.ensures,
       read.2,
       length-map read.0 _ ∙ all,
     )
