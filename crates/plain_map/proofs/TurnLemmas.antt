@@ -2,6 +2,7 @@
 use Rattle.std.proofs.Common.{◌≡◌, ℕ, zero, suc, ◌+◌, ◌<◌, ◌≤◌, List, [], ◌∷◌, ◌++◌, map, length, refl, inl, inr, sym, ap, subst, add-zero, append-nil, length-append, arith}
 use Rattle.std.proofs.lemmas.List.Sorted.{IsPermutation-refl}
 use Rattle.std.proofs.lemmas.Bool.{cases_eq}
+use Rattle.plain_map.specs.declared.records.TheConstants.{MOST_SEATS}
 use Rattle.plain_map.specs.declared.records.Record.{Record}
 use Rattle.plain_map.specs.History.{Placed, answered, seat_of, number_of, seen_of, Stands, IsAfter, IsTurn, InTurn, KeepsTurn, TurnsAreAfter, RecordsAreWhole}
 
@@ -62,9 +63,9 @@ at_place k (r ∷ rs) (b ∷ before) later placed turns is =
 -- the calls of one seat that some call had seen
 seen_earlier : (before : List Placed) (r : Record) → IsTurn (1 + length before) r
     → ((n : ℕ) → 1 ≤ n → n < 1 + length before → Stands before 0 n)
-    → (seat number : ℕ) → 1 ≤ number → number ≤ seen_of (answered r) seat → Stands before seat number
-seen_earlier before r turn earlier zero number least seen = earlier number least (omega (arith, turn.own))
-seen_earlier before r turn earlier (suc seat) number least seen = absurd (omega (arith, turn.others (suc seat) (omega arith)))
+    → (seat number : ℕ) → seat < MOST_SEATS → 1 ≤ number → number ≤ seen_of (answered r) seat → Stands before seat number
+seen_earlier before r turn earlier zero number inside least seen = earlier number least (omega (arith, turn.own))
+seen_earlier before r turn earlier (suc seat) number inside least seen = absurd (omega (arith, turn.others (suc seat) (omega arith) inside))
 
 -- the calls of one seat, in turn, stand after what their caller had seen
 pub in_turn-After : TurnsAreAfter
@@ -73,5 +74,5 @@ in_turn-After rs turns before later placed is =
     let r = there.record_there in
     subst (IsAfter before) (sym there.is) (record {
       own = λ number least below. subst (λ (s : ℕ). Stands before s number) (sym there.turn.seat) (there.earlier number least (omega (arith, there.turn.number)));
-      seen = λ seat number inside. seen_earlier before r there.turn there.earlier seat number;
+      seen = seen_earlier before r there.turn there.earlier;
     })

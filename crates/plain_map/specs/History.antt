@@ -3,6 +3,7 @@
 -- Source: this project's own, after the sequential specification and the order of a linearizable history in
 -- Herlihy and Wing, "Linearizability", 1990. In place of real time stands what each caller had seen.
 use Rattle.std.specs.Prelude.{◌≡◌, ℕ, suc, ◌+◌, ◌-◌, ◌<◌, ◌≤◌, List, [], ◌∷◌, ◌++◌, map, slice_index, Any, IsPermutation, length}
+use Rattle.plain_map.specs.declared.records.TheConstants.{MOST_SEATS}
 use Rattle.plain_map.specs.declared.rules.Rules.{Rules}
 use Rattle.plain_map.specs.declared.calls.Call.{Call}
 use Rattle.plain_map.specs.declared.records.Record.{Record}
@@ -68,14 +69,10 @@ sessions_after rules sessions (placed ∷ later) = sessions_after rules (map_aft
 abbrev pub Stands : List Placed → ℕ → ℕ → Type 0
 Stands calls seat number = Any (λ placed. (seat_of placed ≡ seat) × (number_of placed ≡ number)) calls
 
--- how many seats there can be
-abbrev pub most_seats : ℕ
-most_seats = 8
-
 -- what stands before a call: its seat's earlier calls, and of each seat all those that it had seen
 pub record IsAfter (before : List Placed) (placed : Placed) : Type 0 where
   pub own : (number : ℕ) → 1 ≤ number → number < number_of placed → Stands before (seat_of placed) number
-  pub seen : (seat number : ℕ) → seat < most_seats → 1 ≤ number → number ≤ seen_of placed seat → Stands before seat number
+  pub seen : (seat number : ℕ) → seat < MOST_SEATS → 1 ≤ number → number ≤ seen_of placed seat → Stands before seat number
 
 -- each call stands after its seat's earlier ones and after all that its caller had seen
 abbrev pub After : List Placed → Type 0
@@ -90,7 +87,7 @@ pub record IsTurn (k : ℕ) (r : Record) : Type 0 where
   pub seat : r.seat ≡ 0
   pub number : r.number ≡ k
   pub own : seen_of (answered r) 0 ≡ k - 1
-  pub others : (seat : ℕ) → 0 < seat → seen_of (answered r) seat ≡ 0
+  pub others : (seat : ℕ) → 0 < seat → seat < MOST_SEATS → seen_of (answered r) seat ≡ 0
 
 -- the calls of one seat in turn, the first of which has the number k
 abbrev pub InTurn : ℕ → List Record → Type 0

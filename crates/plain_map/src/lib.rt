@@ -27,7 +27,7 @@ pub use keys::{KEY_WORDS, Key, Pair};
 pub use leaves::{Leaf, OpenFault};
 pub use locality::answer_laws;
 pub use object::PlainMap;
-pub use records::{CallId, Pending, Record, Seen};
+pub use records::{CallId, MOST_SEATS, Pending, Record, Seen};
 pub use rows::{BucketRow, DirectoryRow};
 pub use rules::{MOST_DEPTH, MOST_ITEMS, Rules};
 pub use server::Server;

@@ -1,7 +1,6 @@
 -- An order's lines, a line after another.
 use Rattle.std.proofs.Common.{◌≡◌, ℕ, suc, ◌+◌, ◌-◌, ◌<◌, ◌≤◌, min, List, [], ◌∷◌, ◌++◌, length, take, drop, map, decimal, get_or, refl, sym, ap, ◌∙◌, arith, append_assoc, length-drop}
 use Rattle.std.specs.Slice.Iter.{chunk_count}
-use Rattle.std.specs.Simd.{first_chunks}
 use Rattle.std.proofs.lemmas.List.{append-nil, drop_all, drop_at, length-append, length-take, map_more, take-append-le, take_all, take_at}
 use Rattle.plain_map.specs.declared.records.CallId.{CallId}
 use Rattle.report_text.specs.Lines.{Puts}

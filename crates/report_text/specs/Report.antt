@@ -15,7 +15,6 @@ use Rattle.plain_map.specs.declared.full.Full.{Full}
 use Rattle.plain_map.specs.declared.full.FullKind.{FullKind}
 use Rattle.plain_map.specs.declared.full.FullKind.TheVariants.{OpRows, BucketRows, BucketWords, DirRows}
 use Rattle.plain_map.specs.declared.records.Seen.{Seen}
-use Rattle.plain_map.specs.declared.records.Record.{Record}
 use Rattle.plain_map.specs.declared.records.Pending.{Pending}
 use Rattle.plain_map.specs.declared.records.CallId.{CallId}
 use Rattle.pcap_reader.specs.declared.fault.CaptureFault.{CaptureFault}
@@ -24,7 +23,7 @@ use Rattle.trace_share.specs.declared.deals.Share.{Share}
 use Rattle.trace_share.specs.declared.deals.Share.TheVariants.{Round, Block, Flow}
 use Rattle.trace_share.specs.declared.outcome.Outcome.{Outcome}
 use Rattle.trace_share.specs.declared.outcome.Outcome.TheVariants.{Answered, Refused}
-use Rattle.trace_share.specs.Deal.{key_in}
+use Rattle.plain_map.specs.Calls.{key_in}
 use Rattle.flow_keys.specs.FlowText.{flow_text}
 use Rattle.report_text.specs.declared.parts.Head.{Head}
 use Rattle.report_text.specs.declared.parts.Tail.{Tail}

@@ -3,7 +3,7 @@
 ghost use Rattle.std.specs.Prelude.{◌≡◌, ℕ, ◌+◌, ◌*◌, ◌≤◌, [], ◌∷◌, ◌++◌, codes, decimal, length, take, OnOk, OnErr};
 ghost use Rattle.std.specs.List.{join_by};
 ghost use Rattle.flow_keys.specs.FlowText.{HasText};
-ghost use Rattle.trace_share.specs.Deal.{key_in};
+ghost use Rattle.plain_map.specs.Calls.{key_in};
 ghost use Rattle.trace_share.specs.declared.outcome.Outcome.TheVariants.{Answered, Refused};
 ghost use Rattle.report_text.specs.Report.{after_words, call_in, call_words, full_words, outcome_line, reply_words, short_word, steps_words, value_in, verb_word};
 ghost use Rattle.report_text.specs.Lines.{room, Puts};
@@ -36,24 +36,24 @@ pub fn outcome_text(
 {
     make_room(out, LINE_ROOM)?;
     match outcome {
-        Outcome::Answered(record) => put_answered(out, seats, seat, record),
+        Outcome::Answered(answer) => put_answered(out, seats, seat, answer),
         Outcome::Refused { packet, call, full } => put_refused(out, *packet, seat, call, full),
     }
     Ok(())
 }
 
 // Appends the line of an answered call.
-fn put_answered(out: &mut Vec<u8>, seats: u32, seat: u32, record: &Record)
+fn put_answered(out: &mut Vec<u8>, seats: u32, seat: u32, answer: &Record)
     requires seats { seats ≤ 8 }
-    requires key { HasText (key_in record.now.call) }
+    requires key { HasText (key_in answer.now.call) }
     requires space { 384 ≤ room out.old }
-    ensures { out.new.items ≡ out.old.items ++ outcome_line seats seat (Answered record.now) }
+    ensures { out.new.items ≡ out.old.items ++ outcome_line seats seat (Answered answer.now) }
 {
     begin_line(out, b"call");
-    put_call(out, record.packet, seat, &record.call);
-    put_reply(out, &record.call, record.reply);
-    put_steps(out, record.steps);
-    put_after(out, seats, &record.seen);
+    put_call(out, answer.packet, seat, &answer.call);
+    put_reply(out, &answer.call, answer.reply);
+    put_steps(out, answer.steps);
+    put_after(out, seats, &answer.seen);
     end_line(out);
 }
 

@@ -2,7 +2,7 @@
 
 ghost use Rattle.std.specs.Prelude.{◌≡◌, ◌≤◌};
 ghost use Rattle.flow_keys.specs.FlowText.{HasText};
-ghost use Rattle.trace_share.specs.Deal.{key_in};
+ghost use Rattle.plain_map.specs.Calls.{key_in};
 ghost use Rattle.report_text.specs.Report.{IsEnding};
 
 use crate::{Ending, Head, Tail, head_text, order_text, outcome_text, session_text, tail_text};

@@ -6,7 +6,6 @@ use Rattle.hash_bits.specs.declared.hashing.Hashing.TheVariants.{Mix}
 use Rattle.hash_bits.specs.Hashing.{hash_of}
 use Rattle.plain_map.specs.declared.keys.Key.{Key}
 use Rattle.plain_map.specs.declared.calls.Call.{Call}
-use Rattle.plain_map.specs.declared.calls.Call.TheVariants.{Insert, Remove, Lookup}
 use Rattle.trace_share.specs.declared.deals.Share.{Share}
 use Rattle.trace_share.specs.declared.deals.Share.TheVariants.{Round, Block, Flow}
 pub use Rattle.plain_map.specs.Calls.{key_in}

@@ -1,4 +1,4 @@
-use Rattle.std.proofs.Common.{◌≡◌, ℕ, ◌+◌, ◌*◌, ◌≤◌, ◌++◌, codes, decimal, take}
+use Rattle.std.proofs.Common.{◌≡◌, ◌+◌, ◌*◌, ◌≤◌, ◌++◌, codes, decimal, take}
 use Rattle.std.specs.List.{flat_map}
 use Rattle.report_text.specs.Lines.{room}
 use Rattle.report_text.proofs.calls.put_counts.Given as goal

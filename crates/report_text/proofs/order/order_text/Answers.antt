@@ -1,6 +1,6 @@
-use Rattle.std.proofs.Common.{◌≡◌, ℕ, List, [], ◌++◌, ap, ◌∙◌, sym, length, min, append_assoc, arith}
+use Rattle.std.proofs.Common.{◌≡◌, ℕ, List, [], ◌++◌, ap, ◌∙◌, sym, length, min}
 use Rattle.std.proofs.lemmas.List.{append-nil}
-use Rattle.std.specs.Slice.Iter.{chunks_rest, chunks_size}
+use Rattle.std.specs.Slice.Iter.{chunks_rest}
 use Rattle.report_text.specs.Report.{order_lines, order_line}
 use Rattle.report_text.proofs.OrderLemmas.{front_more, order_more, order_lines_none}
 use Rattle.report_text.proofs.order.order_text.Goals as goal

@@ -1,4 +1,4 @@
-use Rattle.std.proofs.Common.{◌≡◌, ◌+◌, ◌*◌, ◌≤◌, decimal, map, take}
+use Rattle.std.proofs.Common.{◌+◌, ◌*◌, ◌≤◌, decimal, map, take}
 use Rattle.report_text.specs.Lines.{room, Puts}
 use Rattle.report_text.proofs.order.put_packets.Given as goal
 

@@ -1,4 +1,4 @@
-use Rattle.std.proofs.Common.{◌≡◌, map, take}
+use Rattle.std.proofs.Common.{◌≡◌, map}
 use Rattle.std.specs.List.{range_with_len}
 use Rattle.trace_share.proofs.DealLemmas.{calls_until}
 use Rattle.trace_share.proofs.deals.deal.Given as goal
