@@ -2,9 +2,8 @@
 #![tactic(auto)]
 
 use edge_traits::{OpenGate, StdSink, StdSource};
-use std::env;
-use std::io;
 use std::process::ExitCode;
+use std::{env, io};
 use trace_runner::{Status, run};
 
 fn main(rt: HostRuntime) -> ExitCode {

@@ -278,4 +278,4 @@ front_of_capture bytes front records more ending begins (inr q) =
     let same = same_order q.0 begins.order bytes q.1.head.begins.magic begins.head.begins.magic in
     let holds : HoldsRecords begins.order bytes records ending = subst (λ (o : Order). HoldsRecords o bytes records ending) same q.1 in
     front_records begins.order front records more holds.rest (recursion_from_All _ front begins.each) (recursion_from_All _ records holds.each)
-        (remainder_begins_none begins.order _ holds.rest ending holds.ends) (sym begins.whole ∙ holds.whole)
+    (remainder_begins_none begins.order _ holds.rest ending holds.ends) (sym begins.whole ∙ holds.whole)

@@ -77,8 +77,8 @@ module _ (P : Key → Type 0) where
   unfolding pairs_of
   pairs-only m only =
       let keys : All P (map (λ e. e.0) (finite.entries m)) =
-          All-from_any (eq_by_cmp_equiv keys_total) P (map (λ e. e.0) (finite.entries m))
-              (λ (q : Key) found. only q (contains_key-keys m q ∙ found)) in
+      All-from_any (eq_by_cmp_equiv keys_total) P (map (λ e. e.0) (finite.entries m))
+      (λ (q : Key) found. only q (contains_key-keys m q ∙ found)) in
       All-map (λ pair. P pair.key) pair_of (finite.entries m) (All-unmap P (λ e. e.0) (finite.entries m) keys)
 
 -- an element of a list is contained in it
@@ -89,6 +89,6 @@ pub sessions_asked : SessionsAreAsked
 sessions_asked rules order =
     let asked : List Key = keys_asked order in
     let each : All (λ (placed : Placed). Contains asked (key_in (call_in placed))) order =
-        All-unmap (Contains asked) (λ (placed : Placed). key_in (call_in placed)) order (each_contained asked) in
+    All-unmap (Contains asked) (λ (placed : Placed). key_in (call_in placed)) order (each_contained asked) in
     pairs-only (Contains asked) (sessions_after rules finite.empty order)
-        (only-sessions_after (Contains asked) rules finite.empty order (recursion_from_All _ order each) (only-empty (Contains asked)))
+    (only-sessions_after (Contains asked) rules finite.empty order (recursion_from_All _ order each) (only-empty (Contains asked)))

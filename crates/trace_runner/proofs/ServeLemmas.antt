@@ -39,7 +39,7 @@ All-contained P xs x all found = subst P found.2 (all found.0 x found.1)
 pub texts-records : (calls : List (ℕ × Call)) (records : List Record) → calls_in records ≡ calls → HasTexts calls → All (λ r. HasText (key_in r.call)) records
 texts-records calls records each texts =
     All-unmap (λ (call : ℕ × Call). HasText (key_in call.1)) (λ (r : Record). (r.packet, r.call)) records
-        (subst HasTexts (sym each) texts)
+    (subst HasTexts (sym each) texts)
 
 -- and so are those of the sessions left
 pub texts-sessions :
@@ -47,10 +47,10 @@ pub texts-sessions :
     held ≡ sessions_after rules empty (map answered records) → All (λ pair. HasText pair.key) (pairs_of held)
 texts-sessions rules records held asked texts is =
     let keys : All HasText (keys_asked (map answered records)) =
-        All-map HasText (λ (placed : Placed). key_in (call_in placed)) (map answered records)
-            (All-map (λ (placed : Placed). HasText (key_in (call_in placed))) answered records texts) in
+    All-map HasText (λ (placed : Placed). key_in (call_in placed)) (map answered records)
+    (All-map (λ (placed : Placed). HasText (key_in (call_in placed))) answered records texts) in
     let left : All (λ pair. HasText pair.key) (pairs_of (sessions_after rules empty (map answered records))) =
-        λ k d within. All-contained HasText (keys_asked (map answered records)) _ keys (asked rules (map answered records) k d within) in
+    λ k d within. All-contained HasText (keys_asked (map answered records)) _ keys (asked rules (map answered records) k d within) in
     subst (λ (sessions : Sessions). All (λ pair. HasText pair.key) (pairs_of sessions)) (sym is) left
 
 -- what was printed is the report of what was read and answered
@@ -62,17 +62,23 @@ pub Reports-printed :
 Reports-printed plan bytes left intake answers text after whole read given held printed =
     let records : List Record = answers.records.items in
     let order : List Placed = map answered records in
-    let report : (packets : ℕ) → Sessions → List ℕ = λ packets sessions. report_of (run_report plan packets records order sessions intake.ending) in
-    ( read.0, read.1, ( records, order,
-      record {
-        calls = subst (MakeCalls 1 read.0) (sym given.each) read.2;
-        turns = given.in_turn;
-        legal = given.legal;
-        after = after records given.in_turn;
-        whole = whole records;
-      },
-      printed ∙ ap (λ (sessions : Sessions). report intake.packets sessions) held
-      ∙ ap (λ (packets : ℕ). report packets (sessions_after (rules_of plan) empty order)) (sym read.3) ) )
+    let report : (packets : ℕ) → Sessions → List ℕ = λ packets sessions. report_of (run_report plan packets records order sessions intake.ending) in (
+      read.0,
+      read.1,
+      (
+        records,
+        order,
+        record {
+          calls = subst (MakeCalls 1 read.0) (sym given.each) read.2;
+          turns = given.in_turn;
+          legal = given.legal;
+          after = after records given.in_turn;
+          whole = whole records;
+        },
+        printed ∙ ap (λ (sessions : Sessions). report intake.packets sessions) held
+            ∙ ap (λ (packets : ℕ). report packets (sessions_after (rules_of plan) empty order)) (sym read.3),
+      ),
+    )
 
 -- a report that was put whole leaves what its ending's status says
 pub Leaves-whole :

@@ -76,14 +76,14 @@ pub Serves-limit :
 Serves-limit bytes old new before after records limit capture front read given same many is =
     let further : HasRead bytes new after (records ++ given.saved ∷ []) = HasRead-next bytes old new before after records read given same in
     let begins : BeginsWith bytes (records ++ given.saved ∷ []) further.more =
-        record { order = new.order; head = further.head; each = further.each; whole = further.whole } in
+    record { order = new.order; head = further.head; each = further.each; whole = further.whole } in
     let more : (others : List Saved) × (capture.0 ≡ (records ++ given.saved ∷ []) ++ others) =
-        front (records ++ given.saved ∷ []) capture.0 further.more capture.1 begins capture.2 in
+    front (records ++ given.saved ∷ []) capture.0 further.more capture.1 begins capture.2 in
     let all : capture.0 ≡ records ++ (given.saved ∷ more.0) = more.1 ∙ append_assoc records (given.saved ∷ []) more.0 in
     let longer : PACKET_LIMIT < length capture.0 =
-        omega (arith, ap length all, length-append records (given.saved ∷ more.0), many) in
+    omega (arith, ap length all, length-append records (given.saved ∷ more.0), many) in
     let served : take PACKET_LIMIT capture.0 ≡ records =
-        ap (λ (n : ℕ). take n capture.0) (sym many) ∙ ap (take (length records)) all ∙ take-append_seam records (given.saved ∷ more.0) in
+    ap (λ (n : ℕ). take n capture.0) (sym many) ∙ ap (take (length records)) all ∙ take-append_seam records (given.saved ∷ more.0) in
     ((capture.0, capture.1, capture.2, longer, ap packets_of (sym served)), is)
 
 -- an input whose file head shows a fault serves no packet
