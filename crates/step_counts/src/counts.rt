@@ -16,7 +16,7 @@ pub fn bound(s: &Settings) -> u64
 {
     let row = bucket_row_words(s);
     let round = 3 + 2 * bucket_try(s) + (1 + row) + 2 * directory_try(s);
-    u64::from(s.seats) + (OP_WORDS + 1) + 2 * round + (3 + 1 + row) + 1
+    u64::from(s.seats) + (OP_WORDS as u64 + 1) + 2 * round + (3 + 1 + row) + 1
 }
 
 /// The room that one update needs of each range of its seat.
@@ -52,7 +52,7 @@ pub fn bucket_row_words(s: &Settings) -> u64
     ensures exact { result ≡ bucket_row_words s.now }
     ensures small { result < 1000 }
 {
-    5 + ITEM_WORDS * u64::from(s.items) + 2 * u64::from(s.seats)
+    5 + ITEM_WORDS as u64 * u64::from(s.items) + 2 * u64::from(s.seats)
 }
 
 // The most steps of a try to change a bucket.
@@ -60,7 +60,7 @@ fn bucket_try(s: &Settings) -> u64
     ensures exact { result ≡ bucket_try_steps s.now }
     ensures small { result < 10000 }
 {
-    2 * bucket_row_words(s) + (1 + OP_WORDS) * u64::from(s.seats) + 2
+    2 * bucket_row_words(s) + (1 + OP_WORDS as u64) * u64::from(s.seats) + 2
 }
 
 // The most steps of a try to change the directory.
@@ -71,7 +71,11 @@ fn directory_try(s: &Settings) -> u64
     let seats = u64::from(s.seats);
     let row = bucket_row_words(s);
     let leaves = leaves_of_change(s);
-    2 * (2 + places(s.depth)) + (1 + OP_WORDS) * seats + seats * (1 + row) + leaves * (row + 1) + 1
+    2 * (2 + places(s.depth))
+        + (1 + OP_WORDS as u64) * seats
+        + seats * (1 + row)
+        + leaves * (row + 1)
+        + 1
 }
 
 // The most leaves that one directory change makes.

@@ -10,10 +10,10 @@ pub use rows::SeatRows;
 pub use settings::{MOST_DEPTH, MOST_ITEMS, MOST_SEATS, Settings, SettingsFault};
 
 /// Words of an op row: its number, its kind, its key and its value.
-pub const OP_WORDS: u64 = 5;
+pub const OP_WORDS: usize = 5;
 
 /// Words of an item of a bucket row: its key and its value.
-pub const ITEM_WORDS: u64 = 3;
+pub const ITEM_WORDS: usize = 3;
 
 #[cfg(test)]
 mod tests;

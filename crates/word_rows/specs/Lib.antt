@@ -1,0 +1,15 @@
+pub mod Shape
+pub mod Places
+pub mod LayoutView
+pub mod PlaceLaws
+pub mod Memory
+pub mod MemoryLaws
+pub mod Blocks
+pub mod KeyWords
+pub mod ReplyWords
+pub mod OpWords
+pub mod BaseWords
+pub mod BucketWords
+pub mod DirectoryWords
+pub mod RowLaws
+pub mod BucketPlaces

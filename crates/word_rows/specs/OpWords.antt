@@ -1,0 +1,44 @@
+-- How an announced op is spelled.
+use Rattle.std.specs.Prelude.{◌≡◌, ℕ, ◌+◌, ◌^◌, ◌<◌, ◌≤◌, ◌==◌, if◌then◌else◌, List, [], ◌∷◌, ◌++◌, take, drop, slice_index}
+use Rattle.plain_map.specs.declared.calls.Call.{Call}
+use Rattle.plain_map.specs.declared.calls.Call.TheVariants.{Insert, Remove, Lookup}
+use Rattle.word_rows.specs.declared.ops.OpRow.{OpRow}
+use Rattle.word_rows.specs.declared.ops.TheConstants.{INSERT, REMOVE}
+use Rattle.word_rows.specs.declared.keys.TheConstants.{KEY_WORDS}
+use Rattle.word_rows.specs.KeyWords.{words_of_key, key_of_words}
+
+-- an update, with a value that can be kept
+abbrev pub IsRowCall : Call → Type 0
+IsRowCall (Insert key value) = value < 2 ^ 61
+IsRowCall (Remove key) = Unit {0}
+IsRowCall (Lookup key) = ⊥
+
+-- an op that can be spelled
+pub record IsOp (row : OpRow) : Type 0 where
+  pub numbered : 1 ≤ row.number
+  pub few : row.number < 2 ^ 32
+  pub update : IsRowCall row.call
+
+-- kind, key and value; a remove has value 0
+abbrev pub words_of_call : Call → List ℕ
+words_of_call (Insert key value) = INSERT ∷ words_of_key key ++ value ∷ []
+words_of_call (Remove key) = REMOVE ∷ words_of_key key ++ 0 ∷ []
+words_of_call (Lookup key) = []
+
+-- the words of an op
+abbrev pub words_of_op : OpRow → List ℕ
+words_of_op row = row.number ∷ words_of_call row.call
+
+-- the call of a kind, a key and a value
+abbrev pub call_of_words : List ℕ → Call
+call_of_words words =
+    let key = key_of_words (take KEY_WORDS (drop 1 words)) in
+    if slice_index words 0 == INSERT then Insert key (slice_index words (KEY_WORDS + 1)) else Remove key
+
+-- the op that these words spell, where they spell one
+abbrev pub op_of_words : List ℕ → OpRow
+op_of_words words = record { number = slice_index words 0; call = call_of_words (drop 1 words) }
+
+-- the words are the spelling of this op
+abbrev pub SpellsOp : OpRow → List ℕ → Type 0
+SpellsOp row words = IsOp row × (words ≡ words_of_op row)

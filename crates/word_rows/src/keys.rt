@@ -1,0 +1,52 @@
+//! Keys and items as words.
+
+ghost use Rattle.std.specs.Prelude.{◌≡◌, length};
+ghost use Rattle.word_rows.specs.KeyWords.{words_of_key, words_of_pair};
+
+use plain_map::{Key, Pair};
+use step_counts::ITEM_WORDS;
+
+/// The words of a key. An item has one more, its value.
+pub const KEY_WORDS: usize = 2;
+
+const _: () = prove!(KEY_WORDS + 1 == ITEM_WORDS);
+
+/// Writes the words of a key.
+pub(crate) fn write_key(key: &Key, out: &mut [u64])
+    requires { length out.old ≡ KEY_WORDS }
+    ensures { out.new ≡ words_of_key key.now }
+{
+    out[0] = key.k0;
+    out[1] = key.k1;
+}
+
+/// The key that these words spell.
+pub(crate) fn read_key(words: &[u64]) -> Key
+    requires { length words.now ≡ KEY_WORDS }
+    ensures { words.now ≡ words_of_key result }
+{
+    Key {
+        k0: words[0],
+        k1: words[1],
+    }
+}
+
+/// Writes the words of an item.
+pub fn write_pair(pair: &Pair, out: &mut [u64])
+    requires { length out.old ≡ ITEM_WORDS }
+    ensures { out.new ≡ words_of_pair pair.now }
+{
+    write_key(&pair.key, &mut out[..KEY_WORDS]);
+    out[KEY_WORDS] = pair.value;
+}
+
+/// The item that these words spell.
+pub fn read_pair(words: &[u64]) -> Pair
+    requires { length words.now ≡ ITEM_WORDS }
+    ensures { words.now ≡ words_of_pair result }
+{
+    Pair {
+        key: read_key(&words[..KEY_WORDS]),
+        value: words[KEY_WORDS],
+    }
+}

@@ -1,0 +1,213 @@
+//! Where each word of a table lies.
+//!
+//! The words stand in this order: the root, an announcement for each seat, a done word for each seat, bucket words,
+//! op rows, bucket rows, directory rows. Of the bucket words, the bucket rows and the directory rows the opening has
+//! the first, and of all four kinds each seat has a range of its own, in the order of the seats.
+
+ghost use Rattle.std.specs.Prelude.{◌≡◌, take};
+ghost use Rattle.std.specs.Prelude.{◌^◌};
+ghost use Rattle.word_rows.specs.Shape.{AreBelow, IsShape, by_kind, count_of, number_after};
+
+use step_counts::{OP_WORDS, SeatRows, Settings, bucket_row_words};
+
+/// The word numbers of one table.
+#[derive(Clone, Copy, Debug)]
+pub struct Layout {
+    settings: Settings,
+    /// Of each seat; from the last seat on they are none.
+    ranges: [SeatRows; 8],
+    counts: SeatRows,
+    pub ghost shaped: { IsShape (record { settings = settings; ranges = take settings.seats ranges }) },
+    ghost counted: { counts ≡ by_kind (count_of (record { settings = settings; ranges = take settings.seats ranges })) },
+}
+
+impl Layout {
+    ghost use Rattle.std.specs.Prelude.{◌<◌, length};
+    ghost use Rattle.std.specs.List.{All};
+    ghost use Rattle.step_counts.specs.StepCounts.{directory_row_words};
+    ghost use Rattle.word_rows.specs.Shape.{first_of, sizes_of};
+    ghost use Rattle.word_rows.specs.Places.{
+      Root,
+      Announcement,
+      Done,
+      BucketWord,
+      OpWord,
+      BucketRowWord,
+      DirectoryWord,
+      IsAddress,
+      place,
+      word_count,
+      bucket_words_start,
+      op_rows_start,
+      bucket_rows_start,
+      directory_rows_start,
+    };
+    ghost use Rattle.word_rows.specs.LayoutView.{shape_of};
+
+    /// The layout of a table of these settings, whose seats have ranges of these sizes.
+    pub fn new(settings: &Settings, rows: &[SeatRows]) -> Layout
+        requires each_seat { length rows.now ≡ settings.now.seats }
+        requires small { All (AreBelow (2 ^ 32)) rows.now }
+        ensures { shape_of result ≡ record { settings = settings.now; ranges = rows.now } }
+    {
+        let none = SeatRows {
+            op_rows: 0,
+            bucket_rows: 0,
+            bucket_words: 0,
+            directory_rows: 0,
+        };
+        let mut ranges = [none; 8];
+        ranges[..rows.len()].copy_from_slice(rows);
+        let counts = rows_after(settings, rows);
+        Layout {
+            settings: *settings,
+            ranges,
+            counts,
+        }
+    }
+
+    /// The settings that it was made from.
+    pub fn settings(&self) -> &Settings
+        ensures { result.now ≡ (shape_of self.now).settings }
+    {
+        &self.settings
+    }
+
+    /// How many words the table has.
+    pub fn words(&self) -> u64
+        ensures { result ≡ word_count (shape_of self.now) }
+    {
+        self.directory_rows_start() + self.counts.directory_rows * self.directory_row_length()
+    }
+
+    /// The root word, which holds the number of the directory row in use.
+    pub fn root(&self) -> u64
+        ensures { result ≡ place (shape_of self.now) Root }
+    {
+        0
+    }
+
+    /// The seat's announcement, which holds one more than the number of an op row, or 0.
+    pub fn announcement(&self, seat: u32) -> u64
+        requires { IsAddress (shape_of self.now) (Announcement seat) }
+        ensures { result ≡ place (shape_of self.now) (Announcement seat) }
+    {
+        1 + seat as u64
+    }
+
+    /// The seat's done word, which holds how many calls it has finished.
+    pub fn done(&self, seat: u32) -> u64
+        requires { IsAddress (shape_of self.now) (Done seat) }
+        ensures { result ≡ place (shape_of self.now) (Done seat) }
+    {
+        1 + self.settings.seats as u64 + seat as u64
+    }
+
+    /// The bucket's word, which holds the number of its row in use.
+    pub fn bucket_word(&self, bucket: u64) -> u64
+        requires { IsAddress (shape_of self.now) (BucketWord bucket) }
+        ensures { result ≡ place (shape_of self.now) (BucketWord bucket) }
+    {
+        self.bucket_words_start() + bucket
+    }
+
+    /// Word `i` of an op row.
+    pub fn op_word(&self, row: u64, i: u64) -> u64
+        requires { IsAddress (shape_of self.now) (OpWord row i) }
+        ensures { result ≡ place (shape_of self.now) (OpWord row i) }
+    {
+        self.op_rows_start() + row * OP_WORDS as u64 + i
+    }
+
+    /// Word `i` of a bucket row.
+    pub fn bucket_row_word(&self, row: u64, i: u64) -> u64
+        requires { IsAddress (shape_of self.now) (BucketRowWord row i) }
+        ensures { result ≡ place (shape_of self.now) (BucketRowWord row i) }
+    {
+        self.bucket_rows_start() + row * bucket_row_words(&self.settings) + i
+    }
+
+    /// Word `i` of the room of a directory row.
+    pub fn directory_word(&self, row: u64, i: u64) -> u64
+        requires { IsAddress (shape_of self.now) (DirectoryWord row i) }
+        ensures { result ≡ place (shape_of self.now) (DirectoryWord row i) }
+    {
+        self.directory_rows_start() + row * self.directory_row_length() + i
+    }
+
+    /// The first number of each of the seat's ranges.
+    pub fn first(&self, seat: u32) -> SeatRows
+        requires { seat < (shape_of self.now).settings.seats }
+        ensures { result ≡ first_of (shape_of self.now) seat }
+    {
+        rows_after(&self.settings, &self.ranges[..seat as usize])
+    }
+
+    /// How many numbers each of the seat's ranges has.
+    pub fn sizes(&self, seat: u32) -> SeatRows
+        requires { seat < (shape_of self.now).settings.seats }
+        ensures { result ≡ sizes_of (shape_of self.now) seat }
+    {
+        self.ranges[seat as usize]
+    }
+    // The first bucket word.
+    fn bucket_words_start(&self) -> u64
+        ensures { result ≡ bucket_words_start (shape_of self.now) }
+    {
+        1 + 2 * self.settings.seats as u64
+    }
+
+    // The first word of the op rows.
+    fn op_rows_start(&self) -> u64
+        ensures value { result ≡ op_rows_start (shape_of self.now) }
+        ensures few { result < 2 ^ 37 }
+    {
+        self.bucket_words_start() + self.counts.bucket_words
+    }
+
+    // The first word of the bucket rows.
+    fn bucket_rows_start(&self) -> u64
+        ensures value { result ≡ bucket_rows_start (shape_of self.now) }
+        ensures few { result < 2 ^ 41 }
+    {
+        self.op_rows_start() + self.counts.op_rows * OP_WORDS as u64
+    }
+
+    // The first word of the directory rows.
+    fn directory_rows_start(&self) -> u64
+        ensures value { result ≡ directory_rows_start (shape_of self.now) }
+        ensures few { result < 2 ^ 47 }
+    {
+        self.bucket_rows_start() + self.counts.bucket_rows * bucket_row_words(&self.settings)
+    }
+
+    // The words of the room of a directory row.
+    fn directory_row_length(&self) -> u64
+        ensures value { result ≡ directory_row_words (shape_of self.now).settings }
+        ensures few { result < 2 ^ 13 }
+    {
+        2 + (1u64 << self.settings.depth)
+    }
+}
+
+// The numbers after those of the opening and of these ranges.
+#[tactic(auto, unfolding(crate::specs::Shape::number_after))]
+fn rows_after(settings: &Settings, ranges: &[SeatRows]) -> SeatRows
+    requires { AreBelow (2 ^ 36) (by_kind (number_after settings.now ranges.now)) }
+    ensures { result ≡ by_kind (number_after settings.now ranges.now) }
+{
+    let places = 1u64 << settings.depth;
+    let mut after = SeatRows {
+        op_rows: 0,
+        bucket_rows: places,
+        bucket_words: places,
+        directory_rows: 1,
+    };
+    for range in ranges {
+        after.op_rows += range.op_rows;
+        after.bucket_rows += range.bucket_rows;
+        after.bucket_words += range.bucket_words;
+        after.directory_rows += range.directory_rows;
+    }
+    after
+}

@@ -1,0 +1,26 @@
+//! Which word of a table is what, and how ops, buckets and directories are spelled in words.
+#![tactic(auto)]
+
+mod bases;
+mod bucket_parts;
+mod buckets;
+mod closed;
+mod directories;
+mod keys;
+mod layout;
+mod memory;
+mod ops;
+mod places;
+mod replies;
+mod rows;
+#[cfg(test)]
+mod tests;
+
+pub use closed::ClosedRows;
+pub use keys::{KEY_WORDS, read_pair, write_pair};
+pub use layout::Layout;
+pub use memory::memory_laws;
+pub use ops::{INSERT, OpRow, REMOVE, read_op, write_op};
+pub use places::place_laws;
+pub use replies::{ABSENT, GONE, NEW, NO_ROOM, OLD, reply_of, reply_word};
+pub use rows::row_laws;
