@@ -1,0 +1,11 @@
+mod PlaceLemmas
+mod AnswerLemmas
+mod StepLemmas
+mod KeyTests
+mod ItemLemmas
+mod SizeLemmas
+mod PartLemmas
+mod LocalLemmas
+mod WalkLemmas
+mod FoldLemmas
+mod GoodLemmas

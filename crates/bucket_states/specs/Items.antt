@@ -1,0 +1,62 @@
+-- The pairs of one bucket: what they hold at a key, the answer to a call by them alone, and the pairs after it.
+-- Source: this project's own; buckets are those of Fagin and others, "Extendible hashing", 1979.
+use Rattle.std.specs.Prelude.{ℕ, ◌==◌, nat_lt, Bool, true, false, not, ◌&&◌, if◌then◌else◌, List, [], ◌∷◌, ◌++◌, length, Option, Some, None, is_some}
+use Rattle.std.specs.Option.{option_map_or}
+use Rattle.hash_bits.specs.Prefix.{first_bits}
+use Rattle.plain_map.specs.declared.keys.Key.{Key}
+use Rattle.plain_map.specs.declared.keys.Pair.{Pair}
+use Rattle.plain_map.specs.declared.rules.Rules.{Rules}
+use Rattle.plain_map.specs.declared.calls.Call.{Call}
+use Rattle.plain_map.specs.declared.calls.Call.TheVariants.{Insert, Remove, Lookup}
+use Rattle.plain_map.specs.declared.calls.Reply.{Reply}
+use Rattle.plain_map.specs.declared.calls.Reply.TheVariants.{Gone, Found, Absent}
+use Rattle.plain_map.specs.Keys.{hash_of_key}
+use Rattle.plain_map.specs.PlainObject.{insert_reply}
+
+-- the prefix of a key at a depth: so many first bits of its hash
+unfoldable pub prefix_of : Rules → ℕ → Key → ℕ
+prefix_of rules depth key = first_bits (hash_of_key rules.hashing key) depth
+
+-- whether the two keys are one
+abbrev pub same_key : Key → Key → Bool
+same_key a b = (a.k0 == b.k0) && (a.k1 == b.k1)
+
+-- the value of the first pair with the key
+abbrev pub value_at : Key → List Pair → Option ℕ
+value_at key [] = None
+value_at key (pair ∷ pairs) = if same_key pair.key key then Some pair.value else value_at key pairs
+
+-- the pairs without the first one with the key, in their order
+abbrev pub without : Key → List Pair → List Pair
+without key [] = []
+without key (pair ∷ pairs) = if same_key pair.key key then pairs else pair ∷ without key pairs
+
+-- fewer pairs than a bucket may have
+abbrev pub has_place : Rules → List Pair → Bool
+has_place rules items = nat_lt (length items) rules.items
+
+-- the answer to a call, by these pairs alone
+unfoldable pub reply_in : Rules → List Pair → Call → Reply
+reply_in rules items (Insert key value) = insert_reply (value_at key items) (has_place rules items)
+reply_in rules items (Remove key) = option_map_or Gone (value_at key items) Absent
+reply_in rules items (Lookup key) = option_map_or Found (value_at key items) Absent
+
+-- the pairs after an insert, by what is held at its key and by whether there is a place: a new pair goes last
+abbrev pub appended : List Pair → Pair → Option ℕ → Bool → List Pair
+appended items pair (Some held) place = items
+appended items pair None true = items ++ pair ∷ []
+appended items pair None false = items
+
+-- the pairs after a call
+unfoldable pub items_after : Rules → List Pair → Call → List Pair
+items_after rules items (Insert key value) =
+    appended items (record { key = key; value = value }) (value_at key items) (has_place rules items)
+items_after rules items (Remove key) = without key items
+items_after rules items (Lookup key) = items
+
+-- the call inserts a new key where there is no place, at a depth at which the bucket can still be split
+unfoldable pub overflows : Rules → ℕ → List Pair → Call → Bool
+overflows rules depth items (Insert key value) =
+    not (is_some (value_at key items)) && (not (has_place rules items) && nat_lt depth rules.depth)
+overflows rules depth items (Remove key) = false
+overflows rules depth items (Lookup key) = false

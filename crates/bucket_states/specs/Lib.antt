@@ -1,0 +1,6 @@
+pub mod Items
+pub mod Places
+pub mod States
+pub mod Change
+pub mod Parts
+pub mod Laws

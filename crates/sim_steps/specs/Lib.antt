@@ -1,0 +1,9 @@
+pub mod Totals
+pub mod Layout
+pub mod Program
+pub mod Machine
+pub mod World
+pub mod Order
+pub mod Laws
+pub mod Fields
+pub mod Inside
