@@ -15,3 +15,6 @@ pub use plan::{Mode, Plan};
 pub use serving::run;
 pub use status::Status;
 pub use words::{WordsFault, command_line_laws, read_words};
+
+#[cfg(test)]
+mod tests;
