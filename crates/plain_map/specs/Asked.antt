@@ -1,5 +1,5 @@
 -- Where the sessions that are held come from.
-use Rattle.std.specs.Prelude.{ℕ, List, map, All, Contains}
+use Rattle.std.specs.Prelude.{List, map, All, Contains}
 use Rattle.std.specs.FinMap.{empty}
 use Rattle.plain_map.specs.declared.keys.Key.{Key}
 use Rattle.plain_map.specs.declared.rules.Rules.{Rules}

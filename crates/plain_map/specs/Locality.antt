@@ -4,7 +4,6 @@ use Rattle.std.specs.FinMap.{get}
 use Rattle.plain_map.specs.declared.keys.Key.{Key}
 use Rattle.plain_map.specs.declared.rules.Rules.{Rules}
 use Rattle.plain_map.specs.declared.calls.Call.{Call}
-use Rattle.plain_map.specs.declared.calls.Call.TheVariants.{Insert, Remove, Lookup}
 use Rattle.plain_map.specs.PlainObject.{Sessions, class_of, class_size, reply_of, map_after}
 pub use Rattle.plain_map.specs.Calls.{key_in}
 

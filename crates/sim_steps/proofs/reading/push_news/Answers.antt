@@ -1,4 +1,4 @@
-use Rattle.std.proofs.Common.{◌≡◌, ℕ, List, [], ◌∷◌, ◌++◌, ◌+◌, ◌-◌, ◌<◌, ◌≤◌, ◌∙◌, length, reverse, ap, sym, arith, append_assoc, length-append}
+use Rattle.std.proofs.Common.{ℕ, List, [], ◌∷◌, ◌++◌, ◌-◌, ◌<◌, ◌≤◌, ◌∙◌, length, reverse, ap, sym, arith, append_assoc, length-append}
 use Rattle.sim_steps.specs.Order.{Entry, news, read_applied}
 use Rattle.sim_steps.proofs.NewsLemmas.{pushed, passed, number_small, room_left}
 use Rattle.sim_steps.proofs.reading.push_news.Goals as goal

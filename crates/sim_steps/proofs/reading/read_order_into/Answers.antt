@@ -1,5 +1,5 @@
-use Rattle.std.proofs.Common.{◌≡◌, ℕ, List, [], ◌+◌, ◌-◌, ◌<◌, ◌^◌, ◌++◌, ◌∙◌, length, reverse, ap, sym, arith}
-use Rattle.sim_steps.specs.Order.{Entry, read_order, read_order_to}
+use Rattle.std.proofs.Common.{◌≡◌, ℕ, [], ◌-◌, ◌<◌, ◌^◌, ◌++◌, ◌∙◌, reverse, ap, sym, arith}
+use Rattle.sim_steps.specs.Order.{read_order, read_order_to}
 use Rattle.sim_steps.proofs.NewsLemmas.{back_order, back_room, back_small, order_end}
 use Rattle.sim_steps.proofs.reading.read_order_into.Goals as goal
 use Rattle.sim_steps.proofs.reading.read_order_into.Goals.{then-rows-test+else-row_word-gt0, else-rows-test}
