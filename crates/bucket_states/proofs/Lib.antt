@@ -9,3 +9,4 @@ mod LocalLemmas
 mod WalkLemmas
 mod FoldLemmas
 mod GoodLemmas
+mod ValueLemmas

@@ -4,3 +4,4 @@ pub mod States
 pub mod Change
 pub mod Parts
 pub mod Laws
+pub mod Values

@@ -14,6 +14,7 @@ ghost use Rattle.bucket_states.specs.Laws.{
   Folds,
   FoldsAlike,
 };
+ghost use Rattle.bucket_states.specs.Values.{StaysSmall};
 
 /// What holds of each answer by a bucket's items.
 ///
@@ -24,12 +25,13 @@ pub fn answer_laws()
     ensures others { OtherPartsStay }
 {}
 
-/// What a change keeps of a bucket: its prefix, all of it where it is frozen, and that it is good.
+/// What a change keeps of a bucket: its prefix, all of it where it is frozen, and that it is good and small.
 pub fn kept_laws()
     ensures prefix { SamePrefix }
     ensures frozen { FrozenStays }
     ensures good { StaysGood }
     ensures full { FrozenIsFull }
+    ensures small { StaysSmall }
 {}
 
 /// Which of the announced calls a change takes: no others, and all that are for the bucket, unless it freezes.

@@ -1,5 +1,5 @@
 -- The calls of packets, one packet further.
-use Rattle.std.proofs.Common.{◌≡◌, ℕ, suc, ◌+◌, List, [], ◌∷◌, ◌++◌, length, Option, Some, None, sym, ◌∙◌, ap, subst, refl, append_assoc, append-nil, arith}
+use Rattle.std.proofs.Common.{◌≡◌, ℕ, suc, ◌+◌, List, [], ◌∷◌, ◌++◌, length, Option, sym, ◌∙◌, ap, subst, refl, append_assoc, append-nil, arith}
 use Rattle.plain_map.specs.declared.calls.Call.{Call}
 use Rattle.trace_runner.specs.PacketCalls.{MakesCall, MakeCalls, numbered}
 

@@ -1,5 +1,5 @@
 -- Which answer a run gives where nothing fails.
-use Rattle.std.proofs.Common.{◌≡◌, ◌≤◌, ◌<◌, ℕ, Bool, true, false, cond, List, length, Option, Result, Ok, Err, sym, ◌∙◌, ap, subst, refl, inl, inr, ◌⊎◌, arith, nat_lt, is_ok}
+use Rattle.std.proofs.Common.{◌≡◌, ◌≤◌, ◌<◌, ℕ, Bool, true, false, cond, List, length, Option, Result, Ok, Err, sym, ◌∙◌, ap, refl, inl, inr, ◌⊎◌, arith, nat_lt, is_ok}
 use Rattle.std.proofs.lemmas.Bool.Decides.{nat_tests}
 use Rattle.pcap_reader.specs.declared.fault.CaptureFault.{CaptureFault}
 use Rattle.pcap_reader.specs.Capture.{Saved, Capture}

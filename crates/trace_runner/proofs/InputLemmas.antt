@@ -1,17 +1,15 @@
 -- How a reader goes through an input's bytes, record by record, and what is served where it ends.
-use Rattle.std.proofs.Common.{◌≡◌, ◌≤◌, ◌<◌, ℕ, suc, ◌+◌, List, [], ◌∷◌, ◌++◌, length, map, take, drop, Option, Some, None, Result, Ok, Err, sym, ◌∙◌, ap, subst, refl, append_assoc, append-nil, length-append, arith, inl, inr}
+use Rattle.std.proofs.Common.{◌≡◌, ℕ, ◌+◌, List, [], ◌∷◌, ◌++◌, length, Option, Some, None, Result, sym, ◌∙◌, ap, subst, refl, append_assoc, length-append, arith, inr}
 use Rattle.std.specs.List.{flat_map, All}
-use Rattle.std.specs.Option.{IsSome, IfSome}
-use Rattle.std.specs.Io.KnownBytes.{Consumes, Keeps, prepend_known}
-use Rattle.std.proofs.lemmas.List.{flat_map_more, map-append, length-map, take-append-le}
+use Rattle.std.specs.Option.{IfSome}
+use Rattle.std.specs.Io.KnownBytes.{Consumes}
+use Rattle.std.proofs.lemmas.List.{flat_map_more}
 use Rattle.std.proofs.lemmas.List.Elements.{All-append, All-cons}
 use Rattle.std.proofs.lemmas.Grind.{common_steps}
 use Rattle.pcap_reader.specs.declared.order.Order.{Order}
 use Rattle.pcap_reader.specs.declared.fault.CaptureFault.{CaptureFault}
-use Rattle.pcap_reader.specs.declared.head.TheConstants.{FILE_HEAD}
-use Rattle.pcap_reader.specs.Capture.{Saved, bytes_of, Capture, HasFileHead, IsSaved, IsCut, IsRemainder, HoldsRecords}
+use Rattle.pcap_reader.specs.Capture.{Saved, bytes_of, Capture, HasFileHead, IsSaved, IsRemainder}
 use Rattle.pcap_reader.specs.Reading.{Reading, GivesRecord, to_come}
-use Rattle.trace_runner.specs.Input.{packets_of}
 use Rattle.trace_runner.specs.Reading.{HasRead}
 
 -- bytes that are told and lose a front are that front and what is told then

@@ -1,11 +1,10 @@
 -- What was read, answered and printed is the report of the packets served.
-use Rattle.std.proofs.Common.{◌≡◌, ℕ, ◌<◌, List, [], ◌++◌, length, map, get_or, Option, Some, IfSome, sym, ap, ◌∙◌, subst, refl}
+use Rattle.std.proofs.Common.{◌≡◌, ℕ, ◌<◌, List, map, Option, Some, IfSome, sym, ap, ◌∙◌, subst}
 use Rattle.std.specs.List.{All, Contains}
 use Rattle.std.specs.FinMap.{empty}
 use Rattle.std.specs.Io.KnownBytes.{Appends}
 use Rattle.std.proofs.lemmas.List.{get_or-map, length-map}
 use Rattle.std.proofs.lemmas.List.Elements.{All-map}
-use Rattle.plain_map.specs.declared.keys.Key.{Key}
 use Rattle.plain_map.specs.declared.calls.Call.{Call}
 use Rattle.plain_map.specs.declared.records.Record.{Record}
 use Rattle.plain_map.specs.declared.rules.Rules.{Rules}
@@ -23,7 +22,7 @@ use Rattle.trace_runner.specs.declared.answers.Answers.{Answers}
 use Rattle.trace_runner.specs.PacketCalls.{MakeCalls}
 use Rattle.trace_runner.specs.Reading.{HasTexts, IsIntake}
 use Rattle.trace_runner.specs.Answering.{AreAnswered, calls_in}
-use Rattle.trace_runner.specs.Headline.{rules_of, run_report, status_of, IsReport, Leaves, Reports}
+use Rattle.trace_runner.specs.Headline.{rules_of, run_report, status_of, Leaves, Reports}
 use Rattle.trace_runner.specs.Printing.{printed_report}
 
 -- what holds of each image holds, of the element, through the map

@@ -1,20 +1,18 @@
 -- Which packets are served of an input, where its reading ends.
-use Rattle.std.proofs.Common.{◌≡◌, ◌≤◌, ◌<◌, ℕ, suc, ◌+◌, List, [], ◌∷◌, ◌++◌, length, map, take, drop, Option, Some, None, Result, Ok, Err, sym, ◌∙◌, ap, subst, refl, append_assoc, length-append, length-take-le, arith, inl, inr, IsSome, IfSome}
-use Rattle.std.specs.List.{flat_map, All}
+use Rattle.std.proofs.Common.{◌≡◌, ◌≤◌, ◌<◌, ℕ, List, [], ◌∷◌, ◌++◌, length, take, drop, Option, Some, None, Ok, Err, sym, ◌∙◌, ap, subst, refl, append_assoc, length-append, length-take-le, arith, inl, inr, IsSome}
+use Rattle.std.specs.List.{flat_map}
 use Rattle.std.specs.Io.KnownBytes.{Keeps, Consumes}
-use Rattle.std.proofs.lemmas.List.{map-append, length-map, take-append-le}
 use Rattle.std.proofs.Math.Seq.{take-append_seam}
-use Rattle.pcap_reader.specs.declared.order.Order.{Order}
 use Rattle.pcap_reader.specs.declared.fault.CaptureFault.{CaptureFault}
 use Rattle.pcap_reader.specs.declared.fault.CaptureFault.TheVariants.{ShortHeader}
 use Rattle.pcap_reader.specs.declared.head.TheConstants.{FILE_HEAD}
-use Rattle.pcap_reader.specs.Capture.{Saved, bytes_of, Capture, HasFileHead, IsSaved, IsCut, IsRemainder, ShowsFault}
+use Rattle.pcap_reader.specs.Capture.{Saved, bytes_of, Capture, HasFileHead, IsCut, ShowsFault}
 use Rattle.pcap_reader.specs.Laws.{BeginsWith, HasCapture, HoldsFront}
 use Rattle.pcap_reader.specs.Reading.{Reading, GivesRecord, to_come}
 use Rattle.report_text.specs.declared.parts.Ending.{Ending}
 use Rattle.report_text.specs.declared.parts.Ending.TheVariants.{Done, ReadFault, Limit, Fault}
 use Rattle.trace_runner.specs.declared.intake.TheConstants.{PACKET_LIMIT}
-use Rattle.trace_runner.specs.Input.{HoldsPackets, HoldsMore, HoldsTaken, Serves, packets_of}
+use Rattle.trace_runner.specs.Input.{HoldsTaken, Serves, packets_of}
 use Rattle.trace_runner.specs.Reading.{HasRead, MeetsEnding}
 use Rattle.trace_runner.proofs.InputLemmas.{HasRead-next, HasRead-ends}
 use Rattle.trace_runner.proofs.TakenLemmas.{HasFileHead-front, taken_of, drop-taken_of, taken_of-whole}

@@ -1,13 +1,13 @@
 -- What was taken of an input shows the head and the records that the whole input shows.
-use Rattle.std.proofs.Common.{◌≡◌, ◌≤◌, ℕ, ◌+◌, ◌-◌, ◌%◌, ◌^◌, List, ◌++◌, length, take, drop, sym, ◌∙◌, ap, subst, ◌⊎◌, append_assoc, length-append, length-drop, length-take-le, take-append-drop, arith}
-use Rattle.std.specs.List.{flat_map, All}
+use Rattle.std.proofs.Common.{◌≡◌, ◌≤◌, ℕ, ◌+◌, ◌%◌, ◌^◌, List, ◌++◌, length, take, drop, sym, ◌∙◌, ap, subst, ◌⊎◌, append_assoc, length-drop, length-take-le, take-append-drop, arith}
+use Rattle.std.specs.List.{flat_map}
 use Rattle.std.proofs.lemmas.List.{drop-append-le, take-append-le}
 use Rattle.std.proofs.Math.Seq.{drop-append_seam}
 use Rattle.byteorder.specs.Numbers.{big_from-append, little_from-append}
 use Rattle.pcap_reader.specs.declared.order.Order.{Order}
 use Rattle.pcap_reader.specs.declared.order.Order.TheVariants.{Little, Big}
 use Rattle.pcap_reader.specs.declared.head.TheConstants.{FILE_HEAD, MICROSECONDS, NANOSECONDS}
-use Rattle.pcap_reader.specs.Capture.{Saved, bytes_of, number, spelling, HasFileHead, IsSaved, IsWrittenIn}
+use Rattle.pcap_reader.specs.Capture.{Saved, bytes_of, number, spelling, HasFileHead}
 
 -- a number that lies in the front
 number_at : (order : Order) (k n : ℕ) (front rest : List ℕ) → k + n ≤ length front → number order n (drop k front) ≡ number order n (drop k (front ++ rest))

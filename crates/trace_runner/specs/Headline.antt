@@ -1,8 +1,7 @@
 -- What a run prints, and so what its user may rely on.
-use Rattle.std.specs.Prelude.{◌≡◌, ℕ, ◌-◌, List, [], ◌∷◌, ◌++◌, length, map, false, nat_lt, if◌then◌else◌, is_ok, Option, Some, Result}
+use Rattle.std.specs.Prelude.{◌≡◌, ℕ, ◌-◌, List, [], ◌∷◌, ◌++◌, length, map, false, nat_lt, if◌then◌else◌, is_ok, Option, Result}
 use Rattle.std.specs.FinMap.{empty}
 use Rattle.std.specs.Io.KnownBytes.{Appends, Keeps}
-use Rattle.plain_map.specs.declared.calls.Call.{Call}
 use Rattle.plain_map.specs.declared.records.Record.{Record}
 use Rattle.plain_map.specs.declared.rules.Rules.{Rules}
 use Rattle.plain_map.specs.History.{Placed, Legal, After, Whole, InTurn, ids_of, sessions_after}
@@ -15,7 +14,7 @@ use Rattle.report_text.specs.declared.parts.Head.{Head}
 use Rattle.report_text.specs.declared.parts.Tail.{Tail}
 use Rattle.report_text.specs.declared.parts.Ending.{Ending}
 use Rattle.report_text.specs.declared.parts.Ending.TheVariants.{Done, ReadFault, Limit, Fault}
-use Rattle.report_text.specs.Report.{Batch, Report, report_of}
+use Rattle.report_text.specs.Report.{Report, report_of}
 use Rattle.trace_runner.specs.declared.plan.Plan.{Plan}
 use Rattle.trace_runner.specs.declared.intake.TheConstants.{PACKET_LIMIT}
 use Rattle.trace_runner.specs.declared.status.Status.{Status}

@@ -1,6 +1,6 @@
 -- How far the reading of an input has come.
-use Rattle.std.specs.Prelude.{◌≡◌, ℕ, ◌+◌, ◌≤◌, List, [], ◌++◌, length, drop, flat_map, All, Option, Some, None, IfSome, IsSome, Result, Ok, Err}
-use Rattle.std.specs.Io.KnownBytes.{Keeps, IsAtEnd}
+use Rattle.std.specs.Prelude.{◌≡◌, ℕ, ◌+◌, List, [], ◌++◌, length, drop, flat_map, All, Option, Some, IfSome, IsSome, Result, Ok, Err}
+use Rattle.std.specs.Io.KnownBytes.{Keeps}
 use Rattle.pcap_reader.specs.declared.head.TheConstants.{FILE_HEAD}
 use Rattle.pcap_reader.specs.Capture.{Saved, bytes_of, HasFileHead, IsSaved, IsCut, IsRemainder}
 use Rattle.pcap_reader.specs.Reading.{Reading, to_come}
@@ -12,7 +12,7 @@ use Rattle.plain_map.specs.Calls.{key_in}
 use Rattle.flow_keys.specs.FlowText.{HasText}
 use Rattle.pcap_reader.specs.declared.fault.CaptureFault.{CaptureFault}
 use Rattle.trace_runner.specs.PacketCalls.{MakeCalls, MakesCall, numbered}
-use Rattle.trace_runner.specs.Input.{Serves, packets_of}
+use Rattle.trace_runner.specs.Input.{Serves}
 
 -- the bytes still to come are a remainder with this ending
 abbrev pub EndsWith : Reading → Option (List ℕ) → Result ℕ CaptureFault → Type 0

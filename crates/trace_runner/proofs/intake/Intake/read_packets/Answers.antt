@@ -1,5 +1,5 @@
 -- The loop's facts say what was read so far; the lemmas say what one packet more, or an ending, makes of it.
-use Rattle.std.proofs.Common.{◌≡◌, ◌≤◌, ◌+◌, List, length, ◌∙◌, ap, sym, arith}
+use Rattle.std.proofs.Common.{◌≡◌, ◌+◌, length, ◌∙◌, ap, sym, arith}
 use Rattle.std.proofs.lemmas.List.{length-map}
 use Rattle.trace_runner.specs.Input.{packets_of}
 use Rattle.trace_runner.proofs.ServingLemmas.{Serves-ended, Serves-limit}

@@ -1,0 +1,118 @@
+-- What a bucket holds stays small.
+use Rattle.std.proofs.Common.{◌≡◌, ℕ, suc, ◌+◌, ◌^◌, ◌<◌, ◌≤◌, ◌⊎◌, inl, inr, Bool, true, false, cond, List, [], ◌∷◌, length, Option, Some, None, refl, sym, subst, arith}
+use Rattle.std.specs.List.{All}
+use Rattle.std.specs.Option.{option_map_or}
+use Rattle.std.proofs.lemmas.List.{get_or-set_same, get_or-set_other}
+use Rattle.std.proofs.lemmas.List.Elements.{All-cons, All-head, All-tail, All-push}
+use Rattle.std.proofs.lemmas.Bool.{cases_eq}
+use Rattle.plain_map.specs.declared.keys.Key.{Key}
+use Rattle.plain_map.specs.declared.keys.Pair.{Pair}
+use Rattle.plain_map.specs.declared.rules.Rules.{Rules}
+use Rattle.plain_map.specs.declared.calls.Call.{Call}
+use Rattle.plain_map.specs.declared.calls.Call.TheVariants.{Insert, Remove, Lookup}
+use Rattle.plain_map.specs.declared.calls.Reply.TheVariants.{Gone, Absent}
+use Rattle.plain_map.specs.PlainObject.{insert_reply}
+use Rattle.bucket_states.specs.declared.ops.Op.{Op}
+use Rattle.bucket_states.specs.Items.{same_key, value_at, without, has_place, appended, reply_in, items_after}
+use Rattle.bucket_states.specs.States.{BucketState}
+use Rattle.bucket_states.specs.Change.{answered, after_op, after_seats, change}
+use Rattle.bucket_states.specs.Laws.{applied_of, reply_at}
+use Rattle.bucket_states.specs.Values.{IsUpdate, IsUpdateReply, AreUpdates, IsSmall, StaysSmall}
+use Rattle.bucket_states.proofs.StepLemmas.{Outcome, stayed, skipped, froze, took, outcome}
+use Rattle.bucket_states.proofs.WalkLemmas.{KeepsShape-after_seat}
+
+abbrev Small : Pair → Type 0
+Small item = item.value < 2 ^ 61
+
+-- a value that is held is small
+held_small : (key : Key) (items : List Pair) (held : ℕ) → All Small items → value_at key items ≡ Some held → held < 2 ^ 61
+held_small key [] held small is = cc
+held_small key (pair ∷ pairs) held small is =
+    by_test (same_key pair.key key) is (λ later. held_small key pairs held (All-tail Small pair pairs small) later)
+  where
+    by_test : (b : Bool) → cond b (Some pair.value) (value_at key pairs) ≡ Some held → (value_at key pairs ≡ Some held → held < 2 ^ 61) → held < 2 ^ 61
+    by_test true is rest =
+        let same : pair.value ≡ held = cc in
+        subst (λ (n : ℕ). n < 2 ^ 61) same (All-head Small pair pairs small)
+    by_test false is rest = rest is
+
+-- the items but one are small
+without_small : (key : Key) (items : List Pair) → All Small items → All Small (without key items)
+without_small key [] small = small
+without_small key (pair ∷ pairs) small = by_test (same_key pair.key key) (without_small key pairs (All-tail Small pair pairs small))
+  where
+    by_test : (b : Bool) → All Small (without key pairs) → All Small (cond b pairs (pair ∷ without key pairs))
+    by_test true rest = All-tail Small pair pairs small
+    by_test false rest = All-cons Small pair (without key pairs) (All-head Small pair pairs small) rest
+
+module _ (rules : Rules) (items : List Pair) (small : All Small items) where
+  appended_small : (pair : Pair) → Small pair → (o : Option ℕ) (b : Bool) → All Small (appended items pair o b)
+  appended_small pair fits (Some held) b = small
+  appended_small pair fits None true = All-push Small items pair small fits
+  appended_small pair fits None false = small
+
+  items_small : (call : Call) → IsUpdate call → All Small (items_after rules items call)
+  unfolding items_after
+  items_small (Insert key value) update = appended_small (record { key = key; value = value }) update (value_at key items) (has_place rules items)
+  items_small (Remove key) update = without_small key items small
+  items_small (Lookup key) update = small
+
+  inserts_small : (key : Key) (o : Option ℕ) (b : Bool) → value_at key items ≡ o → IsUpdateReply (Some (insert_reply o b))
+  inserts_small key (Some held) b is = held_small key items held small is
+  inserts_small key None true is = tt
+  inserts_small key None false is = tt
+
+  removes_small : (key : Key) (o : Option ℕ) → value_at key items ≡ o → IsUpdateReply (Some (option_map_or Gone o Absent))
+  removes_small key (Some held) is = held_small key items held small is
+  removes_small key None is = tt
+
+  reply_small : (call : Call) → IsUpdate call → IsUpdateReply (Some (reply_in rules items call))
+  unfolding reply_in
+  reply_small (Insert key value) update = inserts_small key (value_at key items) (has_place rules items) refl
+  reply_small (Remove key) update = removes_small key (value_at key items) refl
+  reply_small (Lookup key) update = absurd update
+
+module _ (rules : Rules) where
+  took_small : (seat : ℕ) (op : Op) (bucket : BucketState) → seat < length bucket.applied → seat < length bucket.replies → IsUpdate op.call → op.number < 2 ^ 32 → IsSmall bucket
+      → IsSmall (answered rules bucket seat op)
+  took_small seat op bucket at at_too update few small = record {
+    values = items_small rules bucket.items small.values op.call update;
+    numbers = λ q. number q (cases_eq q seat);
+    replies = λ q. reply q (cases_eq q seat);
+  }
+    where
+      number : (q : ℕ) → (q ≡ seat) ⊎ (q ≡ seat → ⊥) → applied_of (answered rules bucket seat op) q < 2 ^ 32
+      number q (inl same) =
+          subst (λ (k : ℕ). applied_of (answered rules bucket seat op) k < 2 ^ 32) (sym same) (subst (λ (n : ℕ). n < 2 ^ 32) (sym (get_or-set_same bucket.applied seat op.number 0 at)) few)
+      number q (inr other) = subst (λ (n : ℕ). n < 2 ^ 32) (sym (get_or-set_other bucket.applied seat q op.number 0 other)) (small.numbers q)
+
+      reply : (q : ℕ) → (q ≡ seat) ⊎ (q ≡ seat → ⊥) → IsUpdateReply (reply_at (answered rules bucket seat op) q)
+      reply q (inl same) =
+          subst (λ (k : ℕ). IsUpdateReply (reply_at (answered rules bucket seat op) k)) (sym same)
+          (subst IsUpdateReply (sym (get_or-set_same bucket.replies seat (Some (reply_in rules bucket.items op.call)) None at_too)) (reply_small rules bucket.items small.values op.call update))
+      reply q (inr other) = subst IsUpdateReply (sym (get_or-set_other bucket.replies seat q (Some (reply_in rules bucket.items op.call)) None other)) (small.replies q)
+
+  after_op_small : (seat : ℕ) (op : Op) (bucket : BucketState) → seat < length bucket.applied → seat < length bucket.replies → IsUpdate op.call → op.number < 2 ^ 32 → IsSmall bucket
+      → IsSmall (after_op rules seat op bucket)
+  after_op_small seat op bucket at at_too update few small = by (outcome rules seat op bucket)
+    where
+      by : Outcome rules seat op bucket → IsSmall (after_op rules seat op bucket)
+      by (stayed is _) = subst IsSmall (sym is) small
+      by (skipped is _) = subst IsSmall (sym is) small
+      by (froze is _ _ _) = subst IsSmall (sym is) (record { values = small.values; numbers = small.numbers; replies = small.replies })
+      by (took is _ _ _) = subst IsSmall (sym is) (took_small seat op bucket at at_too update few small)
+
+  walk-small : (seat : ℕ) (ops : List (Option Op)) (bucket : BucketState) → seat + length ops ≤ length bucket.applied → seat + length ops ≤ length bucket.replies
+      → AreUpdates ops → IsSmall bucket → IsSmall (after_seats rules seat ops bucket)
+  walk-small seat [] bucket fit fit_too updates small = small
+  walk-small seat (None ∷ ops) bucket fit fit_too updates small = walk-small (suc seat) ops bucket (omega arith) (omega arith) (λ q. updates (suc q)) small
+  walk-small seat (Some op ∷ ops) bucket fit fit_too updates small =
+      let update = updates 0 op refl in
+      let shape = KeepsShape-after_seat rules seat (Some op) bucket in
+      walk-small (suc seat) ops (after_op rules seat op bucket) (omega (arith, shape.applied)) (omega (arith, shape.replies)) (λ q. updates (suc q))
+      (after_op_small seat op bucket (omega arith) (omega arith) update.0 update.1 small)
+
+-- what a bucket holds stays small
+pub stays_small : StaysSmall
+unfolding change
+stays_small rules ops bucket seats updates small = walk-small rules 0 ops bucket (omega (arith, seats.0)) (omega (arith, seats.1)) updates small

@@ -1,0 +1,6 @@
+pub mod Lists
+pub mod Moves
+pub mod Calls
+pub mod Parts
+pub mod Gathering
+pub mod Closed

@@ -1,0 +1,14 @@
+//! Totals on one root: three classes of packets, counted by adders that share atomic words.
+#![tactic(auto)]
+
+mod adder;
+mod rule;
+mod steps;
+mod table;
+#[cfg(test)]
+mod tests;
+mod view;
+
+pub use adder::Adder;
+pub use sim_steps::{Add, Added, Totals};
+pub use table::{ClosedTotals, TotalsTable};
