@@ -73,6 +73,7 @@ Reports-printed plan bytes left intake answers text after whole read given held 
           legal = given.legal;
           after = after records given.in_turn;
           whole = whole records;
+          no_steps = given.no_steps;
         },
         printed ∙ ap (λ (sessions : Sessions). report intake.packets sessions) held
             ∙ ap (λ (packets : ℕ). report packets (sessions_after (rules_of plan) empty order)) (sym read.3),

@@ -1,5 +1,5 @@
 -- Calls that the plain map answers one after the other, with one caller.
-use Rattle.std.specs.Prelude.{◌≡◌, ℕ, List, map}
+use Rattle.std.specs.Prelude.{◌≡◌, ℕ, List, map, All}
 use Rattle.std.specs.FinMap.{empty}
 use Rattle.plain_map.specs.declared.calls.Call.{Call}
 use Rattle.plain_map.specs.declared.records.Record.{Record}
@@ -15,3 +15,5 @@ pub record AreAnswered (rules : Rules) (calls : List (ℕ × Call)) (records : L
   pub each : calls_in records ≡ calls
   pub in_turn : InTurn 1 records
   pub legal : Legal rules empty (map answered records)
+  -- on the plain map a call takes no atomic step
+  pub no_steps : All (λ r. r.steps ≡ 0) records

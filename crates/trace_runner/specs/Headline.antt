@@ -1,5 +1,5 @@
 -- What a run prints, and so what its user may rely on.
-use Rattle.std.specs.Prelude.{◌≡◌, ℕ, ◌-◌, List, [], ◌∷◌, ◌++◌, length, map, false, nat_lt, if◌then◌else◌, is_ok, Option, Result}
+use Rattle.std.specs.Prelude.{◌≡◌, ℕ, ◌-◌, List, [], ◌∷◌, ◌++◌, length, map, false, nat_lt, if◌then◌else◌, is_ok, Option, Result, All}
 use Rattle.std.specs.FinMap.{empty}
 use Rattle.std.specs.Io.KnownBytes.{Appends, Keeps}
 use Rattle.plain_map.specs.declared.records.Record.{Record}
@@ -34,6 +34,7 @@ pub record IsServed (rules : Rules) (packets : List (List ℕ)) (records : List 
   pub legal : Legal rules empty order
   pub after : After order
   pub whole : Whole records [] order
+  pub no_steps : All (λ r. r.steps ≡ 0) records
 
 -- what the head line tells; a table starts at its greatest depth
 abbrev pub head_of : Plan → Head

@@ -60,6 +60,7 @@ fn record_of(number: u32, packet: u32, call: Call, reply: Reply) -> Record
     ensures turn { IsTurn number result }
     ensures asked { (result.packet ≡ packet) × (result.call ≡ call) }
     ensures answered { result.reply ≡ reply }
+    ensures no_steps { result.steps ≡ 0 }
 {
     Record {
         seat: ONLY_SEAT,

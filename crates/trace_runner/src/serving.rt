@@ -50,6 +50,9 @@ pub fn run<R: Threads + Sync, S: Source, K: Sink, G: Gate + Sync>(
     ensures unread { result ≡ Status.Usage → source.new ≡ source.old }
     ensures unwritten { result ≡ Status.Usage → sink.new ≡ sink.old }
 
+    // Memory ran out before anything was put.
+    ensures memory { result ≡ Status.Memory → sink.new ≡ sink.old }
+
     // A device failed.
     ensures read_fault { result ≡ Status.ReadFault → Rose (S.faults source.old) (S.faults source.new) }
     ensures write_fault { result ≡ Status.WriteFault → Rose (K.faults sink.old) (K.faults sink.new) }
@@ -80,7 +83,8 @@ fn serve<S: Source, K: Sink, G: Gate>(
     ensures memory { OnErr result (sink.new ≡ sink.old) }
     ensures read_fault { result ≡ Ok Status.ReadFault → Rose (S.faults source.old) (S.faults source.new) }
     ensures write_fault { result ≡ Ok Status.WriteFault → Rose (K.faults sink.old) (K.faults sink.new) }
-    ensures no_usage { (result ≡ Ok Status.Usage → ⊥) }
+    ensures no_usage { result ≡ Ok Status.Usage → ⊥ }
+    ensures no_memory { result ≡ Ok Status.Memory → ⊥ }
     ensures counted { (S.faults source.old ≤ S.faults source.new) × (K.faults sink.old ≤ K.faults sink.new) }
 {
     session_laws();

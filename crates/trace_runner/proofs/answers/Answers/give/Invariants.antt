@@ -1,4 +1,5 @@
 use Rattle.std.proofs.Common.{◌≡◌, take, map, vec_len}
+use Rattle.std.specs.List.{All}
 use Rattle.std.specs.FinMap.{empty}
 use Rattle.plain_map.specs.History.{answered, InTurn, Legal, sessions_after}
 use Rattle.trace_runner.specs.Answering.{calls_in}
@@ -11,5 +12,6 @@ invariant-loop-packet g l = record {
   asked : calls_in l.records.items ≡ take l.packet-index l.calls;
   turns : InTurn 1 l.records.items;
   legal : Legal l.rules empty (map answered l.records.items);
+  no_steps : All (λ r. r.steps ≡ 0) l.records.items;
   held : l.map ≡ sessions_after l.rules empty (map answered l.records.items);
 }
