@@ -1,0 +1,3 @@
+mod Plays
+mod WorkedRows
+mod RarePaths

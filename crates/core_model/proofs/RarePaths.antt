@@ -1,0 +1,387 @@
+-- Schedules of two seats that reach each rare path, computed from the definitions: steps, kinds of replies, order, leaves
+-- and depth. Ports 1 and 2 have the first hash bits 000, 16385 has 010, 32769 and 32770 have 100, 40961 has 101 and 49153
+-- has 110. Packet 10 s + i is call i of seat s.
+use Rattle.std.proofs.Common.{◌≡◌, refl, [], ◌∷◌, map, arith}
+use Rattle.step_counts.specs.declared.settings.Settings.{Settings}
+use Rattle.step_counts.specs.StepCounts.{automatic_rows_of}
+use Rattle.hash_bits.specs.Hashing.{hash_of}
+use Rattle.hash_bits.specs.Spread.{spread}
+use Rattle.hash_bits.specs.Prefix.{first_bits}
+use Rattle.hash_bits.specs.declared.hashing.Hashing.TheVariants.{Ports}
+use Rattle.plain_map.specs.declared.calls.Call.TheVariants.{Insert, Remove}
+use Rattle.word_rows.specs.Shape.{number_after}
+use Rattle.word_rows.specs.Blocks.{blocks}
+use Rattle.bucket_states.specs.Items.{prefix_of, reply_in, items_after, overflows}
+use Rattle.bucket_states.specs.Change.{after_op, change}
+use Rattle.plain_map.specs.PlainObject.{class_of}
+use Rattle.core_model.specs.Setup.{Setup, next_number}
+use Rattle.core_model.specs.Leaves.{half, split, apply}
+use Rattle.core_model.specs.DirectoryChange.{change_leaves, with_leaves}
+use Rattle.core_model.specs.Opening.{opening_leaves}
+use Rattle.core_model.specs.Worlds.{opening_words}
+use Rattle.core_model.specs.Stores.{directory_puts}
+use Rattle.core_model.specs.Order.{placing_of}
+use Rattle.core_model.proofs.Plays.{key, played, brief}
+
+abbrev third_look_shows_applied_settings : Settings
+third_look_shows_applied_settings = record {
+  seats = 2;
+  items = 2;
+  depth = 1;
+  start = 1;
+  seats_in_range = (omega arith, omega arith);
+  items_in_range = (omega arith, omega arith);
+  depth_in_range = (omega arith, omega arith);
+  start_in_range = (omega arith, omega arith);
+}
+
+abbrev third_look_shows_applied_setup : Setup
+third_look_shows_applied_setup = record {
+  shape = record {
+    settings = third_look_shows_applied_settings;
+    ranges = map (automatic_rows_of third_look_shows_applied_settings) (1 ∷ 2 ∷ []);
+  };
+  hashing = Ports 0;
+  first = [];
+}
+
+-- two lost bucket exchanges, the third load shows the op applied
+third_look_shows_applied :
+    brief third_look_shows_applied_setup
+    (played third_look_shows_applied_setup
+    (((1, Insert (key 2) 1) ∷ []) ∷ ((11, Insert (key 1) 11) ∷ (12, Remove (key 1)) ∷ []) ∷ [])
+    ((1, 49) ∷ (0, 54) ∷ (1, 9) ∷ (0, 44) ∷ (1, 48) ∷ (0, 17) ∷ (0, 1) ∷ (1, 1) ∷ []))
+    ≡ (116 ∷ 51 ∷ 56 ∷ [], 1 ∷ 1 ∷ 4 ∷ [], 11 ∷ 1 ∷ 12 ∷ [], 2, 1, 0)
+unfolding class_of opening_words number_after blocks next_number half split apply change_leaves with_leaves opening_leaves directory_puts placing_of
+    prefix_of reply_in items_after overflows after_op change first_bits hash_of spread
+third_look_shows_applied = refl
+
+abbrev third_look_shows_frozen_settings : Settings
+third_look_shows_frozen_settings = record {
+  seats = 2;
+  items = 1;
+  depth = 1;
+  start = 0;
+  seats_in_range = (omega arith, omega arith);
+  items_in_range = (omega arith, omega arith);
+  depth_in_range = (omega arith, omega arith);
+  start_in_range = (omega arith, omega arith);
+}
+
+abbrev third_look_shows_frozen_setup : Setup
+third_look_shows_frozen_setup = record {
+  shape = record {
+    settings = third_look_shows_frozen_settings;
+    ranges = map (automatic_rows_of third_look_shows_frozen_settings) (3 ∷ 1 ∷ []);
+  };
+  hashing = Ports 0;
+  first = [];
+}
+
+-- two lost bucket exchanges, the third load shows the bucket frozen without the op
+third_look_shows_frozen :
+    brief third_look_shows_frozen_setup
+    (played third_look_shows_frozen_setup
+    (((1, Insert (key 1) 1) ∷ (2, Remove (key 1)) ∷ (3, Insert (key 32769) 3) ∷ []) ∷ ((11, Insert (key 2) 11) ∷ []) ∷ [])
+    ((0, 88) ∷ (1, 48) ∷ (0, 9) ∷ (1, 38) ∷ (0, 42) ∷ (1, 14) ∷ (0, 1) ∷ (1, 60) ∷ []))
+    ≡ (45 ∷ 45 ∷ 50 ∷ 160 ∷ [], 1 ∷ 4 ∷ 1 ∷ 1 ∷ [], 1 ∷ 2 ∷ 3 ∷ 11 ∷ [], 2, 1, 0)
+unfolding class_of opening_words number_after blocks next_number half split apply change_leaves with_leaves opening_leaves directory_puts placing_of
+    prefix_of reply_in items_after overflows after_op change first_bits hash_of spread
+third_look_shows_frozen = refl
+
+abbrev helpers_change_applies_settings : Settings
+helpers_change_applies_settings = record {
+  seats = 2;
+  items = 1;
+  depth = 1;
+  start = 0;
+  seats_in_range = (omega arith, omega arith);
+  items_in_range = (omega arith, omega arith);
+  depth_in_range = (omega arith, omega arith);
+  start_in_range = (omega arith, omega arith);
+}
+
+abbrev helpers_change_applies_setup : Setup
+helpers_change_applies_setup = record {
+  shape = record {
+    settings = helpers_change_applies_settings;
+    ranges = map (automatic_rows_of helpers_change_applies_settings) (1 ∷ 2 ∷ []);
+  };
+  hashing = Ports 0;
+  first = [];
+}
+
+-- the second load shows the bucket frozen, a helper's change applies the op
+helpers_change_applies :
+    brief helpers_change_applies_setup
+    (played helpers_change_applies_setup
+    (((1, Insert (key 2) 1) ∷ []) ∷ ((11, Insert (key 1) 11) ∷ (12, Insert (key 32769) 12) ∷ []) ∷ [])
+    ((1, 43) ∷ (0, 49) ∷ (1, 14) ∷ (0, 1) ∷ (1, 110) ∷ []))
+    ≡ (50 ∷ 117 ∷ 50 ∷ [], 1 ∷ 3 ∷ 1 ∷ [], 1 ∷ 11 ∷ 12 ∷ [], 2, 1, 0)
+unfolding class_of opening_words number_after blocks next_number half split apply change_leaves with_leaves opening_leaves directory_puts placing_of
+    prefix_of reply_in items_after overflows after_op change first_bits hash_of spread
+helpers_change_applies = refl
+
+abbrev second_round_finds_applied_settings : Settings
+second_round_finds_applied_settings = record {
+  seats = 2;
+  items = 1;
+  depth = 2;
+  start = 0;
+  seats_in_range = (omega arith, omega arith);
+  items_in_range = (omega arith, omega arith);
+  depth_in_range = (omega arith, omega arith);
+  start_in_range = (omega arith, omega arith);
+}
+
+abbrev second_round_finds_applied_setup : Setup
+second_round_finds_applied_setup = record {
+  shape = record {
+    settings = second_round_finds_applied_settings;
+    ranges = map (automatic_rows_of second_round_finds_applied_settings) (2 ∷ 1 ∷ []);
+  };
+  hashing = Ports 0;
+  first = [];
+}
+
+-- round 1 left at its first root load, round 2 finds the op applied
+second_round_finds_applied :
+    brief second_round_finds_applied_setup
+    (played second_round_finds_applied_setup
+    (((1, Insert (key 1) 1) ∷ (2, Insert (key 32769) 2) ∷ []) ∷ ((11, Insert (key 2) 11) ∷ []) ∷ [])
+    ((0, 89) ∷ (1, 98) ∷ (0, 6) ∷ (0, 17) ∷ (1, 1) ∷ []))
+    ≡ (45 ∷ 67 ∷ 99 ∷ [], 1 ∷ 1 ∷ 3 ∷ [], 1 ∷ 2 ∷ 11 ∷ [], 3, 2, 0)
+unfolding class_of opening_words number_after blocks next_number half split apply change_leaves with_leaves opening_leaves directory_puts placing_of
+    prefix_of reply_in items_after overflows after_op change first_bits hash_of spread
+second_round_finds_applied = refl
+
+abbrev second_root_leaves_round_settings : Settings
+second_root_leaves_round_settings = record {
+  seats = 2;
+  items = 1;
+  depth = 3;
+  start = 1;
+  seats_in_range = (omega arith, omega arith);
+  items_in_range = (omega arith, omega arith);
+  depth_in_range = (omega arith, omega arith);
+  start_in_range = (omega arith, omega arith);
+}
+
+abbrev second_root_leaves_round_setup : Setup
+second_root_leaves_round_setup = record {
+  shape = record {
+    settings = second_root_leaves_round_settings;
+    ranges = map (automatic_rows_of second_root_leaves_round_settings) (2 ∷ 3 ∷ []);
+  };
+  hashing = Ports 0;
+  first = [];
+}
+
+-- a lost root exchange, the second root load leaves the round
+second_root_leaves_round :
+    brief second_root_leaves_round_setup
+    (played second_root_leaves_round_setup
+    (((1, Insert (key 1) 1) ∷ (2, Insert (key 2) 2) ∷ []) ∷ ((11, Insert (key 32769) 11) ∷ (12, Insert (key 49153) 12) ∷ (13, Insert (key 40961) 13) ∷ []) ∷ [])
+    ((1, 145) ∷ (0, 217) ∷ (1, 11) ∷ (0, 1) ∷ (1, 152) ∷ []))
+    ≡ (50 ∷ 168 ∷ 45 ∷ 128 ∷ 135 ∷ [], 1 ∷ 3 ∷ 1 ∷ 1 ∷ 1 ∷ [], 11 ∷ 1 ∷ 2 ∷ 12 ∷ 13 ∷ [], 6, 3, 0)
+unfolding class_of opening_words number_after blocks next_number half split apply change_leaves with_leaves opening_leaves directory_puts placing_of
+    prefix_of reply_in items_after overflows after_op change first_bits hash_of spread
+second_root_leaves_round = refl
+
+abbrev second_root_exchange_happens_settings : Settings
+second_root_exchange_happens_settings = record {
+  seats = 2;
+  items = 1;
+  depth = 3;
+  start = 1;
+  seats_in_range = (omega arith, omega arith);
+  items_in_range = (omega arith, omega arith);
+  depth_in_range = (omega arith, omega arith);
+  start_in_range = (omega arith, omega arith);
+}
+
+abbrev second_root_exchange_happens_setup : Setup
+second_root_exchange_happens_setup = record {
+  shape = record {
+    settings = second_root_exchange_happens_settings;
+    ranges = map (automatic_rows_of second_root_exchange_happens_settings) (2 ∷ 3 ∷ []);
+  };
+  hashing = Ports 0;
+  first = [];
+}
+
+-- a lost root exchange, the second one happens
+second_root_exchange_happens :
+    brief second_root_exchange_happens_setup
+    (played second_root_exchange_happens_setup
+    (((1, Insert (key 1) 1) ∷ (2, Insert (key 2) 2) ∷ []) ∷ ((11, Insert (key 32769) 11) ∷ (12, Insert (key 49153) 12) ∷ (13, Insert (key 40961) 13) ∷ []) ∷ [])
+    ((1, 145) ∷ (0, 216) ∷ (1, 1) ∷ (0, 95) ∷ (0, 1) ∷ (1, 136) ∷ []))
+    ≡ (50 ∷ 262 ∷ 45 ∷ 102 ∷ 135 ∷ [], 1 ∷ 3 ∷ 1 ∷ 1 ∷ 1 ∷ [], 11 ∷ 1 ∷ 12 ∷ 2 ∷ 13 ∷ [], 6, 3, 0)
+unfolding class_of opening_words number_after blocks next_number half split apply change_leaves with_leaves opening_leaves directory_puts placing_of
+    prefix_of reply_in items_after overflows after_op change first_bits hash_of spread
+second_root_exchange_happens = refl
+
+abbrev two_lost_root_exchanges_settings : Settings
+two_lost_root_exchanges_settings = record {
+  seats = 2;
+  items = 1;
+  depth = 3;
+  start = 1;
+  seats_in_range = (omega arith, omega arith);
+  items_in_range = (omega arith, omega arith);
+  depth_in_range = (omega arith, omega arith);
+  start_in_range = (omega arith, omega arith);
+}
+
+abbrev two_lost_root_exchanges_setup : Setup
+two_lost_root_exchanges_setup = record {
+  shape = record {
+    settings = two_lost_root_exchanges_settings;
+    ranges = map (automatic_rows_of two_lost_root_exchanges_settings) (2 ∷ 3 ∷ []);
+  };
+  hashing = Ports 0;
+  first = [];
+}
+
+-- two lost root exchanges in one round
+two_lost_root_exchanges :
+    brief two_lost_root_exchanges_setup
+    (played two_lost_root_exchanges_setup
+    (((1, Insert (key 1) 1) ∷ (2, Insert (key 2) 2) ∷ []) ∷ ((11, Insert (key 32769) 11) ∷ (12, Insert (key 49153) 12) ∷ (13, Insert (key 40961) 13) ∷ []) ∷ [])
+    ((1, 145) ∷ (0, 216) ∷ (1, 9) ∷ (0, 94) ∷ (1, 162) ∷ (0, 1) ∷ (0, 17) ∷ (1, 1) ∷ []))
+    ≡ (50 ∷ 278 ∷ 45 ∷ 102 ∷ 170 ∷ [], 1 ∷ 3 ∷ 1 ∷ 1 ∷ 1 ∷ [], 11 ∷ 1 ∷ 12 ∷ 2 ∷ 13 ∷ [], 6, 3, 0)
+unfolding class_of opening_words number_after blocks next_number half split apply change_leaves with_leaves opening_leaves directory_puts placing_of
+    prefix_of reply_in items_after overflows after_op change first_bits hash_of spread
+two_lost_root_exchanges = refl
+
+abbrev last_look_shows_applied_settings : Settings
+last_look_shows_applied_settings = record {
+  seats = 2;
+  items = 1;
+  depth = 2;
+  start = 0;
+  seats_in_range = (omega arith, omega arith);
+  items_in_range = (omega arith, omega arith);
+  depth_in_range = (omega arith, omega arith);
+  start_in_range = (omega arith, omega arith);
+}
+
+abbrev last_look_shows_applied_setup : Setup
+last_look_shows_applied_setup = record {
+  shape = record {
+    settings = last_look_shows_applied_settings;
+    ranges = map (automatic_rows_of last_look_shows_applied_settings) (3 ∷ 1 ∷ []);
+  };
+  hashing = Ports 0;
+  first = [];
+}
+
+-- the last find and read
+last_look_shows_applied :
+    brief last_look_shows_applied_setup
+    (played last_look_shows_applied_setup
+    (((1, Insert (key 1) 1) ∷ (2, Insert (key 32769) 2) ∷ (3, Insert (key 16385) 3) ∷ []) ∷ ((11, Insert (key 2) 11) ∷ []) ∷ [])
+    ((0, 142) ∷ (1, 24) ∷ (0, 13) ∷ (1, 45) ∷ (0, 75) ∷ (1, 6) ∷ (0, 1) ∷ (1, 17) ∷ []))
+    ≡ (45 ∷ 99 ∷ 87 ∷ 92 ∷ [], 1 ∷ 1 ∷ 1 ∷ 3 ∷ [], 1 ∷ 2 ∷ 3 ∷ 11 ∷ [], 3, 2, 0)
+unfolding class_of opening_words number_after blocks next_number half split apply change_leaves with_leaves opening_leaves directory_puts placing_of
+    prefix_of reply_in items_after overflows after_op change first_bits hash_of spread
+last_look_shows_applied = refl
+
+abbrev root_exchange_in_round_two_settings : Settings
+root_exchange_in_round_two_settings = record {
+  seats = 2;
+  items = 1;
+  depth = 2;
+  start = 0;
+  seats_in_range = (omega arith, omega arith);
+  items_in_range = (omega arith, omega arith);
+  depth_in_range = (omega arith, omega arith);
+  start_in_range = (omega arith, omega arith);
+}
+
+abbrev root_exchange_in_round_two_setup : Setup
+root_exchange_in_round_two_setup = record {
+  shape = record {
+    settings = root_exchange_in_round_two_settings;
+    ranges = map (automatic_rows_of root_exchange_in_round_two_settings) (3 ∷ 1 ∷ []);
+  };
+  hashing = Ports 0;
+  first = [];
+}
+
+-- a root exchange that happens in round 2
+root_exchange_in_round_two :
+    brief root_exchange_in_round_two_setup
+    (played root_exchange_in_round_two_setup
+    (((1, Insert (key 1) 1) ∷ (2, Insert (key 32769) 2) ∷ (3, Insert (key 16385) 3) ∷ []) ∷ ((11, Insert (key 2) 11) ∷ []) ∷ [])
+    ((0, 142) ∷ (1, 24) ∷ (0, 1) ∷ (1, 120) ∷ (0, 51) ∷ (1, 1) ∷ []))
+    ≡ (45 ∷ 99 ∷ 50 ∷ 145 ∷ [], 1 ∷ 1 ∷ 1 ∷ 3 ∷ [], 1 ∷ 2 ∷ 11 ∷ 3 ∷ [], 3, 2, 0)
+unfolding class_of opening_words number_after blocks next_number half split apply change_leaves with_leaves opening_leaves directory_puts placing_of
+    prefix_of reply_in items_after overflows after_op change first_bits hash_of spread
+root_exchange_in_round_two = refl
+
+abbrev number_in_two_leaves_settings : Settings
+number_in_two_leaves_settings = record {
+  seats = 2;
+  items = 1;
+  depth = 2;
+  start = 0;
+  seats_in_range = (omega arith, omega arith);
+  items_in_range = (omega arith, omega arith);
+  depth_in_range = (omega arith, omega arith);
+  start_in_range = (omega arith, omega arith);
+}
+
+abbrev number_in_two_leaves_setup : Setup
+number_in_two_leaves_setup = record {
+  shape = record {
+    settings = number_in_two_leaves_settings;
+    ranges = map (automatic_rows_of number_in_two_leaves_settings) (2 ∷ 1 ∷ []);
+  };
+  hashing = Ports 0;
+  first = [];
+}
+
+-- a taken op's number shows in two new leaves
+number_in_two_leaves :
+    brief number_in_two_leaves_setup
+    (played number_in_two_leaves_setup
+    (((1, Insert (key 1) 1) ∷ (2, Insert (key 1) 2) ∷ []) ∷ ((11, Insert (key 2) 11) ∷ []) ∷ [])
+    ((1, 8) ∷ (0, 148) ∷ (0, 1) ∷ (1, 17) ∷ []))
+    ≡ (50 ∷ 99 ∷ 25 ∷ [], 1 ∷ 2 ∷ 3 ∷ [], 1 ∷ 2 ∷ 11 ∷ [], 3, 2, 0)
+unfolding class_of opening_words number_after blocks next_number half split apply change_leaves with_leaves opening_leaves directory_puts placing_of
+    prefix_of reply_in items_after overflows after_op change first_bits hash_of spread
+number_in_two_leaves = refl
+
+abbrev two_buckets_in_one_change_settings : Settings
+two_buckets_in_one_change_settings = record {
+  seats = 2;
+  items = 1;
+  depth = 2;
+  start = 1;
+  seats_in_range = (omega arith, omega arith);
+  items_in_range = (omega arith, omega arith);
+  depth_in_range = (omega arith, omega arith);
+  start_in_range = (omega arith, omega arith);
+}
+
+abbrev two_buckets_in_one_change_setup : Setup
+two_buckets_in_one_change_setup = record {
+  shape = record {
+    settings = two_buckets_in_one_change_settings;
+    ranges = map (automatic_rows_of two_buckets_in_one_change_settings) (2 ∷ 2 ∷ []);
+  };
+  hashing = Ports 0;
+  first = [];
+}
+
+-- one change replaces two frozen buckets for two ops
+two_buckets_in_one_change :
+    brief two_buckets_in_one_change_setup
+    (played two_buckets_in_one_change_setup
+    (((1, Insert (key 1) 1) ∷ (2, Insert (key 2) 2) ∷ []) ∷ ((11, Insert (key 32769) 11) ∷ (12, Insert (key 32770) 12) ∷ []) ∷ [])
+    ((1, 89) ∷ (0, 200) ∷ (0, 1) ∷ (1, 23) ∷ []))
+    ≡ (50 ∷ 151 ∷ 45 ∷ 67 ∷ [], 1 ∷ 3 ∷ 1 ∷ 3 ∷ [], 11 ∷ 1 ∷ 2 ∷ 12 ∷ [], 4, 2, 0)
+unfolding class_of opening_words number_after blocks next_number half split apply change_leaves with_leaves opening_leaves directory_puts placing_of
+    prefix_of reply_in items_after overflows after_op change first_bits hash_of spread
+two_buckets_in_one_change = refl

@@ -1,0 +1,43 @@
+-- The laws of the opening: its leaves cover all hashes, hold the first pairs, and are deep only where they must be.
+use Rattle.std.specs.Prelude.{◌≡◌, ℕ, ◌^◌, ◌≤◌, false, List, [], length, None, map, All}
+use Rattle.plain_map.specs.declared.keys.Pair.{Pair}
+use Rattle.plain_map.specs.declared.rules.Rules.{Rules}
+use Rattle.plain_map.specs.declared.leaves.Leaf.{Leaf}
+use Rattle.plain_map.specs.PlainObject.{InRange}
+use Rattle.bucket_states.specs.Parts.{HasDistinctKeys, HoldsPart}
+use Rattle.bucket_states.specs.Laws.{IsGood}
+use Rattle.core_model.specs.Setup.{HaveRoom}
+use Rattle.core_model.specs.Leaves.{NewLeaf}
+use Rattle.core_model.specs.Opening.{opening_leaves}
+use Rattle.core_model.specs.Closed.{Cover, Warranted, sessions_with}
+
+-- a table can be opened with these pairs from this depth on
+pub record CanOpen (rules : Rules) (start : ℕ) (first : List Pair) : Type 0 where
+  pub range : InRange rules
+  pub within : start ≤ rules.depth
+  pub distinct : HasDistinctKeys first
+  pub room : HaveRoom rules first
+
+-- the prefix and the depth of a new leaf
+abbrev pub place_of : NewLeaf → Leaf
+place_of leaf = record { prefix = leaf.bucket.prefix; depth = leaf.bucket.depth }
+
+-- what the opening's leaves are
+pub record IsOpening (rules : Rules) (seats start : ℕ) (first : List Pair) (leaves : List NewLeaf) : Type 0 where
+  pub cover : Cover (map place_of leaves)
+  pub good : All (λ leaf. IsGood rules seats leaf.bucket × (leaf.bucket.frozen ≡ false) × (leaf.from ≡ None)) leaves
+  pub holds : All (λ leaf. HoldsPart rules leaf.bucket.prefix leaf.bucket.depth leaf.bucket.items (sessions_with rules first)) leaves
+  pub deep : All (λ leaf. start ≤ leaf.bucket.depth) leaves
+  pub warranted : Warranted rules start first [] (map place_of leaves)
+
+abbrev pub OpeningIsRight : Type 0
+OpeningIsRight =
+    (rules : Rules) (seats start : ℕ) (first : List Pair) → CanOpen rules start first →
+    IsOpening rules seats start first (opening_leaves rules seats start first)
+
+-- over no pairs there is one leaf for each place of the starting depth
+abbrev pub OpeningOfNone : Type 0
+OpeningOfNone =
+    (rules : Rules) (seats start : ℕ) →
+    (length (opening_leaves rules seats start []) ≡ 2 ^ start)
+    × All (λ leaf. leaf.bucket.depth ≡ start) (opening_leaves rules seats start [])
