@@ -5,7 +5,6 @@
 //! then on it stays as it is.
 
 ghost use Rattle.std.specs.Prelude.{◌≡◌, ◌<◌, ◌≤◌, length, vec_len, vec_capacity, IsTrue};
-ghost use Rattle.plain_map.specs.Calls.{key_in};
 ghost use Rattle.plain_map.specs.PlainObject.{InRange};
 ghost use Rattle.bucket_states.specs.Items.{prefix_of};
 ghost use Rattle.bucket_states.specs.States.{state_of, KeepsShape, KeepsRoom};
@@ -14,7 +13,7 @@ ghost use Rattle.bucket_states.specs.Change.{is_due, after_op, change};
 use crate::items::answer;
 use crate::{Bucket, Op};
 use hash_bits::bits;
-use plain_map::{Call, Key, Rules};
+use plain_map::{Key, Rules};
 
 impl Bucket {
     /// Takes the announced calls, one place for each seat.
@@ -67,17 +66,7 @@ impl Bucket {
         requires applied { seat < vec_len self.now.applied }
         ensures { result ≡ is_due rules.now (state_of self.now) seat op.now }
     {
-        prefix_of(rules, self.depth, &key_in(&op.call)) == self.prefix
-            && self.applied[seat] < op.number
-    }
-}
-
-// The key that a call is about.
-fn key_in(call: &Call) -> Key
-    ensures { result ≡ key_in call.now }
-{
-    match call {
-        Call::Insert(key, _) | Call::Remove(key) | Call::Lookup(key) => *key,
+        prefix_of(rules, self.depth, op.call.key()) == self.prefix && self.applied[seat] < op.number
     }
 }
 

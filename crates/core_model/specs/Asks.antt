@@ -4,23 +4,19 @@ use Rattle.step_counts.specs.declared.rows.SeatRows.{SeatRows}
 use Rattle.plain_map.specs.declared.full.FullKind.TheVariants.{OpRows, BucketRows, DirRows}
 use Rattle.word_rows.specs.declared.ops.OpRow.{OpRow}
 use Rattle.word_rows.specs.Shape.{Shape}
-use Rattle.word_rows.specs.Places.{Address, Root, Announcement, Done, BucketWord, OpWord, BucketRowWord, DirectoryWord, place}
+use Rattle.word_rows.specs.declared.addresses.Address.TheVariants.{Root, Announcement, Done, BucketWord, OpWord, BucketRowWord, DirectoryWord}
+use Rattle.word_rows.specs.Places.{place}
 use Rattle.word_rows.specs.OpWords.{words_of_op}
 use Rattle.plain_map.specs.Calls.{key_in}
 use Rattle.bucket_states.specs.Items.{prefix_of}
+pub use Rattle.core_model.specs.declared.events.Ask.{Ask}
+pub use Rattle.core_model.specs.declared.events.Ask.TheVariants.{Nothing, Load, Store, Exchange}
 use Rattle.core_model.specs.declared.events.Action.{Action}
 use Rattle.core_model.specs.declared.events.Action.TheVariants as Act
 use Rattle.core_model.specs.Setup.{Setup, rules_of, next_number}
 use Rattle.core_model.specs.Phases.{Phase, SeeDone, StoreOp, Announce, FindRoot, FindDepth, FindEntry, LookWord, LookCount, LookItems, TryWord, TryRow, TryAnnouncement, TryOp, TryStore, TryExchange, DirRoot, DirDepth, DirEntries, DirAnnouncement, DirOp, DirWord, DirRow, DirStore, DirExchange, LastWord, LastRow, StoreDone, Stuck}
 use Rattle.core_model.specs.SeatStates.{Flight, Account, Stand, Idle, InFlight}
 use Rattle.core_model.specs.Stores.{Put, put_at, bucket_words, made_bucket, directory_puts}
-
--- a load, a store or an exchange of the word at an address, or nothing
-pub data Ask : Type 0 where
-  Nothing : Ask
-  Load : (from : Address) → Ask
-  Store : (to : Address) (word : ℕ) → Ask
-  Exchange : (at : Address) (old new : ℕ) → Ask
 
 -- the store of one of these words
 abbrev pub store_of : Put → Ask

@@ -6,29 +6,11 @@ use Rattle.std.specs.Prelude.{ℕ, List, Option}
 use Rattle.plain_map.specs.declared.calls.Reply.{Reply}
 use Rattle.bucket_states.specs.declared.ops.Op.{Op}
 use Rattle.bucket_states.specs.States.{BucketState}
+pub use Rattle.core_model.specs.declared.rounds.Aim.{Aim}
+pub use Rattle.core_model.specs.declared.rounds.Aim.TheVariants.{ForLookup, ForFirstRound, ForSecondRound, ForLastLook}
+pub use Rattle.core_model.specs.declared.rounds.Round.{Round}
 use Rattle.core_model.specs.Directories.{DirectoryState}
 use Rattle.core_model.specs.DirectoryChange.{LoadedBucket}
-
--- what the bucket of the key is found for
-pub data Aim : Type 0 where
-  -- to look the key up
-  ForLookup : Aim
-  -- for the first round of an update
-  ForFirstRound : Aim
-  -- for the second round; the first one had found the bucket by this directory row
-  ForSecondRound : (first : ℕ) → Aim
-  -- for the last look of an update
-  ForLastLook : Aim
-
--- a round of an update
-pub record Round : Type 0 where
-  -- which one, 1 or 2
-  pub turn : ℕ
-  -- the directory row by which the first round found its bucket
-  pub first : ℕ
-  -- the directory row by which this round found its bucket, and the bucket
-  pub root : ℕ
-  pub bucket : ℕ
 
 -- a try to change the bucket of a round
 pub record BucketTry : Type 0 where

@@ -7,7 +7,8 @@ use Rattle.plain_map.specs.declared.full.FullKind.TheVariants.{BucketRows, DirRo
 use Rattle.plain_map.specs.declared.keys.Key.{Key}
 use Rattle.plain_map.specs.Rows.{BucketContent, DirectoryContent}
 use Rattle.word_rows.specs.Shape.{count_of}
-use Rattle.word_rows.specs.Places.{Root, BucketWord, BucketRowWord, DirectoryWord, place}
+use Rattle.word_rows.specs.declared.addresses.Address.TheVariants.{Root, BucketWord, BucketRowWord, DirectoryWord}
+use Rattle.word_rows.specs.Places.{place}
 use Rattle.word_rows.specs.BucketWords.{bucket_of_words}
 use Rattle.word_rows.specs.DirectoryWords.{directory_of_words}
 use Rattle.bucket_states.specs.States.{BucketState, state_in_row}

@@ -4,22 +4,20 @@ use Rattle.std.specs.Option.{option_map, option_and_then}
 use Rattle.step_counts.specs.declared.rows.SeatRows.{SeatRows}
 use Rattle.plain_map.specs.declared.full.FullKind.TheVariants.{BucketRows, BucketWords, DirRows}
 use Rattle.word_rows.specs.Shape.{Shape}
-use Rattle.word_rows.specs.Places.{Address, Root, BucketWord, BucketRowWord, DirectoryWord, place}
+use Rattle.word_rows.specs.declared.addresses.Address.{Address}
+use Rattle.word_rows.specs.declared.addresses.Address.TheVariants.{Root, BucketWord, BucketRowWord, DirectoryWord}
+use Rattle.word_rows.specs.Places.{place}
 use Rattle.word_rows.specs.BucketWords.{words_of_bucket}
 use Rattle.word_rows.specs.DirectoryWords.{words_of_directory}
 use Rattle.bucket_states.specs.declared.ops.Op.{Op}
 use Rattle.bucket_states.specs.States.{BucketState, row_of_state}
 use Rattle.bucket_states.specs.Change.{change}
+pub use Rattle.core_model.specs.declared.events.Put.{Put}
 use Rattle.core_model.specs.Setup.{Setup, settings_of, rules_of, next_number}
 use Rattle.core_model.specs.Directories.{DirectoryState}
 use Rattle.core_model.specs.Leaves.{NewLeaf}
 use Rattle.core_model.specs.DirectoryChange.{LoadedBucket, loaded_of, change_leaves, with_leaves}
 use Rattle.core_model.specs.Phases.{BucketTry, DirectoryTry}
-
--- a word, and where it is stored
-pub record Put : Type 0 where
-  pub address : Address
-  pub word : ℕ
 
 -- the words of a row, from its word i on
 abbrev pub row_puts : (ℕ → Address) → (i : ℕ) → List ℕ → List Put

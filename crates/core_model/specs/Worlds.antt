@@ -8,7 +8,9 @@ use Rattle.plain_map.specs.Calls.{key_in}
 use Rattle.plain_map.specs.Room.{left_of, refusal}
 use Rattle.plain_map.specs.Serving.{IsAskable, CanCount}
 use Rattle.word_rows.specs.Shape.{sizes_of}
-use Rattle.word_rows.specs.Places.{Address, DirectoryWord, place, word_count}
+use Rattle.word_rows.specs.declared.addresses.Address.{Address}
+use Rattle.word_rows.specs.declared.addresses.Address.TheVariants.{DirectoryWord}
+use Rattle.word_rows.specs.Places.{place, word_count}
 use Rattle.core_model.specs.declared.events.Event.{Event}
 use Rattle.core_model.specs.Setup.{Setup, IsSetup, IsKey, settings_of, seats_of, rules_of}
 use Rattle.core_model.specs.Leaves.{NewLeaf}

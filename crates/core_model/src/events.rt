@@ -1,8 +1,22 @@
 //! What a seat asks of the words, and what may happen in a table.
 
 use plain_map::Call;
+use word_rows::Address;
 
-/// What a seat does next to the words of a table. A word is given by its number.
+/// What a seat does next to the words of a table.
+#[derive(Clone, Copy, Debug, PartialEq, Eq)]
+pub enum Ask {
+    /// Nothing: no call is going on.
+    Nothing,
+    /// Load the word at this address.
+    Load(Address),
+    /// Store this word there.
+    Store(Address, u64),
+    /// Put the third there, where the word is the second.
+    Exchange(Address, u64, u64),
+}
+
+/// The same, with words by their numbers. A word is given by its number.
 #[derive(Clone, Copy, Debug, PartialEq, Eq)]
 pub enum Action {
     /// Load this word.
@@ -13,6 +27,13 @@ pub enum Action {
     Exchange(u64, u64, u64),
     /// Nothing: no call is going on.
     Finished,
+}
+
+/// A word, and where it is stored.
+#[derive(Clone, Copy, Debug, PartialEq, Eq)]
+pub struct Put {
+    pub address: Address,
+    pub word: u64,
 }
 
 /// One seat takes one step.

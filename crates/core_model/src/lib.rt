@@ -2,8 +2,10 @@
 #![tactic(auto)]
 
 mod events;
+mod rounds;
 
-pub use events::{Action, Event};
+pub use events::{Action, Ask, Event, Put};
+pub use rounds::{Aim, Round};
 
 #[cfg(test)]
 mod tests;

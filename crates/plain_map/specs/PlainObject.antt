@@ -6,7 +6,7 @@ use Rattle.std.specs.Prelude.{◌≡◌, ℕ, ◌≤◌, ◌==◌, nat_lt, Bool,
 use Rattle.std.specs.Option.{option_map_or}
 use Rattle.std.specs.FinMap.{FinMap, entries, get, insert, remove}
 use Rattle.hash_bits.specs.Prefix.{first_bits}
-use Rattle.plain_map.specs.declared.rules.TheConstants.{MOST_ITEMS, MOST_DEPTH}
+use Rattle.step_counts.specs.declared.settings.TheConstants.{MOST_ITEMS, MOST_DEPTH}
 use Rattle.plain_map.specs.declared.keys.Key.{Key}
 use Rattle.plain_map.specs.declared.keys.Pair.{Pair}
 use Rattle.plain_map.specs.declared.rules.Rules.{Rules}

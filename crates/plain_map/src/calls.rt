@@ -1,5 +1,7 @@
 //! What a caller may ask, and what it may be told.
 
+ghost use Rattle.std.specs.Prelude.{◌≡◌};
+
 use crate::Key;
 
 /// A call on the directory.
@@ -11,6 +13,19 @@ pub enum Call {
     Remove(Key),
     /// Asks for the key's value.
     Lookup(Key),
+}
+
+impl Call {
+    ghost use Rattle.plain_map.specs.Calls.{key_in};
+
+    /// The key that the call is about.
+    pub fn key(&self) -> &Key
+        ensures { result.now ≡ key_in self.now }
+    {
+        match self {
+            Call::Insert(key, _) | Call::Remove(key) | Call::Lookup(key) => key,
+        }
+    }
 }
 
 /// The answer to a call.

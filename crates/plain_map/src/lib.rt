@@ -29,7 +29,7 @@ pub use locality::answer_laws;
 pub use object::PlainMap;
 pub use records::{CallId, MOST_SEATS, Pending, Record, Seen};
 pub use rows::{BucketRow, DirectoryRow};
-pub use rules::{MOST_DEPTH, MOST_ITEMS, Rules};
+pub use rules::Rules;
 pub use server::Server;
 pub use shortage::first_short;
 

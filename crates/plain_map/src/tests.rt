@@ -3,7 +3,7 @@
 ghost use Rattle.std.specs.Prelude.{◌≤◌};
 ghost use Rattle.plain_map.specs.PlainObject.{InRange};
 
-use crate::{Call, Key, MOST_DEPTH, MOST_ITEMS, Pair, PlainMap, Reply, Rules};
+use crate::{Call, Key, Pair, PlainMap, Reply, Rules};
 use hash_bits::Hashing;
 use std::process::Abort;
 use std::test::Fail;

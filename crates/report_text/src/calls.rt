@@ -12,7 +12,7 @@ use crate::pieces::{
     begin_line, end_line, make_room, put_digits, put_named, put_number, put_text, put_word,
 };
 use flow_keys::key_text;
-use plain_map::{Call, Full, FullKind, Key, Record, Reply, Seen};
+use plain_map::{Call, Full, FullKind, Record, Reply, Seen};
 use std::alloc::{AllocError, Global};
 use trace_share::Outcome;
 
@@ -82,7 +82,7 @@ fn put_call(out: &mut Vec<u8>, packet: u32, seat: u32, call: &Call)
     put_number(out, packet);
     put_named(out, b"seat", seat);
     put_word(out, verb_word(call));
-    let text = key_text(key_in(call));
+    let text = key_text(call.key());
     put_word(out, &text.bytes[..text.length]);
 }
 
@@ -95,17 +95,6 @@ fn verb_word(call: &Call) -> &'static [u8]
         Call::Insert(_, _) => b"insert",
         Call::Remove(_) => b"remove",
         Call::Lookup(_) => b"lookup",
-    }
-}
-
-// The key that a call is about.
-fn key_in(call: &Call) -> &Key
-    ensures { result.now ≡ key_in call.now }
-{
-    match call {
-        Call::Insert(key, _) => key,
-        Call::Remove(key) => key,
-        Call::Lookup(key) => key,
     }
 }
 

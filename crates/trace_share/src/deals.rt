@@ -62,7 +62,7 @@ pub fn seat_for(share: Share, seats: u32, count: usize, place: usize, call: &(u3
     match share {
         Share::Round => (place % seats as usize) as u32,
         Share::Block => part_of(seats, count, place),
-        Share::Flow => (flow_hash(key_in(&call.1)) % u64::from(seats)) as u32,
+        Share::Flow => (flow_hash(call.1.key()) % u64::from(seats)) as u32,
     }
 }
 
@@ -88,16 +88,5 @@ fn part_of(seats: u32, count: usize, place: usize) -> u32
 fn flow_hash(key: &Key) -> u64
     ensures { result ≡ flow_hash key.now }
 {
-    FLOW_HASHING.hash(key.k0, key.k1)
-}
-
-// The key that a call is about.
-fn key_in(call: &Call) -> &Key
-    ensures { result.now ≡ key_in call.now }
-{
-    match call {
-        Call::Insert(key, _) => key,
-        Call::Remove(key) => key,
-        Call::Lookup(key) => key,
-    }
+    key.hash(&FLOW_HASHING)
 }

@@ -11,7 +11,7 @@ use Rattle.plain_map.specs.declared.calls.Reply.{Reply}
 use Rattle.plain_map.specs.declared.calls.Reply.TheVariants.{New, Old, NoRoom, Gone, Found, Absent}
 use Rattle.plain_map.specs.declared.keys.Pair.{Pair}
 use Rattle.plain_map.specs.Rows.{BucketContent}
-use Rattle.word_rows.specs.declared.keys.TheConstants.{KEY_WORDS}
+use Rattle.plain_map.specs.declared.keys.TheConstants.{KEY_WORDS}
 use Rattle.word_rows.specs.Blocks.{blocks, block, first_values}
 use Rattle.word_rows.specs.KeyWords.{words_of_pair, pair_of_words}
 use Rattle.word_rows.specs.BaseWords.{word_of_base, base_of_word}

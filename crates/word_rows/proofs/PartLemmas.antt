@@ -7,7 +7,7 @@ use Rattle.std.proofs.lemmas.Slice.{take-put_mid}
 use borrow.Rule.Slice.PartMut.{put_mid}
 use Rattle.step_counts.specs.declared.TheConstants.{ITEM_WORDS}
 use Rattle.plain_map.specs.declared.keys.Pair.{Pair}
-use Rattle.word_rows.specs.declared.keys.TheConstants.{KEY_WORDS}
+use Rattle.plain_map.specs.declared.keys.TheConstants.{KEY_WORDS}
 use Rattle.word_rows.specs.Blocks.{blocks, block, first_values}
 use Rattle.word_rows.specs.KeyWords.{words_of_pair, pair_of_words}
 use Rattle.word_rows.specs.BucketWords.{item_place, item_words}

@@ -3,7 +3,7 @@ use Rattle.std.specs.Prelude.{◌≡◌, ℕ, ◌+◌, ◌*◌, ◌^◌, ◌<◌
 use Rattle.std.specs.List.{All}
 use Rattle.step_counts.specs.declared.TheConstants.{ITEM_WORDS}
 use Rattle.step_counts.specs.declared.settings.Settings.{Settings}
-use Rattle.word_rows.specs.declared.keys.TheConstants.{KEY_WORDS}
+use Rattle.plain_map.specs.declared.keys.TheConstants.{KEY_WORDS}
 use Rattle.word_rows.specs.ReplyWords.{word_of_reply, reply_of_word}
 use Rattle.word_rows.specs.BucketWords.{item_part, seat_part}
 

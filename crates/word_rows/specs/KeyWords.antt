@@ -2,7 +2,7 @@
 use Rattle.std.specs.Prelude.{ℕ, List, [], ◌∷◌, ◌++◌, take, slice_index}
 use Rattle.plain_map.specs.declared.keys.Key.{Key}
 use Rattle.plain_map.specs.declared.keys.Pair.{Pair}
-use Rattle.word_rows.specs.declared.keys.TheConstants.{KEY_WORDS}
+use Rattle.plain_map.specs.declared.keys.TheConstants.{KEY_WORDS}
 
 -- the words of a key
 abbrev pub words_of_key : Key → List ℕ

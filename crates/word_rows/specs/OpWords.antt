@@ -4,7 +4,7 @@ use Rattle.plain_map.specs.declared.calls.Call.{Call}
 use Rattle.plain_map.specs.declared.calls.Call.TheVariants.{Insert, Remove, Lookup}
 use Rattle.word_rows.specs.declared.ops.OpRow.{OpRow}
 use Rattle.word_rows.specs.declared.ops.TheConstants.{INSERT, REMOVE}
-use Rattle.word_rows.specs.declared.keys.TheConstants.{KEY_WORDS}
+use Rattle.plain_map.specs.declared.keys.TheConstants.{KEY_WORDS}
 use Rattle.word_rows.specs.KeyWords.{words_of_key, key_of_words}
 
 -- an update, with a value that can be kept

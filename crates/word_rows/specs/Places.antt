@@ -4,21 +4,8 @@ use Rattle.step_counts.specs.declared.TheConstants.{OP_WORDS}
 use Rattle.step_counts.specs.StepCounts.{bucket_row_words, directory_row_words}
 use Rattle.plain_map.specs.declared.full.FullKind.TheVariants.{OpRows, BucketRows, BucketWords, DirRows}
 use Rattle.word_rows.specs.Shape.{Shape, count_of}
-
--- what a word of a table is
-pub data Address : Type 0 where
-  -- the number of the directory row in use
-  Root : Address
-  -- one more than the number of the op row that the seat announced last, or 0
-  Announcement : (seat : ℕ) → Address
-  -- how many calls the seat has finished
-  Done : (seat : ℕ) → Address
-  -- the number of the bucket's row in use
-  BucketWord : (bucket : ℕ) → Address
-  -- word i of an op row, of a bucket row, of a directory row
-  OpWord : (row i : ℕ) → Address
-  BucketRowWord : (row i : ℕ) → Address
-  DirectoryWord : (row i : ℕ) → Address
+pub use Rattle.word_rows.specs.declared.addresses.Address.{Address}
+pub use Rattle.word_rows.specs.declared.addresses.Address.TheVariants.{Root, Announcement, Done, BucketWord, OpWord, BucketRowWord, DirectoryWord}
 
 -- the words that there are
 abbrev pub IsAddress : Shape → Address → Type 0

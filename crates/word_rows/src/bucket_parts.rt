@@ -17,9 +17,9 @@ ghost use Rattle.word_rows.specs.BucketWords.{
 ghost use Rattle.word_rows.specs.BucketPlaces.{HeadStands, ItemsStand, SeatStands, SeatsStand};
 
 use crate::bases::base_of;
-use crate::keys::{KEY_WORDS, read_pair, write_pair};
+use crate::keys::{read_pair, write_pair};
 use crate::replies::{reply_of, reply_word};
-use plain_map::{BucketRow, Pair, Reply};
+use plain_map::{BucketRow, KEY_WORDS, Pair, Reply};
 use step_counts::{ITEM_WORDS, Settings};
 
 /// Writes the items, and zeros where there is room for more.

@@ -3,12 +3,10 @@
 ghost use Rattle.std.specs.Prelude.{◌≡◌, length};
 ghost use Rattle.word_rows.specs.KeyWords.{words_of_key, words_of_pair};
 
-use plain_map::{Key, Pair};
+use plain_map::{KEY_WORDS, Key, Pair};
 use step_counts::ITEM_WORDS;
 
-/// The words of a key. An item has one more, its value.
-pub const KEY_WORDS: usize = 2;
-
+// An item has one word more than its key, the value.
 const _: () = prove!(KEY_WORDS + 1 == ITEM_WORDS);
 
 /// Writes the words of a key.

@@ -1,6 +1,7 @@
 //! Which word of a table is what, and how ops, buckets and directories are spelled in words.
 #![tactic(auto)]
 
+mod addresses;
 mod bases;
 mod bucket_parts;
 mod buckets;
@@ -16,8 +17,9 @@ mod rows;
 #[cfg(test)]
 mod tests;
 
+pub use addresses::Address;
 pub use closed::ClosedRows;
-pub use keys::{KEY_WORDS, read_pair, write_pair};
+pub use keys::{read_pair, write_pair};
 pub use layout::Layout;
 pub use memory::memory_laws;
 pub use ops::{INSERT, OpRow, REMOVE, read_op, write_op};

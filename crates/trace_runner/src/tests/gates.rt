@@ -7,8 +7,7 @@ use edge_traits::{Gate, MemorySink, MemorySource};
 use std::sync::atomic::{AtomicU64, Ordering};
 use std::test::Fail;
 
-/// Keeps the sum of the seats, and the numbers and answers as decimal digits in the order in which
-/// they came.
+/// Keeps the sum of the seats; and the numbers and answers as decimal digits, in the order in which they came.
 #[derive(Drop)]
 struct Witness {
     seats: AtomicU64,
@@ -34,9 +33,8 @@ impl Gate for Witness {
     }
 }
 
-/// Each call passes the gate with its number, and its answer is told before the next call: 0 for a
-/// new, an absent and a removed key's miss, or else the value. A gate promises nothing, so no clause
-/// says what it sees.
+/// Each call passes the gate with its number. Before the next call the value that its reply carries is
+/// told, or 0 where it carries none. A gate promises nothing, so no clause says what it sees.
 #[test]
 fn gate_sees_each_call_and_its_answer(rt: HostRuntime) -> Result<(), Fail> {
     let witness = Witness {

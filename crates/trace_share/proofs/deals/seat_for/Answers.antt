@@ -17,4 +17,4 @@ returns-in-Block-clause-own c = λ (seat : ℕ) (inside : seat < c.args.seats).
 pub returns-in-Flow-clause-own : goal.returns-in-Flow-clause-own
 unfolding makes
 returns-in-Flow-clause-own c = λ (seat : ℕ) (inside : seat < c.args.seats).
-    rw (c.in-Flow.is, c.flow_hash.ensures, c.key_in.ensures, c.from.ensures) refl
+    rw (c.in-Flow.is, c.flow_hash.ensures, c.key.ensures, c.from.ensures) refl

@@ -1,0 +1,14 @@
+//! The plain program of the core, first part: its values, and what is made of buckets and directories.
+//!
+//! All is plain and slow: each function computes its definition, and no more is asked of it.
+#![tactic(auto)]
+
+mod phases;
+mod seats;
+mod setup;
+mod values;
+
+pub use phases::{PlainBucketTry, PlainDirectoryTry, PlainPhase};
+pub use seats::{PlainAccount, PlainFlight, PlainSeat, PlainStand, PlainWorld};
+pub use setup::PlainSetup;
+pub use values::{PlainBucket, PlainDirectory, PlainLeaf, PlainLoaded};
