@@ -9,10 +9,9 @@ use Rattle.core_model.specs.Phases as P
 use Rattle.core_model.specs.SeatStates.{Account, Flight, Stand, SeatState}
 use Rattle.core_model.specs.SeatStates as S
 use Rattle.core_model.specs.Worlds.{World}
-use Rattle.bucket_states.specs.States.{BucketState}
+use Rattle.bucket_states.specs.States.{state_of}
 use Rattle.word_rows.specs.LayoutView.{shape_of}
 use Rattle.core_values.specs.declared.setup.PlainSetup.{PlainSetup}
-use Rattle.core_values.specs.declared.values.PlainBucket.{PlainBucket}
 use Rattle.core_values.specs.declared.values.PlainDirectory.{PlainDirectory}
 use Rattle.core_values.specs.declared.values.PlainLoaded.{PlainLoaded}
 use Rattle.core_values.specs.declared.values.PlainLeaf.{PlainLeaf}
@@ -31,32 +30,21 @@ use Rattle.core_values.specs.declared.seats.PlainWorld.{PlainWorld}
 abbrev pub as_setup : PlainSetup → Setup
 as_setup setup = record { shape = shape_of setup.layout; hashing = setup.hashing; first = setup.first.items }
 
--- what a bucket holds
-abbrev pub as_bucket : PlainBucket → BucketState
-as_bucket bucket = record {
-  prefix = bucket.prefix;
-  depth = bucket.depth;
-  frozen = bucket.frozen;
-  items = bucket.items.items;
-  applied = bucket.applied.items;
-  replies = bucket.replies.items;
-}
-
 -- what a directory says
 abbrev pub as_directory : PlainDirectory → DirectoryState
 as_directory directory = record { depth = directory.depth; entries = directory.entries.items }
 
 -- a bucket that was loaded
 abbrev pub as_loaded : PlainLoaded → LoadedBucket
-as_loaded loaded = record { bucket = loaded.bucket; row = loaded.row; state = as_bucket loaded.state }
+as_loaded loaded = record { bucket = loaded.bucket; row = loaded.row; state = state_of loaded.state }
 
 -- a bucket that is made
 abbrev pub as_leaf : PlainLeaf → NewLeaf
-as_leaf leaf = record { from = leaf.from; bucket = as_bucket leaf.bucket }
+as_leaf leaf = record { from = leaf.from; bucket = state_of leaf.bucket }
 
 -- the tries
 abbrev pub as_bucket_try : PlainBucketTry → BucketTry
-as_bucket_try attempt = record { turn = attempt.turn; first = attempt.first; row = attempt.row; state = as_bucket attempt.state }
+as_bucket_try attempt = record { turn = attempt.turn; first = attempt.first; row = attempt.row; state = state_of attempt.state }
 
 abbrev pub as_directory_try : PlainDirectoryTry → DirectoryTry
 as_directory_try attempt = record {

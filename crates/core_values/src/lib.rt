@@ -4,11 +4,13 @@
 #![tactic(auto)]
 
 mod phases;
+mod rows;
 mod seats;
 mod setup;
 mod values;
 
 pub use phases::{PlainBucketTry, PlainDirectoryTry, PlainPhase};
+pub use rows::{copy_bucket, read_bucket, write_bucket};
 pub use seats::{PlainAccount, PlainFlight, PlainSeat, PlainStand, PlainWorld};
 pub use setup::PlainSetup;
-pub use values::{PlainBucket, PlainDirectory, PlainLeaf, PlainLoaded};
+pub use values::{PlainDirectory, PlainLeaf, PlainLoaded};

@@ -1,7 +1,7 @@
 //! Where a seat stands in its call, as a plain value.
 
-use crate::{PlainBucket, PlainDirectory, PlainLoaded};
-use bucket_states::Op;
+use crate::{PlainDirectory, PlainLoaded};
+use bucket_states::{Bucket, Op};
 use core_model::{Aim, Round};
 use plain_map::Reply;
 
@@ -14,7 +14,7 @@ pub struct PlainBucketTry {
     pub first: u64,
     /// The row that this try loaded, and what it says.
     pub row: u64,
-    pub state: PlainBucket,
+    pub state: Bucket,
 }
 
 /// A try to change the directory.

@@ -22,7 +22,7 @@ pub struct PlainFlight {
     /// Which one of the seat's calls it is, from 1.
     pub number: u32,
     /// The done words that it saw.
-    pub seen: Vec<u64>,
+    pub seen: Vec<u32>,
     pub steps: u64,
 }
 

@@ -138,7 +138,8 @@ impl Layout {
     /// The first number of each of the seat's ranges.
     pub fn first(&self, seat: u32) -> SeatRows
         requires { seat < (shape_of self.now).settings.seats }
-        ensures { result ≡ first_of (shape_of self.now) seat }
+        ensures value { result ≡ first_of (shape_of self.now) seat }
+        ensures few { AreBelow (2 ^ 36) result }
     {
         rows_after(&self.settings, &self.ranges[..seat as usize])
     }

@@ -1,0 +1,12 @@
+//! The plain program of the core, second part: the directory change, and the opening of a table.
+//!
+//! All is plain and slow: each function computes its definition, and no more is asked of it.
+#![tactic(auto)]
+
+mod change;
+mod opening;
+mod puts;
+
+pub use change::change_leaves;
+pub use opening::opening_words;
+pub use puts::directory_puts;

@@ -1,0 +1,37 @@
+//! What a directory try stores.
+
+ghost use Rattle.std.specs.Prelude.{◌≡◌, ◌^◌, ◌<◌, IfOk, MatchOption, map};
+ghost use Rattle.word_rows.specs.Shape.{AreBelow};
+ghost use Rattle.core_model.specs.Setup.{seats_of};
+ghost use Rattle.core_model.specs.Stores.{directory_puts};
+ghost use Rattle.core_values.specs.Views.{as_directory_try, as_loaded, as_setup};
+ghost use Rattle.core_leaves.specs.Changes.{IsChange};
+
+use bucket_states::Op;
+use core_model::Put;
+use core_values::{PlainDirectoryTry, PlainLoaded, PlainSetup};
+use std::alloc::{AllocError, Global};
+use step_counts::SeatRows;
+
+/// All that a directory try of a seat stores: the words and rows of its leaves, and then its directory row.
+///
+/// `None` comes only where what was loaded cannot be that of a table, or a leaf has no spelling. The only error is
+/// want of memory.
+pub fn directory_puts(
+    alloc: Global,
+    setup: &PlainSetup,
+    seat: u32,
+    used: &SeatRows,
+    attempt: &PlainDirectoryTry,
+    found: &[Option<Op>],
+    loaded: &[PlainLoaded],
+) -> Result<Option<Vec<Put>>, AllocError>
+    requires seat { seat < seats_of (as_setup setup.now) }
+    requires used { AreBelow (2 ^ 62) used.now }
+    ensures { IfOk result (λ puts. MatchOption puts
+      (¬ IsChange (as_setup setup.now) (as_directory_try attempt.now) found.now (map as_loaded loaded.now))
+      (λ puts. puts.items
+        ≡ directory_puts (as_setup setup.now) seat used.now (as_directory_try attempt.now) found.now (map as_loaded loaded.now))) }
+{
+    Err(AllocError)
+}

@@ -1,0 +1,10 @@
+//! The plain program of the core, third part: where a seat goes by the word that it found.
+//!
+//! All is plain and slow: each function computes its definition, and no more is asked of it.
+#![tactic(auto)]
+
+mod after;
+mod faults;
+
+pub use after::seat_after;
+pub use faults::StepFault;

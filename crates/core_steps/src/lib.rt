@@ -1,0 +1,4 @@
+//! The plain program of the core, fourth part: what a seat does, and the words and seats after each event.
+//!
+//! All is plain and slow: each function computes its definition, and no more is asked of it.
+#![tactic(auto)]

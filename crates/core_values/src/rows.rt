@@ -1,0 +1,58 @@
+//! Buckets read from words, and written as words.
+
+ghost use Rattle.std.specs.Prelude.{◌≡◌, IfOk, MatchOption, Some, length};
+ghost use Rattle.step_counts.specs.StepCounts.{bucket_row_words};
+ghost use Rattle.word_rows.specs.BucketWords.{IsBucket, SpellSomeBucket};
+ghost use Rattle.bucket_states.specs.States.{HasRoom, row_of_state, state_of};
+ghost use Rattle.core_model.specs.Setup.{settings_of};
+ghost use Rattle.core_model.specs.Goes.{bucket_in_words};
+ghost use Rattle.core_model.specs.Stores.{bucket_words};
+ghost use Rattle.core_values.specs.Views.{as_setup};
+ghost use Rattle.core_values.specs.Rows.{IsReadBucket, IsOfTable};
+
+use crate::PlainSetup;
+use bucket_states::Bucket;
+use std::alloc::{AllocError, Global};
+
+/// The bucket that the words of a row spell, or `None` where they spell none.
+///
+/// The only error is want of memory.
+pub fn read_bucket(
+    alloc: Global,
+    setup: &PlainSetup,
+    words: &[u64],
+) -> Result<Option<Bucket>, AllocError>
+    requires whole { length words.now ≡ bucket_row_words (settings_of (as_setup setup.now)) }
+    ensures { IfOk result (λ read. MatchOption read
+      (¬ SpellSomeBucket (settings_of (as_setup setup.now)) words.now)
+      (IsReadBucket (as_setup setup.now) words.now)) }
+{
+    Err(AllocError)
+}
+
+/// The words of the row of a bucket that was made from the row `base`, or `None` where it has no spelling.
+///
+/// The only error is want of memory.
+pub fn write_bucket(
+    alloc: Global,
+    setup: &PlainSetup,
+    base: Option<u64>,
+    bucket: &Bucket,
+) -> Result<Option<Vec<u64>>, AllocError>
+    ensures { IfOk result (λ written. MatchOption written
+      (¬ IsBucket (settings_of (as_setup setup.now)) (row_of_state base (state_of bucket.now)))
+      (λ words. words.items ≡ bucket_words (as_setup setup.now) base (state_of bucket.now))) }
+{
+    Err(AllocError)
+}
+
+/// Another bucket that is the same, with all the room of a bucket of the table.
+///
+/// The only error is want of memory.
+pub fn copy_bucket(alloc: Global, setup: &PlainSetup, bucket: &Bucket) -> Result<Bucket, AllocError>
+    requires { IsOfTable (settings_of (as_setup setup.now)) (state_of bucket.now) }
+    ensures same { IfOk result (λ copy. state_of copy ≡ state_of bucket.now) }
+    ensures room { IfOk result (HasRoom (settings_of (as_setup setup.now)).seats (settings_of (as_setup setup.now)).items) }
+{
+    Err(AllocError)
+}
