@@ -1,6 +1,6 @@
 //! Buckets read from words, and written as words.
 
-ghost use Rattle.std.specs.Prelude.{◌≡◌, IfOk, MatchOption, Some, length};
+ghost use Rattle.std.specs.Prelude.{◌≡◌, ◌↔◌, IsTrue, IfOk, MatchOption, Some, length};
 ghost use Rattle.step_counts.specs.StepCounts.{bucket_row_words};
 ghost use Rattle.word_rows.specs.BucketWords.{IsBucket, SpellSomeBucket};
 ghost use Rattle.bucket_states.specs.States.{HasRoom, row_of_state, state_of};
@@ -12,7 +12,9 @@ ghost use Rattle.core_values.specs.Rows.{IsReadBucket, IsOfTable};
 
 use crate::PlainSetup;
 use bucket_states::Bucket;
+use plain_map::BucketRow;
 use std::alloc::{AllocError, Global};
+use word_rows::row_laws;
 
 /// The bucket that the words of a row spell, or `None` where they spell none.
 ///
@@ -54,5 +56,19 @@ pub fn copy_bucket(alloc: Global, setup: &PlainSetup, bucket: &Bucket) -> Result
     ensures same { IfOk result (λ copy. state_of copy ≡ state_of bucket.now) }
     ensures room { IfOk result (HasRoom (settings_of (as_setup setup.now)).seats (settings_of (as_setup setup.now)).items) }
 {
-    Err(AllocError)
+    let mut copy = Bucket::with_room(alloc, setup.layout.settings())?;
+    copy.copy_from(bucket);
+    Ok(copy)
+}
+
+/// Whether the bucket has as many seats as the table, and no more items, depth or prefix than a bucket of it may have.
+pub fn is_of_table(setup: &PlainSetup, bucket: &Bucket) -> bool
+    ensures { IsTrue result ↔ IsOfTable (settings_of (as_setup setup.now)) (state_of bucket.now) }
+{
+    let settings = setup.layout.settings();
+    bucket.depth <= settings.depth
+        && bucket.prefix < 1 << bucket.depth
+        && bucket.items.len() <= settings.items as usize
+        && bucket.applied.len() == settings.seats as usize
+        && bucket.replies.len() == settings.seats as usize
 }
