@@ -29,7 +29,15 @@ pub fn read_bucket(
         (¬ SpellSomeBucket (settings_of (as_setup setup.now)) words.now)
         (IsReadBucket (as_setup setup.now) words.now)) }
 {
-    Err(AllocError)
+    row_laws();
+    let settings = setup.layout.settings();
+    let mut row = BucketRow::with_room(alloc, settings)?;
+    if !setup.layout.read_bucket(words, &mut row) {
+        return Ok(None);
+    }
+    let mut bucket = Bucket::with_room(alloc, settings)?;
+    bucket.from_row(&row);
+    Ok(Some(bucket))
 }
 
 /// The words of the row of a bucket that was made from the row `base`, or `None` where it has no spelling.
