@@ -8,6 +8,7 @@ mod places;
 mod rows;
 mod seats;
 mod setup;
+mod spelling;
 mod values;
 
 pub use phases::{PlainBucketTry, PlainDirectoryTry, PlainPhase};

@@ -11,9 +11,11 @@ ghost use Rattle.core_values.specs.Views.{as_setup};
 ghost use Rattle.core_values.specs.Rows.{IsReadBucket, IsOfTable};
 
 use crate::PlainSetup;
+use crate::spelling::is_row;
 use bucket_states::Bucket;
 use plain_map::BucketRow;
 use std::alloc::{AllocError, Global};
+use step_counts::bucket_row_words;
 use word_rows::row_laws;
 
 /// The bucket that the words of a row spell, or `None` where they spell none.
@@ -53,7 +55,15 @@ pub fn write_bucket(
         (¬ IsBucket (settings_of (as_setup setup.now)) (row_of_state base (state_of bucket.now)))
         (λ words. words.items ≡ bucket_words (as_setup setup.now) base (state_of bucket.now))) }
 {
-    Err(AllocError)
+    let settings = setup.layout.settings();
+    if !is_row(settings, base, bucket) {
+        return Ok(None);
+    }
+    let mut row = BucketRow::with_room(alloc, settings)?;
+    bucket.to_row(base, &mut row);
+    let mut words = vec![in alloc; 0; bucket_row_words(settings) as usize]?;
+    setup.layout.write_bucket(&row, &mut words);
+    Ok(Some(words))
 }
 
 /// Another bucket that is the same, with all the room of a bucket of the table.
