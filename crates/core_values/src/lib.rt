@@ -17,3 +17,6 @@ pub use rows::{copy_bucket, is_of_table, read_bucket, write_bucket};
 pub use seats::{PlainAccount, PlainFlight, PlainSeat, PlainStand, PlainWorld};
 pub use setup::PlainSetup;
 pub use values::{PlainDirectory, PlainLeaf, PlainLoaded};
+
+#[cfg(test)]
+mod tests;
