@@ -1,7 +1,9 @@
 -- How the rule begins, and how views are cut and put together.
-use Rattle.std.proofs.Common.{◌≡◌, ℕ, zero, suc, ◌+◌, ◌-◌, ◌*◌, ◌<◌, ◌≤◌, List, [], ◌∷◌, ◌++◌, get_or, set, take, sum, replicate, ⊎_elim, refl, sym, ap, ◌∙◌, subst, arith}
+use Rattle.std.proofs.Common.{◌≡◌, ℕ, zero, suc, ◌+◌, ◌-◌, ◌*◌, ◌<◌, ◌≤◌, List, [], ◌∷◌, ◌++◌, length, get_or, set, take, sum, replicate, ⊎_elim, refl, sym, ap, ◌∙◌, subst, arith}
+use Rattle.std.specs.Prelude.{All}
 use Rattle.std.proofs.lemmas.Bool.Decides.{nat_tests}
 use Rattle.std.proofs.lemmas.List.{get_or-replicate}
+use Rattle.std.proofs.lemmas.List.Elements.{All-nil, All-cons}
 use Rattle.std.proofs.lemmas.List.Sums.{sum_by_more}
 use mathlib.Core.Option.{some, some-injective, some-ne-none}
 use lib.ListN.{get_elem?}
@@ -71,6 +73,15 @@ fresh-snoc t i (suc n) =
     let e : suc n + 1 ≡ suc (n + 1) = omega arith in
     let f : suc i + n ≡ i + suc n = omega arith in
     ap (fresh_from t i) e ∙ ap (λ (l : List AdderValue). fresh t i ∷ l) (fresh-snoc t (suc i) n ∙ ap (λ (k : ℕ). fresh_from t (suc i) n ++ fresh t k ∷ []) f)
+
+pub length-fresh : (t : TableValue) (i n : ℕ) → length (fresh_from t i n) ≡ n
+length-fresh t i zero = refl
+length-fresh t i (suc n) = omega (arith, length-fresh t (suc i) n)
+
+-- what holds of each new adder
+pub fresh_all : (P : AdderValue → Type 0) (t : TableValue) (i n : ℕ) → ((k : ℕ) → i ≤ k → k < i + n → P (fresh t k)) → All P (fresh_from t i n)
+fresh_all P t i zero f = All-nil P
+fresh_all P t i (suc n) f = All-cons P (fresh t i) (fresh_from t (suc i) n) (f i (omega arith) (omega arith)) (fresh_all P t (suc i) n (λ k a b. f k (omega arith) (omega arith)))
 
 pub idles-next : (k n : ℕ) → k < n → idles k (n - k) ≡ (k, resting, []) ∷ idles (k + 1) (n - (k + 1))
 idles-next k n h = let e : n - k ≡ suc (n - (k + 1)) = omega arith in let f : suc k ≡ k + 1 = omega arith in
