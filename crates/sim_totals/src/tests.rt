@@ -220,7 +220,7 @@ fn two_adders_meet(rt: HostRuntime) -> Result<(), Fail> {
 // So do eight adders with 10,000 adds each, round after round.
 #[test]
 fn eight_adders_meet_again_and_again(rt: HostRuntime) -> Result<(), Fail> {
-    for round in 0..10 {
+    for round in 0..20 {
         let (closed, logs) = met(&rt, rt.alloc(), &[10_000; 8], 10_000)?;
         assert_eq!(rt; closed.order.len(), 80_000, "in round {round}");
         assert_eq!(rt;
