@@ -27,10 +27,10 @@ find "$program/proofs" -name '*.antt' -exec sed -i 's/sim_totals\.proofs\.tests\
 //! Times adders that add to one table, each in a thread of its own.
 #![tactic(auto)]
 
-ghost use Rattle.std.specs.Prelude.{◌≡◌, ◌+◌, ◌≤◌, [], All, length, IfOk, vec_len, vec_capacity};
+ghost use Rattle.std.specs.Prelude.{◌≡◌, ◌+◌, ◌≤◌, All, length, IfOk, vec_len, vec_capacity};
 ghost use Rattle.sim_steps.specs.Totals.{IsAdd};
 ghost use Rattle.sim_steps.specs.Layout.{AreSettings, room_of};
-ghost use Rattle.sim_totals.specs.Values.{IsOf, log_of};
+ghost use Rattle.sim_totals.specs.Values.{IsNew, IsOf, log_of};
 
 use sim_totals::{Add, Added, Adder, Totals, TotalsTable};
 use std::alloc::{AllocError, Global};
@@ -85,21 +85,14 @@ fn main(rt: HostRuntime) -> io::Result<()> {
 RT
 } >"$program/src/main.rt"
 cat >"$program/proofs/timed/Answers.antt" <<'ANTT'
-use Rattle.std.proofs.Common.{◌≡◌, ℕ, [], length, refl, ap, ◌∙◌, arith}
+use Rattle.std.proofs.Common.{◌≡◌, ℕ, ap}
 use Rattle.std.proofs.lemmas.List.Elements.{All-same}
-use Rattle.sim_steps.specs.Layout.{Settings, room_of, seats_of}
-use Rattle.sim_totals.specs.Values.{AdderValue, IsOf, fresh_from, log_of}
-use Rattle.sim_totals.proofs.Parts.{fresh_all}
+use Rattle.sim_steps.specs.Layout.{Settings}
 use Rattle.totals_bench.proofs.timed.Goals as goal
 
-pub workers_of-requires : goal.workers_of-requires
-workers_of-requires g c =
-    let t = c.in_ok-table.table in
-    let n : ℕ = length c.args.adds.now in
-    let P : AdderValue → Type 0 = λ a. IsOf t a × (log_of a ≡ []) × (room_of a.settings a.number ≡ c.args.count) in
-    let s = c.in_ok-table.ensures.settings in
-    All-same P c.in_ok-table.adders.items (fresh_from t 0 n) c.in_ok-table.ensures.adders
-    (fresh_all P t 0 n (λ k from below. (record { table = refl; settings = refl; inside = omega (arith, ap seats_of s) }, refl, ap (λ (q : Settings). room_of q k) s ∙ c.requires.count k 0 (omega arith))))
+pub workers_of-requires-clause-count : goal.workers_of-requires-clause-count
+workers_of-requires-clause-count g c =
+    All-same (λ (room : ℕ). room ≡ c.args.count) c.in_ok-table.table.settings.adds c.args.adds.now (ap (λ (q : Settings). q.adds) c.in_ok-table.ensures.settings) c.requires.count
 ANTT
 
 # The same adds in Rust: the class's new count is the answer, which each thread keeps. The six AtomicU64 are added to one by

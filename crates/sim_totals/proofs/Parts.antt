@@ -16,7 +16,7 @@ use Rattle.sim_steps.specs.Program.{Seat, resting}
 use Rattle.sim_steps.specs.World.{Event, place_of, opening_row, opening_words}
 use Rattle.sim_totals.specs.declared.view.View.{View}
 use Rattle.sim_totals.specs.Rule.{Entry, view, idles, whole, times, once_below, total, Among, Shows, At, M, one, head_of, tail_of, others, foremost}
-use Rattle.sim_totals.specs.Values.{AdderValue, TableValue, fresh, fresh_from}
+use Rattle.sim_totals.specs.Values.{AdderValue, TableValue, IsNew, fresh, fresh_from}
 use Rattle.sim_totals.proofs.Lists.{total-set, total-append}
 
 pub times-append : (i : ℕ) (xs ys : List Entry) → times i (xs ++ ys) ≡ times i xs + times i ys
@@ -78,10 +78,11 @@ pub length-fresh : (t : TableValue) (i n : ℕ) → length (fresh_from t i n) �
 length-fresh t i zero = refl
 length-fresh t i (suc n) = omega (arith, length-fresh t (suc i) n)
 
--- what holds of each new adder
-pub fresh_all : (P : AdderValue → Type 0) (t : TableValue) (i n : ℕ) → ((k : ℕ) → i ≤ k → k < i + n → P (fresh t k)) → All P (fresh_from t i n)
-fresh_all P t i zero f = All-nil P
-fresh_all P t i (suc n) f = All-cons P (fresh t i) (fresh_from t (suc i) n) (f i (omega arith) (omega arith)) (fresh_all P t (suc i) n (λ k a b. f k (omega arith) (omega arith)))
+-- they are new adders of the table
+pub fresh_new : (t : TableValue) (i n : ℕ) → i + n ≤ seats_of t.settings → All (IsNew t) (fresh_from t i n)
+fresh_new t i zero h = All-nil (IsNew t)
+fresh_new t i (suc n) h =
+    All-cons (IsNew t) (fresh t i) (fresh_from t (suc i) n) (record { of = record { table = refl; settings = refl; inside = omega arith }; log = refl }) (fresh_new t (suc i) n (omega arith))
 
 pub idles-next : (k n : ℕ) → k < n → idles k (n - k) ≡ (k, resting, []) ∷ idles (k + 1) (n - (k + 1))
 idles-next k n h = let e : n - k ≡ suc (n - (k + 1)) = omega arith in let f : suc k ≡ k + 1 = omega arith in

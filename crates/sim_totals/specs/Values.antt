@@ -43,6 +43,11 @@ pub record IsOf (t : TableValue) (a : AdderValue) : Type 0 where
   pub settings : a.settings ≡ t.settings
   pub inside : a.number < seats_of t.settings
 
+-- the adder is one of the table's, and has answered nothing
+pub record IsNew (t : TableValue) (a : AdderValue) : Type 0 where
+  pub of : IsOf t a
+  pub log : log_of a ≡ []
+
 pub record IsSame (a b : AdderValue) : Type 0 where
   pub table : b.table_id ≡ a.table_id
   pub settings : b.settings ≡ a.settings

@@ -5,7 +5,7 @@ ghost use Rattle.sim_steps.specs.Layout.{AreSettings, desk_of, row_words, seats_
 ghost use Rattle.sim_steps.specs.Machine.{IsDesk};
 ghost use Rattle.sim_steps.specs.World.{opening_words, opening_row};
 ghost use Rattle.sim_totals.specs.Rule.{view, idles, plain};
-ghost use Rattle.sim_totals.specs.Values.{IsOf, Ran, fresh_from};
+ghost use Rattle.sim_totals.specs.Values.{IsNew, IsOf, Ran, fresh_from};
 ghost use Rattle.sim_totals.specs.Insides.{HasAll, Left};
 ghost use Rattle.std.specs.Mem.Slots.{slots_items, slots_len, IsFull};
 
@@ -174,6 +174,8 @@ impl TotalsTable {
         requires { AreSettings (record { adds = adds.now; first = first.now }) }
         ensures settings { IfOk result (λ r. r.0.settings ≡ record { adds = adds.now; first = first.now }) }
         ensures adders { IfOk result (λ r. r.1.items ≡ fresh_from r.0 0 (length adds.now)) }
+        ensures count { IfOk result (λ r. vec_len r.1 ≡ length adds.now) }
+        ensures ready { IfOk result (λ r. All (IsNew r.0) r.1.items) }
     {
         let desk = Desk {
             seats: adds.len() as u64,

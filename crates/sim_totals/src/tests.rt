@@ -1,7 +1,7 @@
 ghost use Rattle.std.specs.Prelude.{◌≡◌, ◌+◌, ◌^◌, ◌<◌, ◌≤◌, [], All, length, sum, IfOk, IfSome, vec_len, vec_capacity};
 ghost use Rattle.sim_steps.specs.Totals.{IsAdd};
 ghost use Rattle.sim_steps.specs.Layout.{AreSettings, room_of, seats_of};
-ghost use Rattle.sim_totals.specs.Values.{HasRoom, IsOf, IsSame, fresh, fresh_from, log_of};
+ghost use Rattle.sim_totals.specs.Values.{IsNew, IsOf, fresh, fresh_from, log_of};
 
 use super::*;
 use std::alloc::{AllocError, Global};
@@ -69,7 +69,8 @@ fn workers_of(
     mut adders: Vec<Adder>,
     count: u32,
 ) -> Result<Vec<Worker>, AllocError>
-    requires { All (λ a. IsOf table.now a × (log_of a ≡ []) × (room_of a.settings a.number ≡ count)) adders.items }
+    requires adders { All (IsNew table.now) adders.items }
+    requires count { All (λ room. room ≡ count) table.now.settings.adds }
     ensures ready { IfOk result (λ v. All (λ w. IsOf table.now w.adder × (length (log_of w.adder) + vec_len w.adds ≤ room_of w.adder.settings w.adder.number) × All IsAdd w.adds.items × (vec_len w.log + vec_len w.adds ≤ vec_capacity w.log)) v.items) }
     ensures count { IfOk result (λ v. vec_len v ≡ vec_len adders) }
 {
