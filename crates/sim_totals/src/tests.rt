@@ -5,8 +5,10 @@ ghost use Rattle.sim_totals.specs.Values.{IsNew, IsOf, fresh, fresh_from, log_of
 
 use super::*;
 use std::alloc::{AllocError, Global};
+use std::sync::atomic::AtomicU64;
+use std::sync::atomic::Ordering::SeqCst;
 use std::test::Fail;
-use std::thread::{Threads, for_each_mut};
+use std::thread::{Threads, for_each_mut, yield_now};
 
 const NONE: Totals = Totals {
     counts: [0; 3],
@@ -23,27 +25,41 @@ fn two_of(mut adders: Vec<Adder>, table: &TotalsTable) -> Option<(Adder, Adder)>
     Some((first, second))
 }
 
-// One adder, what it is to add, and what it was answered.
+// One adder, what it is to add, what it was answered, and whether it saw all others before its first add.
 #[derive(Drop)]
 struct Worker {
     adder: Adder,
     adds: Vec<Add>,
     log: Vec<Added>,
+    saw_all: bool,
 }
 
 impl Worker {
-    fn work(&mut self, table: &TotalsTable)
+    fn work(&mut self, table: &TotalsTable, arrivals: &AtomicU64, all: u64)
         requires of { IsOf table.now self.old.adder }
         requires room { length (log_of self.old.adder) + vec_len self.old.adds ≤ room_of self.old.adder.settings self.old.adder.number }
         requires adds { All IsAdd self.old.adds.items }
         requires log { vec_len self.old.log + vec_len self.old.adds ≤ vec_capacity self.old.log }
         ensures { IsOf table.now self.new.adder }
     {
+        self.saw_all = sees_all(arrivals, all);
         for i in 0..self.adds.len() {
             let added = self.adder.add(table, &self.adds[i]);
             self.log.push_reserved(added);
         }
     }
+}
+
+// Arrives, and says whether so many arrive while it looks, which is some seconds at most.
+fn sees_all(arrivals: &AtomicU64, all: u64) -> bool {
+    arrivals.fetch_add(1, SeqCst);
+    for _ in 0..10_000_000 {
+        if arrivals.load(SeqCst) >= all {
+            return true;
+        }
+        yield_now();
+    }
+    false
 }
 
 // So many adds of all classes, which begin with another class at the next seat.
@@ -80,6 +96,7 @@ fn workers_of(
             adder,
             adds: some_adds(alloc, adders.len(), count)?,
             log: Vec::with_capacity(alloc, count as usize)?,
+            saw_all: false,
         })?;
     }
     Ok(workers)
@@ -90,7 +107,14 @@ fn all_work<R: Threads + Sync>(rt: &R, table: &TotalsTable, workers: &mut [Worke
     requires { All (λ w. IsOf table.now w.adder × (length (log_of w.adder) + vec_len w.adds ≤ room_of w.adder.settings w.adder.number) × All IsAdd w.adds.items × (vec_len w.log + vec_len w.adds ≤ vec_capacity w.log)) workers.old }
     ensures { All (λ w. IsOf table.now w.adder) workers.new }
 {
-    for_each_mut(rt, workers, 8, &|_, worker| worker.work(table));
+    let arrivals = AtomicU64::new(0);
+    let all = workers.len() as u64;
+    for_each_mut(
+        rt,
+        workers,
+        8,
+        &|_, worker| worker.work(table, &arrivals, all),
+    );
 }
 
 // The adders and what each was answered, the last worker first.
@@ -110,6 +134,7 @@ fn parts_of(
             adder,
             adds: _,
             log,
+            saw_all: _,
         } = worker;
         adders.push(adder)?;
         logs.push(log)?;
@@ -117,23 +142,36 @@ fn parts_of(
     Ok((adders, logs))
 }
 
-// The adders of a new table meet, each with so many adds. Tells what it was when it was closed, and what
-// the adders were answered, seat by seat.
+// Whether all adders were there at once, what the table was when it was closed, and what the adders were
+// answered, seat by seat.
+#[derive(Drop)]
+struct Meeting {
+    at_once: bool,
+    closed: ClosedTotals,
+    logs: Vec<Vec<Added>>,
+}
+
+// The adders of a new table meet, each with so many adds.
 fn met<R: Threads + Sync>(
     rt: &R,
     alloc: Global,
     adds: &[u32],
     count: u32,
-) -> Result<(ClosedTotals, Vec<Vec<Added>>), AllocError>
+) -> Result<Meeting, AllocError>
     requires settings { AreSettings (record { adds = adds.now; first = NONE }) }
     requires count { All (λ room. room ≡ count) adds.now }
 {
     let (table, adders) = TotalsTable::open(alloc, adds, &NONE)?;
     let mut workers = workers_of(alloc, &table, adders, count)?;
     all_work(rt, &table, workers.as_mut_slice());
+    let at_once = workers.iter().all(|worker| worker.saw_all);
     let (adders, logs) = parts_of(alloc, &table, workers)?;
     match table.close(alloc, adders) {
-        Ok(closed) => Ok((closed, logs)),
+        Ok(closed) => Ok(Meeting {
+            at_once,
+            closed,
+            logs,
+        }),
         Err((failed, _, _)) => Err(failed),
     }
 }
@@ -205,10 +243,15 @@ fn lone_seats_take_their_steps(rt: HostRuntime) -> Result<(), Fail> {
 
 // Two adders in threads of their own are closed, and a plain program gives each answer along the order. No
 // clause says that they run at once, or on the shared words. The counts are by hand: the adds of a seat go
-// round the classes, and the first of seat 1 is of class 1. The bound is 5 (7 + 2 n) + 9 n + 10.
+// round the classes, and the first of seat 1 is of class 1.
 #[test]
 fn two_adders_meet(rt: HostRuntime) -> Result<(), Fail> {
-    let (closed, logs) = met(&rt, rt.alloc(), &[500; 2], 500)?;
+    let Meeting {
+        at_once,
+        closed,
+        logs,
+    } = met(&rt, rt.alloc(), &[500; 2], 500)?;
+    assert!(rt; at_once);
     assert_eq!(rt; closed.order.len(), 1000);
     assert_eq!(rt;
         replayed(closed.order.as_slice(), logs.as_slice()),
@@ -218,11 +261,16 @@ fn two_adders_meet(rt: HostRuntime) -> Result<(), Fail> {
     Ok(())
 }
 
-// So do eight adders with 10,000 adds each, round after round.
+// So do eight adders with 10,000 adds each, round after round. The bound is 5 (7 + 2 n) + 9 n + 10, by hand.
 #[test]
 fn eight_adders_meet_again_and_again(rt: HostRuntime) -> Result<(), Fail> {
     for round in 0..20 {
-        let (closed, logs) = met(&rt, rt.alloc(), &[10_000; 8], 10_000)?;
+        let Meeting {
+            at_once,
+            closed,
+            logs,
+        } = met(&rt, rt.alloc(), &[10_000; 8], 10_000)?;
+        assert!(rt; at_once, "in round {round}");
         assert_eq!(rt; closed.order.len(), 80_000, "in round {round}");
         assert_eq!(rt;
             replayed(closed.order.as_slice(), logs.as_slice()),
