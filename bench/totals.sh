@@ -1,9 +1,10 @@
 #!/usr/bin/env bash
 # Times 1, 2 and 8 adders in threads of their own: on `sim_totals`, and in Rust with six counters under a Mutex and with six
 # AtomicU64. Prints the adds a second of each, the most of seven runs, and the ratios. Not part of the gate.
-# Wants rustc. The first run proves the crates, which takes some minutes. COUNT=N sets how many packets each adder adds.
+# Wants rustc. The first run proves the crates, which takes some minutes. COUNT=N sets how many packets each adder adds; in Rust
+# it is ten times as many, since so few take less time there than the threads take to start.
 set -eu
-count="${COUNT:-20000}"
+count="${COUNT:-50000}"
 top="$(cd "$(dirname "$0")/.." && pwd)"
 work="$(mktemp -d)"
 trap 'rm -rf "$work"' EXIT
@@ -35,7 +36,9 @@ ghost use Rattle.sim_totals.specs.Values.{IsNew, IsOf, log_of};
 use sim_totals::{Add, Added, Adder, Totals, TotalsTable};
 use std::alloc::{AllocError, Global};
 use std::io;
-use std::thread::{Threads, for_each_mut};
+use std::sync::atomic::AtomicU64;
+use std::sync::atomic::Ordering::SeqCst;
+use std::thread::{Threads, for_each_mut, yield_now};
 use std::time::{Clock, Instant};
 
 const NONE: Totals = Totals {
@@ -50,7 +53,7 @@ const COUNT: u32 = $count;
 RT
     cat <<'RT'
 
-// Runs the adders of a new table, and prints how many there are, the nanoseconds that they take, and all their steps.
+// Runs the adders of a new table, and prints how many there are, their adds, the nanoseconds that these take, and all their steps.
 fn timed<R: Threads + Clock + Print + Sync>(
     rt: &R,
     alloc: Global,
@@ -65,13 +68,14 @@ fn timed<R: Threads + Clock + Print + Sync>(
     let start = Instant::now(rt)?;
     all_work(rt, &table, workers.as_mut_slice());
     let nanoseconds = start.elapsed(rt)?.as_nanos();
-    let mut steps = 0u64;
+    let (mut made, mut steps) = (0u64, 0u64);
     for worker in &workers {
         for added in &worker.log {
+            made = made.wrapping_add(1);
             steps = steps.wrapping_add(added.steps);
         }
     }
-    println!(rt; "sim_totals {} {nanoseconds} {steps}", workers.len())
+    println!(rt; "sim_totals {} {made} {nanoseconds} {steps}", workers.len())
 }
 
 fn main(rt: HostRuntime) -> io::Result<()> {
@@ -95,8 +99,8 @@ workers_of-requires-clause-count g c =
     All-same (λ (room : ℕ). room ≡ c.args.count) c.in_ok-table.table.settings.adds c.args.adds.now (ap (λ (q : Settings). q.adds) c.in_ok-table.ensures.settings) c.requires.count
 ANTT
 
-# The same adds in Rust: the class's new count is the answer, which each thread keeps. The six AtomicU64 are added to one by
-# one, so their totals are never seen at one moment.
+# The same adds in Rust, by threads that wait for one another as the workers do. The answer is the class's new count, which each
+# thread keeps. The six AtomicU64 are added to one by one, so their totals are never seen at one moment.
 cat >"$work/rust.rs" <<'RS'
 use std::env::args;
 use std::sync::Mutex;
@@ -129,6 +133,13 @@ impl Counters for [AtomicU64; 6] {
     }
 }
 
+fn see_all(arrivals: &AtomicU64, all: u64) {
+    arrivals.fetch_add(1, SeqCst);
+    while arrivals.load(SeqCst) < all {
+        thread::yield_now();
+    }
+}
+
 fn timed<C: Counters>(name: &str, counters: &C, adders: usize, count: usize) {
     let mut workers: Vec<(Vec<Add>, Vec<u64>)> = (0..adders)
         .map(|seat| {
@@ -139,16 +150,20 @@ fn timed<C: Counters>(name: &str, counters: &C, adders: usize, count: usize) {
             (adds.collect(), Vec::with_capacity(count))
         })
         .collect();
+    let arrivals = &AtomicU64::new(0);
     let start = Instant::now();
     thread::scope(|scope| {
         for (adds, log) in &mut workers {
-            scope.spawn(move || log.extend(adds.iter().map(|add| counters.add(add))));
+            scope.spawn(move || {
+                see_all(arrivals, adders as u64);
+                log.extend(adds.iter().map(|add| counters.add(add)));
+            });
         }
     });
     let nanoseconds = start.elapsed().as_nanos();
     let most = workers.iter().map(|(_, log)| log.last()).max();
     assert!(most.is_some());
-    println!("{name} {adders} {nanoseconds}");
+    println!("{name} {adders} {} {nanoseconds}", adders * count);
 }
 
 fn main() {
@@ -163,10 +178,10 @@ fn main() {
 RS
 rustc -O -o "$work/rust" "$work/rust.rs"
 (cd "$program" && rt run >"$work/times" 2>"$work/said") || { tail -n 40 "$work/said" >&2; exit 1; }
-"$work/rust" "$count" >>"$work/times"
+"$work/rust" "${count}0" >>"$work/times"
 
 awk -v count="$count" '
-    { rate = $2 * count / $3 * 1e9; if (rate > most[$1, $2]) most[$1, $2] = rate; steps[$1, $2] += $4 / ($2 * count) / 7 }
+    { rate = $3 / $4 * 1e9; if (rate > most[$1, $2]) most[$1, $2] = rate; steps[$1, $2] += $5 / $3 / 7 }
     END {
         printf "adds a second, %d packets an adder, the most of seven runs; steps an add of sim_totals, the mean\n", count
         printf "%-8s %12s %12s %12s %10s %12s %10s\n", "adders", "sim_totals", "Mutex", "AtomicU64", "to Mutex", "to AtomicU64", "steps"
