@@ -32,7 +32,7 @@ module _ (k : Settings) (desk : Desk) (e : desk ≡ desk_of k 0) (ws : List ℕ)
     run = left.run;
     steps = left.steps;
     seats = left.seats;
-    seen = left.seen;
+    once = left.once;
     order_is = o ∙ ap (λ (d : Desk). read_order d.seats d.rows ws) e ∙ ap (λ (xs : List ℕ). let d = desk_of k 0 in read_order d.seats d.rows xs) (sym left.words);
     counts = reads_world 1 totals.counts counts;
     bytes = reads_world 4 totals.bytes bytes;

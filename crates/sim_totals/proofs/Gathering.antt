@@ -1,19 +1,21 @@
 -- How adders are put together again, and what is known at the end.
-use Rattle.std.proofs.Common.{◌≡◌, ℕ, zero, suc, ◌+◌, List, [], ◌∷◌, ◌++◌, length, get_or, set, take, drop, ⊎_elim, sym, ap, ◌∙◌, subst, arith}
-use Rattle.std.proofs.lemmas.List.{drop_all, length-replicate}
-use Rattle.std.proofs.Math.Seq.{drop-cons}
+use Rattle.std.proofs.Common.{◌≡◌, ℕ, zero, suc, ◌+◌, ◌<◌, ◌≤◌, List, [], ◌∷◌, ◌++◌, length, set, take, cond, eqb, ltb, inl, inr, ⊎_elim, Some, refl, sym, ap, ◌∙◌, subst, arith}
+use Rattle.std.specs.Prelude.{All}
+use Rattle.std.proofs.lemmas.Bool.{cases_eq, cond-true, lt-ltb}
+use Rattle.std.proofs.lemmas.Bool.Decides.{nat_tests}
+use Rattle.std.proofs.lemmas.List.Elements.{All-nil, All-cons, All-pop}
+use Rattle.std.proofs.lemmas.List.Sums.{sum_by-cons}
 use mathlib.Core.Option.{some, some-injective, some-ne-none}
 use lib.ListN.{get_elem?}
 use Rattle.atomic_table.specs.Table.{Joins, Final, Seen}
 use Rattle.atomic_table.proofs.Lists.{at_set, set_else}
 use Rattle.sim_steps.specs.Layout.{Settings, seats_of}
-use Rattle.sim_steps.specs.Program.{Seat, resting}
-use Rattle.sim_steps.specs.World.{World, Event, opening, world_after}
+use Rattle.sim_steps.specs.World.{Event}
 use Rattle.sim_totals.specs.declared.view.View.{View}
-use Rattle.sim_totals.specs.Rule.{Entry, view, one, M, times, once_below, total, Among, Shows, together, spent}
-use Rattle.sim_totals.specs.Values.{AdderValue, TableValue, InOrder, AllSeen, seats_in}
+use Rattle.sim_totals.specs.Rule.{Entry, view, one, M, is_at, times, once_below, total, Among, Shows, together, spent}
+use Rattle.sim_totals.specs.Values.{AdderValue, TableValue, IsLeft, IsOf, adders_of}
 use Rattle.sim_totals.specs.Insides.{Token, entries, HasAll, Left}
-use Rattle.sim_totals.proofs.Lists.{total-set, length-world}
+use Rattle.sim_totals.proofs.Lists.{total-set, term_le, once_few}
 use Rattle.sim_totals.proofs.Parts.{times-append}
 
 among-append : (c : Settings) (run : List Event) (d : Settings) (xs ys : List Entry) → Among c run d xs → Among c run d ys → Among c run d (xs ++ ys)
@@ -42,9 +44,8 @@ joins c id v other w same s r at ne at' =
           omega arith;
     }
 
-pub in_order-end : (d : TableValue) (i : ℕ) (xs : List AdderValue) (x : AdderValue) → InOrder d i (xs ++ x ∷ []) → InOrder d i xs × (x.table_id ≡ d.table_id) × (x.settings ≡ d.settings)
-in_order-end d i [] x h = (tt, h.0, h.1)
-in_order-end d i (y ∷ ys) x h = let r = in_order-end d (suc i) ys x h.3 in ((h.0, h.1, h.2, r.0), r.1, r.2)
+pub all_of-end : (d : TableValue) (xs : List AdderValue) (x : AdderValue) → All (IsOf d) (xs ++ x ∷ []) → All (IsOf d) xs × IsOf d x
+all_of-end d xs x h = All-pop (IsOf d) (xs ++ x ∷ []) xs (Some x) refl h
 
 pub gathers : (d : TableValue) (done : List AdderValue) (x : AdderValue) (t u t' : Token) → HasAll d done t → x.settings ≡ d.settings → u.me ≡ (one x.settings x.number x.seat x.seen, [])
     → t'.table_id ≡ t.table_id → t'.me ≡ (together t.me.0 u.me.0, t.me.1) → HasAll d (x ∷ done) t'
@@ -55,27 +56,71 @@ gathers d done x t u t' h same u_is table me =
 pub gathers_first : (d : TableValue) (x : AdderValue) (t : Token) → x.table_id ≡ d.table_id → x.settings ≡ d.settings → t.table_id ≡ x.table_id → t.me ≡ (one x.settings x.number x.seat x.seen, []) → HasAll d (x ∷ []) t
 gathers_first d x t table same t_table me = let f : Settings → M = λ c. (one c x.number x.seat x.seen, []) in record { table = t_table ∙ table; me = me ∙ ap f same }
 
-all_seen : (c d : Settings) (run : List Event) (xs : List AdderValue) → Among c run d (entries xs) → AllSeen run xs
-all_seen c d run [] a = tt
-all_seen c d run (x ∷ xs) a = (a.3, a.4, all_seen c d run xs a.5)
+-- how often the seats below n stand in a list, all together
+abbrev times_below : ℕ → List Entry → ℕ
+times_below zero es = 0
+times_below (suc n) es = times n es + times_below n es
 
-all_there : (c d : Settings) (p : TableValue) (run : List Event) (k : ℕ) (xs : List AdderValue) → InOrder p k xs → Among c run d (entries xs) → length (world_after c run).seats ≡ k + length xs → drop k (world_after c run).seats ≡ seats_in xs
-all_there c d p run k [] o a e = drop_all k (world_after c run).seats (omega arith)
-all_there c d p run k (x ∷ xs) o a e =
-    let ss : List Seat = (world_after c run).seats in
-    let at : get_or ss k resting ≡ x.seat = ap (λ (i : ℕ). get_or ss i resting) (sym o.2) ∙ a.2 in
-    drop-cons ss k resting (omega arith) ∙ ap (λ (y : Seat). y ∷ drop (suc k) ss) at ∙ ap (λ (l : List Seat). x.seat ∷ l) (all_there c d p run (suc k) xs o.3 a.5 (omega arith))
+below_nil : (n : ℕ) → times_below n [] ≡ 0
+below_nil zero = refl
+below_nil (suc n) = omega (arith, below_nil n)
+
+once_below-suc : (n k : ℕ) → once_below (suc n) k ≡ is_at k n + once_below n k
+once_below-suc n k = grind (arith, nat_tests)
+
+below_cons : (n : ℕ) (e : Entry) (es : List Entry) → times_below n (e ∷ es) ≡ once_below n e.0 + times_below n es
+below_cons zero e es = grind (arith, nat_tests)
+below_cons (suc n) e es = omega (arith, below_cons n e es, once_below-suc n e.0)
+
+below_length : (c : Settings) (run : List Event) (d : Settings) (es : List Entry) → Among c run d es → times_below (seats_of c) es ≡ length es
+below_length c run d [] a = below_nil (seats_of c)
+below_length c run d (e ∷ es) a =
+    let one : once_below (seats_of c) e.0 ≡ 1 = cond-true (ltb e.0 (seats_of c)) 1 0 (lt-ltb e.0 (seats_of c) a.1) in
+    omega (arith, below_cons (seats_of c) e es, below_length c run d es a.5, one)
+
+below_few : (es : List Entry) → ((i : ℕ) → times i es ≤ 1) → (n : ℕ) → times_below n es ≤ n
+below_few es few zero = omega arith
+below_few es few (suc n) = omega (arith, below_few es few n, few n)
+
+-- where none stands twice and there are as many as seats, each seat stands once
+each_once : (es : List Entry) → ((i : ℕ) → times i es ≤ 1) → (n : ℕ) → times_below n es ≡ n → (i : ℕ) → i < n → times i es ≡ 1
+each_once es few zero all i h = absurd (omega arith)
+each_once es few (suc n) all i h =
+    let rest : times_below n es ≡ n = omega (arith, below_few es few n, few n) in
+    elim (cases_eq i n) [
+      | inl is ↦ ap (λ (k : ℕ). times k es) is ∙ omega (arith, below_few es few n, few n)
+      | inr ne ↦ each_once es few n rest i (omega (arith, ne))
+    ]
+
+all_left : (c d : Settings) (run : List Event) (xs : List AdderValue) → Among c run d (entries xs) → All (IsLeft c run) xs
+all_left c d run [] a = All-nil (IsLeft c run)
+all_left c d run (x ∷ xs) a = All-cons (IsLeft c run) x xs (record { seen = a.3; own = a.4; state = a.2 }) (all_left c d run xs a.5)
+
+entries_count : (i : ℕ) (xs : List AdderValue) → times i (entries xs) ≡ adders_of i xs
+entries_count i [] = refl
+entries_count i (x ∷ xs) = omega (arith, entries_count i xs, sum_by-cons (λ (a : AdderValue). cond (eqb a.number i) 1 0) x xs)
+
+length-entries : (xs : List AdderValue) → length (entries xs) ≡ length xs
+length-entries [] = refl
+length-entries (x ∷ xs) = omega (arith, length-entries xs)
 
 -- the last state of the table, seen with all adders in one token
-pub ends : (c : Settings) (p : TableValue) (id : ℕ) (xs : List AdderValue) (t : Token) (ws : List ℕ) (slots : List (Unit {0})) → InOrder p 0 xs → length xs ≡ seats_of c → HasAll p xs t
+pub ends : (c : Settings) (p : TableValue) (id : ℕ) (xs : List AdderValue) (t : Token) (ws : List ℕ) (slots : List (Unit {0})) → length xs ≡ seats_of c → HasAll p xs t
     → Final (Seen (Shows c) id t.me.0) ws slots → Left c ws xs
-ends c p id xs t ws slots o all h f =
+ends c p id xs t ws slots all h f =
     let r = f.1.0 in
-    let w : World = world_after c r.run in
     let got : get_elem? f.0.views id ≡ some (view p.settings (entries xs)) = f.1.1 ∙ ap (λ (m : M). some m.0) h.me in
     let a : Among c r.run p.settings (entries xs) = r.agrees id (view p.settings (entries xs)) got in
-    let n : length w.seats ≡ 0 + length xs = omega (arith, length-world c (opening c) r.run, length-replicate (seats_of c) resting, all) in
-    record { run = r.run; steps = r.steps; words = sym r.words ∙ f.2; seats = all_there c p.settings p r.run 0 xs o a n; seen = all_seen c p.settings r.run xs a }
+    let few : (i : ℕ) → times i (entries xs) ≤ 1 = λ i.
+    omega (arith, term_le (λ (u : View). times i u.bundle) f.0.views id (view p.settings (entries xs)) got, r.once i, once_few (seats_of c) i) in
+    let long : length (entries xs) ≡ seats_of c = length-entries xs ∙ all in
+    record {
+      run = r.run;
+      steps = r.steps;
+      words = sym r.words ∙ f.2;
+      seats = all_left c p.settings r.run xs a;
+      once = λ i h. sym (entries_count i xs) ∙ each_once (entries xs) few (seats_of c) (below_length c r.run p.settings (entries xs) a ∙ long) i h;
+    }
 
 pub take_at : (l : List ℕ) (i n : ℕ) → get_elem? l i ≡ some n → take (i + 1) l ≡ take i l ++ n ∷ []
 take_at [] i n e = absurd (some-ne-none n (sym e))

@@ -22,7 +22,7 @@ module _ (g : View → ℕ) where
   total-set (x ∷ xs) zero v w e = omega (arith, ap g (some-injective x v e))
   total-set (x ∷ xs) (suc j) v w e = omega (arith, total-set xs j v w e)
 
-  term_le : (l : List View) (j : ℕ) (v : View) → get_elem? l j ≡ some v → g v ≤ total g l
+  pub term_le : (l : List View) (j : ℕ) (v : View) → get_elem? l j ≡ some v → g v ≤ total g l
   term_le [] j v e = absurd (some-ne-none v (sym e))
   term_le (x ∷ xs) zero v e = omega (arith, ap g (some-injective x v e))
   term_le (x ∷ xs) (suc j) v e = omega (arith, term_le xs j v e)

@@ -1,7 +1,9 @@
 -- How the rule begins, and how views are cut and put together.
-use Rattle.std.proofs.Common.{◌≡◌, ℕ, zero, suc, ◌+◌, ◌-◌, ◌*◌, ◌<◌, ◌≤◌, List, [], ◌∷◌, ◌++◌, get_or, set, take, sum, replicate, ⊎_elim, refl, sym, ap, ◌∙◌, subst, arith}
+use Rattle.std.proofs.Common.{◌≡◌, ℕ, zero, suc, ◌+◌, ◌-◌, ◌*◌, ◌<◌, ◌≤◌, List, [], ◌∷◌, ◌++◌, length, get_or, set, take, sum, replicate, ⊎_elim, refl, sym, ap, ◌∙◌, subst, arith}
+use Rattle.std.specs.Prelude.{All}
 use Rattle.std.proofs.lemmas.Bool.Decides.{nat_tests}
 use Rattle.std.proofs.lemmas.List.{get_or-replicate}
+use Rattle.std.proofs.lemmas.List.Elements.{All-nil, All-cons}
 use Rattle.std.proofs.lemmas.List.Sums.{sum_by_more}
 use mathlib.Core.Option.{some, some-injective, some-ne-none}
 use lib.ListN.{get_elem?}
@@ -14,7 +16,7 @@ use Rattle.sim_steps.specs.Program.{Seat, resting}
 use Rattle.sim_steps.specs.World.{Event, place_of, opening_row, opening_words}
 use Rattle.sim_totals.specs.declared.view.View.{View}
 use Rattle.sim_totals.specs.Rule.{Entry, view, idles, whole, times, once_below, total, Among, Shows, At, M, one, head_of, tail_of, others, foremost}
-use Rattle.sim_totals.specs.Values.{AdderValue, TableValue, fresh, fresh_from}
+use Rattle.sim_totals.specs.Values.{AdderValue, TableValue, IsNew, fresh, fresh_from}
 use Rattle.sim_totals.proofs.Lists.{total-set, total-append}
 
 pub times-append : (i : ℕ) (xs ys : List Entry) → times i (xs ++ ys) ≡ times i xs + times i ys
@@ -71,6 +73,16 @@ fresh-snoc t i (suc n) =
     let e : suc n + 1 ≡ suc (n + 1) = omega arith in
     let f : suc i + n ≡ i + suc n = omega arith in
     ap (fresh_from t i) e ∙ ap (λ (l : List AdderValue). fresh t i ∷ l) (fresh-snoc t (suc i) n ∙ ap (λ (k : ℕ). fresh_from t (suc i) n ++ fresh t k ∷ []) f)
+
+pub length-fresh : (t : TableValue) (i n : ℕ) → length (fresh_from t i n) ≡ n
+length-fresh t i zero = refl
+length-fresh t i (suc n) = omega (arith, length-fresh t (suc i) n)
+
+-- they are new adders of the table
+pub fresh_new : (t : TableValue) (i n : ℕ) → i + n ≤ seats_of t.settings → All (IsNew t) (fresh_from t i n)
+fresh_new t i zero h = All-nil (IsNew t)
+fresh_new t i (suc n) h =
+    All-cons (IsNew t) (fresh t i) (fresh_from t (suc i) n) (record { of = record { table = refl; settings = refl; inside = omega arith }; log = refl }) (fresh_new t (suc i) n (omega arith))
 
 pub idles-next : (k n : ℕ) → k < n → idles k (n - k) ≡ (k, resting, []) ∷ idles (k + 1) (n - (k + 1))
 idles-next k n h = let e : n - k ≡ suc (n - (k + 1)) = omega arith in let f : suc k ≡ k + 1 = omega arith in

@@ -1,11 +1,11 @@
 -- How the fields give the values.
-use Rattle.std.specs.Prelude.{◌≡◌, ℕ, List, [], ◌∷◌}
-use Rattle.sim_steps.specs.Layout.{Settings, AreSettings, desk_of, words_of}
+use Rattle.std.specs.Prelude.{◌≡◌, ℕ, ◌<◌, List, [], ◌∷◌, All}
+use Rattle.sim_steps.specs.Layout.{Settings, AreSettings, desk_of, seats_of, words_of}
 use Rattle.sim_steps.specs.Program.{Idle}
 use Rattle.sim_steps.specs.World.{Event, AreSteps, world_after}
 use Rattle.sim_steps.specs.Machine.{Machine}
 use Rattle.sim_totals.specs.Rule.{Entry, view, one, plain, At, state_of, seen_of, M}
-use Rattle.sim_totals.specs.Values.{AdderValue, TableValue, AllSeen, seats_in}
+use Rattle.sim_totals.specs.Values.{AdderValue, TableValue, IsLeft, adders_of}
 use Rattle.sim_totals.specs.declared.view.View.{View}
 use Rattle.atomic_table.specs.declared.shared.Seat.{Seat}
 use Rattle.sim_totals.specs.declared.adder.Adder.TheInside as adder
@@ -50,10 +50,10 @@ pub record HasAll (t : TableValue) (adders : List AdderValue) (token : Token) : 
   pub table : token.table_id ≡ t.table_id
   pub me : token.me ≡ (view t.settings (entries adders), [])
 
--- one list of steps leaves these words, and the seats of these adders
+-- one list of steps leaves these words, and each seat to one of these adders
 pub record Left (settings : Settings) (left : List ℕ) (adders : List AdderValue) : Type 0 where
   pub run : List Event
   pub steps : AreSteps settings run
   pub words : (world_after settings run).words ≡ left
-  pub seats : (world_after settings run).seats ≡ seats_in adders
-  pub seen : AllSeen run adders
+  pub seats : All (IsLeft settings run) adders
+  pub once : (seat : ℕ) → seat < seats_of settings → adders_of seat adders ≡ 1

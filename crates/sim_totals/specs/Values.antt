@@ -1,5 +1,5 @@
 -- What contracts see of an adder and of a table.
-use Rattle.std.specs.Prelude.{◌≡◌, ℕ, zero, suc, ◌+◌, ◌<◌, List, [], ◌∷◌, length, slice_index}
+use Rattle.std.specs.Prelude.{◌≡◌, ℕ, zero, suc, ◌+◌, ◌<◌, ◌==◌, List, [], ◌∷◌, All, count_by, length, slice_index}
 use Rattle.atomic_table.specs.Seated.{TableId}
 use Rattle.sim_steps.specs.declared.adds.Added.{Added}
 use Rattle.sim_steps.specs.declared.adds.Totals.{Totals}
@@ -43,6 +43,11 @@ pub record IsOf (t : TableValue) (a : AdderValue) : Type 0 where
   pub settings : a.settings ≡ t.settings
   pub inside : a.number < seats_of t.settings
 
+-- the adder is one of the table's, and has answered nothing
+pub record IsNew (t : TableValue) (a : AdderValue) : Type 0 where
+  pub of : IsOf t a
+  pub log : log_of a ≡ []
+
 pub record IsSame (a b : AdderValue) : Type 0 where
   pub table : b.table_id ≡ a.table_id
   pub settings : b.settings ≡ a.settings
@@ -60,25 +65,22 @@ abbrev pub fresh_from : TableValue → ℕ → ℕ → List AdderValue
 fresh_from t i zero = []
 fresh_from t i (suc n) = fresh t i ∷ fresh_from t (suc i) n
 
--- the adders are those of the table from seat i on, in the order of their seats
-abbrev pub InOrder : TableValue → ℕ → List AdderValue → Type 0
-InOrder t i [] = Unit {0}
-InOrder t i (a ∷ adders) = (a.table_id ≡ t.table_id) × (a.settings ≡ t.settings) × (a.number ≡ i) × InOrder t (suc i) adders
+-- the run begins with what the adder has seen, has no more steps of its seat, and leaves the seat in its state
+pub record IsLeft (settings : Settings) (run : List Event) (a : AdderValue) : Type 0 where
+  pub seen : StartsWith run a.seen
+  pub own : events_of a.number run ≡ events_of a.number a.seen
+  pub state : seat_in (world_after settings run) a.number ≡ a.seat
 
-abbrev pub seats_in : List AdderValue → List Seat
-seats_in [] = []
-seats_in (a ∷ adders) = a.seat ∷ seats_in adders
+-- how many of these adders are of a seat
+abbrev pub adders_of : ℕ → List AdderValue → ℕ
+adders_of seat adders = count_by (λ a. a.number == seat) adders
 
-abbrev pub AllSeen : List Event → List AdderValue → Type 0
-AllSeen run [] = Unit {0}
-AllSeen run (a ∷ adders) = StartsWith run a.seen × (events_of a.number run ≡ events_of a.number a.seen) × AllSeen run adders
-
--- one list of steps from the opening, which begins with what each adder has seen, leaves these seats, and words with these totals and this order
+-- one list of steps from the opening has all that each adder has seen, and leaves each seat to one adder, and words with these totals and this order
 pub record Ran (settings : Settings) (totals : Totals) (order : List Entry) (adders : List AdderValue) : Type 0 where
   pub run : List Event
   pub steps : AreSteps settings run
-  pub seats : (world_after settings run).seats ≡ seats_in adders
-  pub seen : AllSeen run adders
+  pub seats : All (IsLeft settings run) adders
+  pub once : (seat : ℕ) → seat < seats_of settings → adders_of seat adders ≡ 1
   pub order_is : order ≡ order_of settings (world_after settings run).words
   pub counts : (class : ℕ) → class < 3 → (let words = (world_after settings run).words in slice_index totals.counts class ≡ word_at settings words (StateWord (word_at settings words Root) (1 + class)))
   pub bytes : (class : ℕ) → class < 3 → (let words = (world_after settings run).words in slice_index totals.bytes class ≡ word_at settings words (StateWord (word_at settings words Root) (4 + class)))

@@ -1,11 +1,11 @@
 //! The table of words that the adders of one run share.
 
-ghost use Rattle.std.specs.Prelude.{◌≡◌, ◌+◌, ◌-◌, ◌*◌, ◌^◌, ◌<◌, ◌≤◌, ◌++◌, ◌∷◌, [], length, replicate, sum, slice_index, IfOk, IfErr, OnOk, vec_len, vec_capacity};
+ghost use Rattle.std.specs.Prelude.{◌≡◌, ◌+◌, ◌-◌, ◌*◌, ◌^◌, ◌<◌, ◌≤◌, ◌++◌, ◌∷◌, [], All, length, replicate, sum, slice_index, IfOk, IfErr, OnOk, vec_len, vec_capacity};
 ghost use Rattle.sim_steps.specs.Layout.{AreSettings, desk_of, row_words, seats_of, words_of};
 ghost use Rattle.sim_steps.specs.Machine.{IsDesk};
 ghost use Rattle.sim_steps.specs.World.{opening_words, opening_row};
 ghost use Rattle.sim_totals.specs.Rule.{view, idles, plain};
-ghost use Rattle.sim_totals.specs.Values.{InOrder, Ran, fresh_from};
+ghost use Rattle.sim_totals.specs.Values.{IsNew, IsOf, Ran, fresh_from};
 ghost use Rattle.sim_totals.specs.Insides.{HasAll, Left};
 ghost use Rattle.std.specs.Mem.Slots.{slots_items, slots_len, IsFull};
 
@@ -130,7 +130,7 @@ fn deal(
 // Puts all adders together into one token.
 fn gather(words: &Words, mut adders: Vec<Adder>) -> Token
     requires table { 0 < words.now.table_id.words }
-    requires adders { InOrder (record { table_id = words.now.table_id; settings = plain words.now.key }) 0 adders.items }
+    requires adders { All (IsOf (record { table_id = words.now.table_id; settings = plain words.now.key })) adders.items }
     requires some { 0 < vec_len adders }
     ensures { HasAll (record { table_id = words.now.table_id; settings = plain words.now.key }) adders.items result }
 {
@@ -174,6 +174,8 @@ impl TotalsTable {
         requires { AreSettings (record { adds = adds.now; first = first.now }) }
         ensures settings { IfOk result (λ r. r.0.settings ≡ record { adds = adds.now; first = first.now }) }
         ensures adders { IfOk result (λ r. r.1.items ≡ fresh_from r.0 0 (length adds.now)) }
+        ensures count { IfOk result (λ r. vec_len r.1 ≡ length adds.now) }
+        ensures ready { IfOk result (λ r. All (IsNew r.0) r.1.items) }
     {
         let desk = Desk {
             seats: adds.len() as u64,
@@ -192,14 +194,14 @@ impl TotalsTable {
         Ok((TotalsTable { table, desk }, out))
     }
 
-    /// Ends the run, and tells the totals and the order of the adds. Without memory the table and its
-    /// adders come back untouched.
+    /// Ends the run, and tells the totals and the order of the adds. It takes all adders of the table, in
+    /// any order. Without memory the table and its adders come back untouched.
     pub fn close(
         self,
         alloc: Global,
         adders: Vec<Adder>,
     ) -> Result<ClosedTotals, (AllocError, TotalsTable, Vec<Adder>)>
-        requires adders { InOrder self 0 adders.items }
+        requires adders { All (IsOf self) adders.items }
         requires all { vec_len adders ≡ seats_of self.settings }
         ensures refused { IfErr result (λ e. (e.1 ≡ self) × (e.2.items ≡ adders.items)) }
         ensures ran { IfOk result (λ c. Ran self.settings c.totals c.order.items adders.items) }
@@ -229,7 +231,7 @@ fn end(table: Board, desk: &Desk, adders: Vec<Adder>, words: &mut Vec<u64>)
     requires settings { AreSettings (plain table.shared.key) }
     requires desk { desk.now ≡ desk_of (plain table.shared.key) 0 }
     requires size { (table.shared.table_id.words ≡ words_of desk.now.seats desk.now.rows) × (table.shared.table_id.slots ≡ 0) }
-    requires adders { InOrder (record { table_id = table.shared.table_id; settings = plain table.shared.key }) 0 adders.items }
+    requires adders { All (IsOf (record { table_id = table.shared.table_id; settings = plain table.shared.key })) adders.items }
     requires all { vec_len adders ≡ desk.now.seats }
     requires words { (words.old.items ≡ []) × (vec_capacity words.old ≡ words_of desk.now.seats desk.now.rows) }
     ensures left { Left (plain table.shared.key) words.new.items adders.items }
