@@ -4,9 +4,11 @@
 #![tactic(auto)]
 
 mod change;
+mod leaves;
 mod opening;
 mod puts;
 
 pub use change::change_leaves;
+pub use leaves::leaf_place;
 pub use opening::opening_words;
 pub use puts::directory_puts;

@@ -1,0 +1,119 @@
+//! Leaves in the order of their prefixes: where each key has its leaf, and how a leaf is split or added.
+
+ghost use Rattle.std.specs.Prelude.{◌≡◌, ℕ, suc, ◌+◌, ◌-◌, ◌*◌, ◌^◌, ◌<◌, ◌≤◌, ◌==◌, IfOk, MatchOption, Some, filter, map};
+ghost use Rattle.plain_map.specs.PlainObject.{InRange};
+ghost use Rattle.bucket_states.specs.Items.{overflows, prefix_of};
+ghost use Rattle.bucket_states.specs.States.{state_of};
+ghost use Rattle.core_model.specs.Leaves.{add_leaf, first_class, half, is_in, must_split, split, split_for};
+ghost use Rattle.core_values.specs.Views.{as_leaf};
+ghost use Rattle.core_leaves.specs.Fit.{AreFit, IsFirst, NonePasses};
+
+use bucket_states::Bucket;
+use core_values::{PlainLeaf, prefix_at};
+use plain_map::{Call, Key, Pair, Rules};
+use std::alloc::{AllocError, Global};
+
+// Whether a key has the bucket's prefix.
+fn is_in(rules: &Rules, key: &Key, bucket: &Bucket) -> bool
+    ensures { result ≡ is_in rules.now key.now (state_of bucket.now) }
+{
+    prefix_at(rules, u64::from(bucket.depth), key) == bucket.prefix
+}
+
+/// The place of the first leaf that has the key, or `None` where none has it.
+pub fn leaf_place(rules: &Rules, key: &Key, leaves: &[PlainLeaf]) -> Option<usize>
+    ensures { MatchOption result
+        (NonePasses (λ leaf. is_in rules.now key.now (state_of leaf.bucket)) leaves.now)
+        (IsFirst (λ leaf. is_in rules.now key.now (state_of leaf.bucket)) leaves.now) }
+{
+    for (place, leaf) in leaves.iter().enumerate() {
+        if is_in(rules, key, &leaf.bucket) {
+            return Some(place);
+        }
+    }
+    None
+}
+
+// Whether the call inserts a new key, and the bucket has no place for it and can be split.
+#[tactic(auto, unfolding(bucket_states::specs::Items::overflows))]
+fn overflows(rules: &Rules, bucket: &Bucket, call: &Call) -> bool
+    ensures { result ≡ overflows rules.now (state_of bucket.now).depth (state_of bucket.now).items call.now }
+{
+    match call {
+        Call::Insert(key, _) => {
+            bucket.find(key).is_none()
+                && !(bucket.items.len() < rules.items as usize)
+                && bucket.depth < rules.depth
+        }
+        Call::Remove(_) | Call::Lookup(_) => false,
+    }
+}
+
+// Whether a leaf of the call's key overflows.
+fn must_split(rules: &Rules, call: &Call, leaves: &[PlainLeaf]) -> bool
+    ensures { result ≡ must_split rules.now call.now (map as_leaf leaves.now) }
+{
+    for leaf in leaves {
+        if is_in(rules, call.key(), &leaf.bucket) && overflows(rules, &leaf.bucket, call) {
+            return true;
+        }
+    }
+    false
+}
+
+// The pairs whose keys have the prefix at a depth.
+fn items_in(
+    alloc: Global,
+    rules: &Rules,
+    depth: u32,
+    prefix: u64,
+    items: &[Pair],
+) -> Result<Vec<Pair>, AllocError>
+    ensures { IfOk result (λ part. part.items ≡ filter (λ pair. prefix_of rules.now depth pair.key == prefix) items.now) }
+{
+    items
+        .iter()
+        .copied()
+        .filter(|pair| prefix_at(rules, u64::from(depth), &pair.key) == prefix)
+        .collect(alloc)
+}
+
+// One of the two parts of a bucket, as a leaf that comes from the bucket with the number `from`.
+#[tactic(auto, unfolding(core_model::specs::Leaves::half))]
+fn half(
+    alloc: Global,
+    rules: &Rules,
+    bit: u64,
+    from: Option<u64>,
+    bucket: &Bucket,
+) -> Result<PlainLeaf, AllocError>
+    requires bit { bit ≤ 1 }
+    requires depth { bucket.now.depth < 62 }
+    requires prefix { bucket.now.prefix < 2 ^ 62 }
+    ensures { IfOk result (λ leaf. as_leaf leaf ≡ record { from = from; bucket = half rules.now bit (state_of bucket.now) }) }
+{
+    let depth = bucket.depth + 1;
+    let prefix = 2 * bucket.prefix + bit;
+    let items = items_in(alloc, rules, depth, prefix, &bucket.items)?;
+    let applied = bucket.applied.clone()?;
+    let replies = bucket.replies.clone()?;
+    Ok(PlainLeaf {
+        from,
+        bucket: Bucket {
+            prefix,
+            depth,
+            frozen: false,
+            items,
+            applied,
+            replies,
+        },
+    })
+}
+
+// The first class of a bucket, among those of the greatest depth.
+fn first_class(rules: &Rules, bucket: &Bucket) -> u128
+    requires { InRange rules.now }
+    ensures { result ≡ first_class rules.now (state_of bucket.now) }
+{
+    u128::from(bucket.prefix) * (1u128 << rules.depth.saturating_sub(bucket.depth))
+}
