@@ -1,0 +1,2 @@
+mod LeafLemmas
+mod FitLemmas
