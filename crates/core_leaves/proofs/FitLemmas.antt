@@ -1,8 +1,9 @@
 -- Where leaves are fit after a step, they were fit before it.
-use Rattle.std.proofs.Common.{◌≡◌, ℕ, zero, suc, ◌+◌, ◌*◌, ◌^◌, ◌<◌, ◌≤◌, Bool, true, false, cond, List, [], ◌∷◌, ◌++◌, length, map, get_or, fold, refl, sym, ap, subst, ◌∙◌, arith}
+use Rattle.std.proofs.Common.{◌≡◌, ℕ, zero, suc, ◌+◌, ◌*◌, ◌^◌, ◌<◌, ◌≤◌, Bool, true, false, cond, Vec, Option, Some, None, List, [], ◌∷◌, ◌++◌, length, map, get_or, fold, refl, sym, ap, subst, ◌∙◌, arith}
 use Rattle.std.specs.Prelude.{nat_lt}
 use Rattle.std.specs.List.{list_any}
 use Rattle.std.proofs.Math.ListN.{length-set}
+use Rattle.std.specs.declared.alloc.Global.{Global}
 use Rattle.plain_map.specs.declared.keys.Key.{Key}
 use Rattle.plain_map.specs.declared.rules.Rules.{Rules}
 use Rattle.plain_map.specs.declared.calls.Call.{Call}
@@ -10,11 +11,12 @@ use Rattle.plain_map.specs.Calls.{key_in}
 use Rattle.bucket_states.specs.Change.{answered}
 use Rattle.bucket_states.specs.declared.ops.Op.{Op}
 use Rattle.bucket_states.specs.States.{state_of}
-use Rattle.core_model.specs.Leaves.{NewLeaf, is_in, half, halves, at_leaf, split, apply, must_split, split_for, add_leaf, first_class}
+use Rattle.bucket_states.specs.Halves.{half}
+use Rattle.core_model.specs.Leaves.{NewLeaf, is_in, halves, at_leaf, split, apply, must_split, split_for, add_leaf, first_class}
 use Rattle.core_values.specs.declared.values.PlainLeaf.{PlainLeaf}
 use Rattle.core_values.specs.Views.{as_leaf}
-use Rattle.core_leaves.specs.Fit.{CanSplit, IsFirst, IsFit, AreFit}
-use Rattle.core_leaves.proofs.LeafLemmas.{has, later, here, not_here}
+use Rattle.core_leaves.specs.Fit.{CanSplit, IsFirst, IsFit, AreFit, MakesLeaves}
+use Rattle.core_leaves.proofs.LeafLemmas.{answer_leaf, has, later, here, not_here}
 
 module _ (depth seats : ℕ) where
   -- a part that is fit is that of a leaf that is fit, and can be split
@@ -108,3 +110,29 @@ module _ (depth seats : ℕ) where
       let parts : AreFit depth seats (halves rules (as_leaf (get_or leaves at d))) = AreFit-in_place rules key (halves rules) leaves at first fit d in
       let whole = IsFit-half rules 0 (as_leaf (get_or leaves at d)) parts.0 in
       record { depth = whole.0; prefix = whole.1.prefix }
+
+  -- the leaf in which an op is answered
+  pub IsFit-answered : (rules : Rules) (seat : ℕ) (op : Op) (leaves : List PlainLeaf) (at : ℕ) (leaf : PlainLeaf)
+      → IsFirst (has rules (key_in op.call) (answer_leaf rules seat op)) leaves at → leaf ≡ get_or leaves at leaf
+      → AreFit depth seats (apply rules seat op (map as_leaf leaves)) → IsFit depth seats (as_leaf leaf)
+  unfolding apply
+  IsFit-answered rules seat op leaves at leaf first is fit =
+      let now : AreFit depth seats (answer_leaf rules seat op (as_leaf (get_or leaves at leaf))) =
+      AreFit-in_place rules (key_in op.call) (answer_leaf rules seat op) leaves at first fit leaf in
+      subst (λ (l : PlainLeaf). IsFit depth seats (as_leaf l)) (sym is) (record {
+        depth = now.0.depth;
+        prefix = now.0.prefix;
+        applied = sym (length-set (as_leaf (get_or leaves at leaf)).bucket.applied seat op.number) ∙ now.0.applied;
+        replies = sym (length-set (as_leaf (get_or leaves at leaf)).bucket.replies seat _) ∙ now.0.replies;
+      })
+
+  -- what a step says of what it made
+  pub none_made : (made : List NewLeaf) (r : Option (Vec PlainLeaf Global)) → MakesLeaves depth seats made r → r ≡ None → ¬ AreFit depth seats made
+  none_made made r makes is = subst (λ (o : Option (Vec PlainLeaf Global)). MakesLeaves depth seats made o) is makes
+
+  pub some_made : (made : List NewLeaf) (r : Option (Vec PlainLeaf Global)) (v : Vec PlainLeaf Global) → MakesLeaves depth seats made r → r ≡ Some v → map as_leaf v.items ≡ made
+  some_made made r v makes is = subst (λ (o : Option (Vec PlainLeaf Global)). MakesLeaves depth seats made o) is makes
+
+-- a test that failed did not pass
+pub not_true : false ≡ true → ⊥
+not_true is = cc

@@ -5,7 +5,11 @@ use Rattle.std.specs.List.{insert}
 use Rattle.plain_map.specs.declared.keys.Key.{Key}
 use Rattle.plain_map.specs.declared.rules.Rules.{Rules}
 use Rattle.bucket_states.specs.States.{state_of}
-use Rattle.core_model.specs.Leaves.{NewLeaf, is_in, at_leaf, add_leaf, first_class, half, halves}
+use Rattle.bucket_states.specs.declared.ops.Op.{Op}
+use Rattle.bucket_states.specs.Change.{answered}
+use Rattle.bucket_states.specs.Halves.{half}
+use Rattle.plain_map.specs.Calls.{key_in}
+use Rattle.core_model.specs.Leaves.{NewLeaf, is_in, at_leaf, add_leaf, apply, first_class, halves}
 use Rattle.core_values.specs.declared.values.PlainLeaf.{PlainLeaf}
 use Rattle.core_values.specs.Views.{as_leaf}
 use Rattle.core_leaves.specs.Fit.{IsFirst, NonePasses, is_before}
@@ -97,3 +101,23 @@ halves-at rules leaves at leaf lower upper inside is low high d =
     ap (λ (l : PlainLeaf). halves rules (as_leaf l)) (get_or-same leaves at d leaf inside ∙ sym is)
     ∙ ap (λ (l : NewLeaf). l ∷ record { from = leaf.from; bucket = half rules 1 (state_of leaf.bucket) } ∷ []) (sym low)
     ∙ ap (λ (l : NewLeaf). as_leaf lower ∷ l ∷ []) (sym high)
+
+-- the leaf with the op answered
+abbrev pub answer_leaf : Rules → (seat : ℕ) → Op → NewLeaf → List NewLeaf
+answer_leaf rules seat op leaf = record leaf { bucket = answered rules leaf.bucket seat op } ∷ []
+
+module _ (rules : Rules) (seat : ℕ) (op : Op) (leaves : List PlainLeaf) where
+  -- an op whose key no leaf has
+  pub apply-none : NonePasses (has rules (key_in op.call) (answer_leaf rules seat op)) leaves → map as_leaf leaves ≡ apply rules seat op (map as_leaf leaves)
+  unfolding apply
+  apply-none none = sym (at_leaf-none rules (key_in op.call) (answer_leaf rules seat op) leaves none)
+
+  -- an op that is answered in a leaf
+  pub apply-one : (at : ℕ) (old new : PlainLeaf) → IsFirst (has rules (key_in op.call) (answer_leaf rules seat op)) leaves at → old ≡ get_or leaves at old
+      → as_leaf new ≡ record { from = old.from; bucket = answered rules (state_of old.bucket) seat op }
+      → map as_leaf (set leaves at new) ≡ apply rules seat op (map as_leaf leaves)
+  unfolding apply
+  apply-one at old new first is made =
+      sym (at_leaf-one rules (key_in op.call) (answer_leaf rules seat op) leaves at new first
+      (λ d. ap (λ (l : PlainLeaf). answer_leaf rules seat op (as_leaf l)) (get_or-same leaves at d old first.in_range ∙ sym is)
+      ∙ ap (λ (l : NewLeaf). l ∷ []) (sym made)))

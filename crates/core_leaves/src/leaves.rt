@@ -41,80 +41,35 @@ pub fn leaf_place(rules: &Rules, key: &Key, leaves: &[PlainLeaf]) -> Option<usiz
     None
 }
 
-// Whether the call inserts a new key, and the bucket has no place for it and can be split.
-#[tactic(auto, unfolding(bucket_states::specs::Items::overflows))]
-fn overflows(rules: &Rules, bucket: &Bucket, call: &Call) -> bool
-    ensures { result ≡ overflows rules.now (state_of bucket.now).depth (state_of bucket.now).items call.now }
-{
-    match call {
-        Call::Insert(key, _) => {
-            bucket.find(key).is_none()
-                && !(bucket.items.len() < rules.items as usize)
-                && bucket.depth < rules.depth
-        }
-        Call::Remove(_) | Call::Lookup(_) => false,
-    }
-}
-
 // Whether a leaf of the call's key overflows.
 fn must_split(rules: &Rules, call: &Call, leaves: &[PlainLeaf]) -> bool
     ensures { result ≡ must_split rules.now call.now (map as_leaf leaves.now) }
 {
     for leaf in leaves {
-        if is_in(rules, call.key(), &leaf.bucket) && overflows(rules, &leaf.bucket, call) {
+        if is_in(rules, call.key(), &leaf.bucket) && leaf.bucket.overflows(rules, call) {
             return true;
         }
     }
     false
 }
 
-// The pairs whose keys have the prefix at a depth.
-fn items_in(
-    alloc: Global,
-    rules: &Rules,
-    depth: u32,
-    prefix: u64,
-    items: &[Pair],
-) -> Result<Vec<Pair>, AllocError>
-    ensures { IfOk result (λ part. part.items ≡ filter (λ pair. prefix_of rules.now depth pair.key == prefix) items.now) }
-{
-    items
-        .iter()
-        .copied()
-        .filter(|pair| prefix_at(rules, u64::from(depth), &pair.key) == prefix)
-        .collect(alloc)
-}
-
 // One of the two parts of a bucket, as a leaf that comes from the bucket with the number `from`.
-#[tactic(auto, unfolding(core_model::specs::Leaves::half))]
-fn half(
-    alloc: Global,
-    rules: &Rules,
-    bit: u64,
-    from: Option<u64>,
-    bucket: &Bucket,
-) -> Result<PlainLeaf, AllocError>
+pub(crate) fn half(alloc: Global, rules: &Rules, bit: u64, from: Option<u64>, bucket: &Bucket) -> Result<PlainLeaf, AllocError>
     requires bit { bit ≤ 1 }
-    requires depth { bucket.now.depth < 62 }
-    requires prefix { bucket.now.prefix < 2 ^ 62 }
+    requires depth { bucket.now.depth < 64 }
+    requires prefix { bucket.now.prefix < 2 ^ 63 }
     ensures { IfOk result (λ leaf. as_leaf leaf ≡ record { from = from; bucket = half rules.now bit (state_of bucket.now) }) }
 {
-    let depth = bucket.depth + 1;
-    let prefix = 2 * bucket.prefix + bit;
-    let items = items_in(alloc, rules, depth, prefix, &bucket.items)?;
-    let applied = bucket.applied.clone()?;
-    let replies = bucket.replies.clone()?;
-    Ok(PlainLeaf {
-        from,
-        bucket: Bucket {
-            prefix,
-            depth,
-            frozen: false,
-            items,
-            applied,
-            replies,
-        },
-    })
+    let mut part = Bucket {
+        prefix: 0,
+        depth: 0,
+        frozen: false,
+        items: Vec::with_capacity(alloc, bucket.items.len())?,
+        applied: Vec::with_capacity(alloc, bucket.applied.len())?,
+        replies: Vec::with_capacity(alloc, bucket.replies.len())?,
+    };
+    bucket.half_into(rules, bit, &mut part);
+    Ok(PlainLeaf { from, bucket: part })
 }
 
 // The first class of a bucket, among those of the greatest depth.
@@ -152,7 +107,7 @@ pub(crate) fn add_leaf(rules: &Rules, leaf: PlainLeaf, mut leaves: Vec<PlainLeaf
 }
 
 // Whether the bucket can be split, and is one of a table.
-fn can_split(rules: &Rules, bucket: &Bucket) -> bool
+pub(crate) fn can_split(rules: &Rules, bucket: &Bucket) -> bool
     requires { InRange rules.now }
     ensures { IsTrue result ↔ CanSplit rules.now.depth (state_of bucket.now) }
 {
@@ -160,7 +115,7 @@ fn can_split(rules: &Rules, bucket: &Bucket) -> bool
 }
 
 // The leaves with the leaf of the key in its two parts.
-fn split(alloc: Global, table: &Table, key: &Key, mut leaves: Vec<PlainLeaf>) -> Result<Option<Vec<PlainLeaf>>, AllocError>
+pub(crate) fn split(alloc: Global, table: &Table, key: &Key, mut leaves: Vec<PlainLeaf>) -> Result<Option<Vec<PlainLeaf>>, AllocError>
     requires { InRange table.now.rules }
     ensures { IfOk result (MakesLeaves table.now.rules.depth table.now.seats (split table.now.rules key.now (map as_leaf leaves.items))) }
 {
@@ -176,4 +131,24 @@ fn split(alloc: Global, table: &Table, key: &Key, mut leaves: Vec<PlainLeaf>) ->
     leaves[place] = lower;
     leaves.insert(place + 1, upper)?;
     Ok(Some(leaves))
+}
+
+// The leaves with the leaf of the call's key split as long as it must be, and at most so often.
+pub(crate) fn split_for(
+    alloc: Global,
+    table: &Table,
+    call: &Call,
+    most: u32,
+    leaves: Vec<PlainLeaf>,
+) -> Result<Option<Vec<PlainLeaf>>, AllocError>
+    requires { InRange table.now.rules }
+    ensures { IfOk result (MakesLeaves table.now.rules.depth table.now.seats (split_for table.now.rules call.now most (map as_leaf leaves.items))) }
+{
+    if most == 0 || !must_split(&table.rules, call, &leaves) {
+        return Ok(Some(leaves));
+    }
+    let Some(leaves) = split(alloc, table, call.key(), leaves)? else {
+        return Ok(None);
+    };
+    split_for(alloc, table, call, most - 1, leaves)
 }

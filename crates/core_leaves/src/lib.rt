@@ -7,6 +7,7 @@ mod change;
 mod leaves;
 mod opening;
 mod puts;
+mod steps;
 
 pub use change::change_leaves;
 pub use leaves::leaf_place;

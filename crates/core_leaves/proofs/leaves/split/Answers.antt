@@ -5,7 +5,7 @@ use Rattle.core_values.specs.declared.values.PlainLeaf.{PlainLeaf}
 use Rattle.core_values.specs.Views.{as_leaf}
 use Rattle.core_leaves.specs.Fit.{CanSplit, IsFirst, NonePasses}
 use Rattle.core_leaves.proofs.LeafLemmas.{at_leaf-none, at_leaf-two, halves-at, has}
-use Rattle.core_leaves.proofs.FitLemmas.{CanSplit-fit}
+use Rattle.core_leaves.proofs.FitLemmas.{CanSplit-fit, not_true}
 use Rattle.core_leaves.proofs.leaves.split.Goals as goal
 
 pub returns-in_default : goal.returns-in_default
@@ -20,8 +20,8 @@ returns-then-not-can_split c = λ fit.
     let first : IsFirst (has c.args.table.now.rules c.args.key.now (halves c.args.table.now.rules)) c.args.leaves.items c.in-Some.place =
     subst (λ (l : List PlainLeaf). IsFirst (has c.args.table.now.rules c.args.key.now (halves c.args.table.now.rules)) l c.in-Some.place) c.deref.ensures.value c.in-Some.ensures in
     let can = CanSplit-fit c.args.table.now.rules.depth c.args.table.now.seats c.args.table.now.rules c.args.key.now c.args.leaves.items c.in-Some.place first fit c.index-leaf.result.now in
-    c.if-not-can_split.ensures.1
-    (subst (λ (leaf : PlainLeaf). CanSplit c.args.table.now.rules.depth (state_of leaf.bucket)) (sym c.index-leaf.ensures) can)
+    not_true (c.if-not-can_split.ensures.1
+    (subst (λ (leaf : PlainLeaf). CanSplit c.args.table.now.rules.depth (state_of leaf.bucket)) (sym c.index-leaf.ensures) can))
 
 pub returns : goal.returns
 unfolding split
