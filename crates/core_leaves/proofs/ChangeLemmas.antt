@@ -106,3 +106,12 @@ module _ (rules : Rules) (directory : DirectoryState) (loaded : List LoadedBucke
 
   pub leaves_after-end : (seat : ℕ) (ops : List (Option Op)) (leaves : List NewLeaf) → length ops ≤ seat → leaves_after rules directory loaded seat (drop seat ops) leaves ≡ leaves
   leaves_after-end seat ops leaves far = ap (λ l. leaves_after rules directory loaded seat l leaves) (drop_all seat ops far)
+
+-- where all leaves of the change are fit, those after one seat are
+pub AreFit-seat : (depth seats : ℕ) (rules : Rules) (directory : DirectoryState) (loaded : List LoadedBucket) (seat : ℕ) (ops : List (Option Op)) (leaves : List NewLeaf)
+    → seat < length ops → AreFit depth seats (leaves_after rules directory loaded seat (drop seat ops) leaves)
+    → AreFit depth seats (leaves_after_seat rules directory loaded seat (get_or ops seat None) leaves)
+AreFit-seat depth seats rules directory loaded seat ops leaves inside fit =
+    AreFit-leaves_after depth seats rules directory loaded (suc seat) (drop (suc seat) ops)
+    (leaves_after_seat rules directory loaded seat (get_or ops seat None) leaves)
+    (subst (λ l. AreFit depth seats (leaves_after rules directory loaded seat l leaves)) (drop-cons ops seat None inside) fit)

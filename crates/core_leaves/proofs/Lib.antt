@@ -1,3 +1,4 @@
 mod LeafLemmas
 mod FitLemmas
 mod ChangeLemmas
+mod CauseLemmas
