@@ -4,9 +4,11 @@
 #![tactic(auto)]
 
 mod change;
+mod directory;
 mod leaves;
 mod opening;
 mod puts;
+mod rows;
 mod steps;
 
 pub use change::change_leaves;
