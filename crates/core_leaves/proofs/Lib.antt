@@ -2,3 +2,4 @@ mod LeafLemmas
 mod FitLemmas
 mod ChangeLemmas
 mod CauseLemmas
+mod RowLemmas
