@@ -3,3 +3,6 @@ mod FitLemmas
 mod ChangeLemmas
 mod CauseLemmas
 mod RowLemmas
+mod PlaceLemmas
+mod PairLemmas
+mod OpeningLemmas

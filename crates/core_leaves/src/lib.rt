@@ -7,9 +7,11 @@ mod change;
 mod directory;
 mod leaves;
 mod opening;
+mod pairs;
 mod puts;
 mod rows;
 mod steps;
+mod stores;
 
 pub use change::change_leaves;
 pub use leaves::leaf_place;
