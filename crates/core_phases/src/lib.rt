@@ -4,7 +4,11 @@
 #![tactic(auto)]
 
 mod after;
+mod answers;
+mod counts;
 mod faults;
+mod finds;
+mod lookups;
 
 pub use after::seat_after;
 pub use faults::StepFault;

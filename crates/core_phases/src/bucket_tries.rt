@@ -1,0 +1,144 @@
+//! A bucket try: where it goes by the words of its row, the announced ops, and its exchange.
+
+ghost use Rattle.std.specs.Prelude.{◌≡◌, ◌+◌, ◌==◌, ◌<◌, nat_lt, length, if◌then◌else◌, Some, IfOk, MatchOption};
+ghost use Rattle.step_counts.specs.StepCounts.{bucket_row_words};
+ghost use Rattle.step_counts.specs.declared.TheConstants.{OP_WORDS as WORDS};
+ghost use Rattle.bucket_states.specs.States.{state_of};
+ghost use Rattle.word_rows.specs.Shape.{AreBelow};
+ghost use Rattle.core_model.specs.Setup.{seats_of, settings_of};
+ghost use Rattle.core_model.specs.Phases as P;
+ghost use Rattle.core_model.specs.Goes.{after_exchange, after_found, after_row, after_row_words, phase_after};
+ghost use Rattle.core_model.specs.Stores.{made_bucket};
+ghost use Rattle.core_values.specs.Views.{as_bucket_try, as_flight, as_phase, as_setup};
+ghost use Rattle.core_phases.specs.Causes.{IsBucketTry, RowsStand};
+
+use crate::answers::{answered_by, is_applied};
+use crate::rows::{row_length, whole_bucket, whole_op};
+use bucket_states::{Bucket, Op};
+use core_model::Round;
+use core_values::{PlainBucketTry, PlainFlight, PlainPhase, PlainSetup, copy_bucket, is_of_table};
+use plain_map::FullKind;
+use std::alloc::{AllocError, Global};
+use step_counts::{OP_WORDS, SeatRows};
+
+/// So many words of the row of a bucket try are loaded.
+///
+/// `None` comes only where the words spell no bucket. The only error is want of memory.
+pub(crate) fn after_row_words(
+    alloc: Global,
+    setup: &PlainSetup,
+    seat: u32,
+    flight: &PlainFlight,
+    round: Round,
+    turn: u64,
+    first: u64,
+    row: u64,
+    words: Vec<u64>,
+) -> Result<Option<PlainPhase>, AllocError>
+    ensures { IfOk result (λ after. MatchOption after
+      (¬ IsRowSoFar (as_setup setup.now) words.items)
+      (λ after. as_phase after
+        ≡ after_row_words (as_setup setup.now) seat (as_flight flight.now) round turn first row words.items)) }
+{
+    if (words.len() as u64) < row_length(setup) {
+        return Ok(Some(PlainPhase::TryRow {
+            round,
+            turn,
+            first,
+            row,
+            words,
+        }));
+    }
+    let Some(state) = whole_bucket(alloc, setup, &words)? else {
+        return Ok(None);
+    };
+    let attempt = PlainBucketTry {
+        turn,
+        first,
+        row,
+        state,
+    };
+    Ok(Some(after_row(alloc, seat, flight, round, attempt)))
+}
+
+// A row is loaded whole. After two lost exchanges there is no third try.
+fn after_row(
+    alloc: Global,
+    seat: u32,
+    flight: &PlainFlight,
+    round: Round,
+    attempt: PlainBucketTry,
+) -> PlainPhase
+    ensures { as_phase result ≡ after_row seat (as_flight flight.now) round (as_bucket_try attempt) }
+{
+    if is_applied(seat, flight, &attempt.state) {
+        answered_by(seat, &attempt.state, attempt.row)
+    } else if attempt.state.frozen {
+        PlainPhase::DirRoot {
+            round,
+            turn: 1,
+            first: None,
+        }
+    } else if attempt.turn <= 2 {
+        PlainPhase::TryAnnouncement {
+            round,
+            attempt,
+            found: Vec::new(alloc),
+        }
+    } else {
+        PlainPhase::Stuck
+    }
+}
+
+/// The ops of so many seats are found.
+pub(crate) fn after_found(
+    setup: &PlainSetup,
+    round: Round,
+    attempt: PlainBucketTry,
+    found: Vec<Option<Op>>,
+) -> PlainPhase
+    ensures { as_phase result ≡ after_found (as_setup setup.now) round (as_bucket_try attempt) found.items }
+{
+    if found.len() < setup.seats() as usize {
+        PlainPhase::TryAnnouncement {
+            round,
+            attempt,
+            found,
+        }
+    } else {
+        PlainPhase::TryStore {
+            round,
+            attempt,
+            found,
+            stored: 0,
+        }
+    }
+}
+
+/// The announcement of the next seat is loaded.
+///
+/// The only error is want of memory.
+pub(crate) fn after_announcement(
+    alloc: Global,
+    setup: &PlainSetup,
+    round: Round,
+    attempt: PlainBucketTry,
+    found: Vec<Option<Op>>,
+    word: u64,
+) -> Result<PlainPhase, AllocError>
+    ensures { IfOk result (λ after. as_phase after
+      ≡ phase_after (as_setup setup.now) 0 no_rows none (P.TryAnnouncement round (as_bucket_try attempt) found.items) word) }
+{
+    if word > 0 {
+        return Ok(PlainPhase::TryOp {
+            round,
+            attempt,
+            found,
+            op: word - 1,
+            words: Vec::new(alloc),
+        });
+    }
+    let mut found = found;
+    found.push(None)?;
+    Ok(after_found(setup, round, attempt, found))
+}
