@@ -1,29 +1,25 @@
-//! A bucket try: where it goes by the words of its row, the announced ops, and its exchange.
+//! A bucket try: where it goes by the words of its row, by the announced ops, and by its exchange.
 
-ghost use Rattle.std.specs.Prelude.{◌≡◌, ◌+◌, ◌==◌, ◌<◌, nat_lt, length, if◌then◌else◌, Some, IfOk, MatchOption};
+ghost use Rattle.std.specs.Prelude.{◌≡◌, ◌+◌, ◌-◌, ◌==◌, ◌<◌, ◌≤◌, ◌^◌, nat_lt, length, if◌then◌else◌, None, Some, [], IfOk, MatchOption};
 ghost use Rattle.step_counts.specs.StepCounts.{bucket_row_words};
 ghost use Rattle.step_counts.specs.declared.TheConstants.{OP_WORDS as WORDS};
-ghost use Rattle.bucket_states.specs.States.{state_of};
-ghost use Rattle.word_rows.specs.Shape.{AreBelow};
-ghost use Rattle.core_model.specs.Setup.{seats_of, settings_of};
+ghost use Rattle.core_model.specs.Setup.{settings_of};
 ghost use Rattle.core_model.specs.Phases as P;
-ghost use Rattle.core_model.specs.Goes.{after_exchange, after_found, after_row, after_row_words, phase_after};
-ghost use Rattle.core_model.specs.Stores.{made_bucket};
+ghost use Rattle.core_model.specs.Goes.{after_found, after_row, after_row_words, more, op_in_words};
 ghost use Rattle.core_values.specs.Views.{as_bucket_try, as_flight, as_phase, as_setup};
-ghost use Rattle.core_phases.specs.Causes.{IsBucketTry, RowsStand};
+ghost use Rattle.core_phases.specs.Causes.{IsOpSoFar, IsRowSoFar};
 
 use crate::answers::{answered_by, is_applied};
 use crate::rows::{row_length, whole_bucket, whole_op};
-use bucket_states::{Bucket, Op};
+use bucket_states::Op;
 use core_model::Round;
-use core_values::{PlainBucketTry, PlainFlight, PlainPhase, PlainSetup, copy_bucket, is_of_table};
-use plain_map::FullKind;
+use core_values::{PlainBucketTry, PlainFlight, PlainPhase, PlainSetup};
 use std::alloc::{AllocError, Global};
-use step_counts::{OP_WORDS, SeatRows};
+use step_counts::OP_WORDS;
 
 /// So many words of the row of a bucket try are loaded.
 ///
-/// `None` comes only where the words spell no bucket. The only error is want of memory.
+/// `None` comes only where they are a whole row that spells no bucket. The only error is want of memory.
 pub(crate) fn after_row_words(
     alloc: Global,
     setup: &PlainSetup,
@@ -90,8 +86,8 @@ fn after_row(
     }
 }
 
-/// The ops of so many seats are found.
-pub(crate) fn after_found(
+// The ops of so many seats are found.
+fn after_found(
     setup: &PlainSetup,
     round: Round,
     attempt: PlainBucketTry,
@@ -127,7 +123,8 @@ pub(crate) fn after_announcement(
     word: u64,
 ) -> Result<PlainPhase, AllocError>
     ensures { IfOk result (λ after. as_phase after
-      ≡ phase_after (as_setup setup.now) 0 no_rows none (P.TryAnnouncement round (as_bucket_try attempt) found.items) word) }
+      ≡ (if word == 0 then after_found (as_setup setup.now) round (as_bucket_try attempt) (more found.items None)
+        else P.TryOp round (as_bucket_try attempt) found.items (word - 1) [])) }
 {
     if word > 0 {
         return Ok(PlainPhase::TryOp {
@@ -141,4 +138,69 @@ pub(crate) fn after_announcement(
     let mut found = found;
     found.push(None)?;
     Ok(after_found(setup, round, attempt, found))
+}
+
+/// So many words of the op row of the next seat are loaded.
+///
+/// `None` comes only where they are a whole row that spells no op, or more is found than there are seats. The only
+/// error is want of memory.
+pub(crate) fn after_op(
+    setup: &PlainSetup,
+    round: Round,
+    attempt: PlainBucketTry,
+    found: Vec<Option<Op>>,
+    op: u64,
+    words: Vec<u64>,
+) -> Result<Option<PlainPhase>, AllocError>
+    ensures { IfOk result (λ after. MatchOption after
+      (¬ IsOpSoFar (as_setup setup.now) found.items words.items)
+      (λ after. as_phase after
+        ≡ (if nat_lt (length words.items) WORDS then P.TryOp round (as_bucket_try attempt) found.items op words.items
+          else after_found (as_setup setup.now) round (as_bucket_try attempt)
+            (more found.items (Some (op_in_words (length found.items) words.items)))))) }
+{
+    if words.len() < OP_WORDS {
+        return Ok(Some(PlainPhase::TryOp {
+            round,
+            attempt,
+            found,
+            op,
+            words,
+        }));
+    }
+    let Some(op) = whole_op(setup, &found, &words) else {
+        return Ok(None);
+    };
+    let mut found = found;
+    found.push(Some(op))?;
+    Ok(Some(after_found(setup, round, attempt, found)))
+}
+
+/// One more word of the new row is stored.
+pub(crate) fn after_store(
+    setup: &PlainSetup,
+    round: Round,
+    attempt: PlainBucketTry,
+    found: Vec<Option<Op>>,
+    stored: u64,
+) -> PlainPhase
+    ensures { as_phase result
+      ≡ (if nat_lt (stored + 1) (bucket_row_words (settings_of (as_setup setup.now)))
+        then P.TryStore round (as_bucket_try attempt) found.items (stored + 1)
+        else P.TryExchange round (as_bucket_try attempt) found.items) }
+{
+    if stored < row_length(setup) - 1 {
+        PlainPhase::TryStore {
+            round,
+            attempt,
+            found,
+            stored: stored + 1,
+        }
+    } else {
+        PlainPhase::TryExchange {
+            round,
+            attempt,
+            found,
+        }
+    }
 }

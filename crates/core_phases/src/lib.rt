@@ -5,10 +5,12 @@
 
 mod after;
 mod answers;
+mod bucket_tries;
 mod counts;
 mod faults;
 mod finds;
 mod lookups;
+mod rows;
 
 pub use after::seat_after;
 pub use faults::StepFault;
