@@ -44,7 +44,7 @@ pub(crate) fn with_answer(
     requires steps { flight.now.steps < 2 ^ 62 }
     requires seen { length flight.now.seen.items ≤ MOST }
     ensures { IfOk result (λ after. as_account after
-      ≡ with_answer seat (as_account account) (as_flight flight.now) reply place) }
+        ≡ with_answer seat (as_account account) (as_flight flight.now) reply place) }
 {
     let mut account = account;
     account.records.push(record_of(seat, flight, reply, place))?;

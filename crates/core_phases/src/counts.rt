@@ -21,7 +21,7 @@ pub(crate) fn counts_go_on(
     word: u64,
 ) -> bool
     ensures { IsTrue result
-      ↔ CountsGoOn (as_setup setup.now) (as_account account.now) (as_flight flight.now) (as_phase phase.now) word }
+        ↔ CountsGoOn (as_setup setup.now) (as_account account.now) (as_flight flight.now) (as_phase phase.now) word }
 {
     let _of = setup;
     are_few(&account.used)

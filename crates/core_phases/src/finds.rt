@@ -15,7 +15,7 @@ use step_counts::OP_WORDS;
 /// One more done word is seen.
 pub(crate) fn after_done(setup: &PlainSetup, flight: &PlainFlight) -> PlainPhase
     ensures { as_phase result ≡ (if nat_lt (length flight.now.seen.items + 1) (seats_of (as_setup setup.now)) then P.SeeDone
-      else after_seeing (as_flight flight.now)) }
+        else after_seeing (as_flight flight.now)) }
 {
     if flight.seen.len() + 1 < setup.seats() as usize {
         PlainPhase::SeeDone
@@ -30,7 +30,9 @@ fn after_seeing(flight: &PlainFlight) -> PlainPhase
 {
     match flight.call {
         Call::Insert(_, _) | Call::Remove(_) => PlainPhase::StoreOp { stored: 0 },
-        Call::Lookup(_) => PlainPhase::FindRoot { aim: Aim::ForLookup },
+        Call::Lookup(_) => PlainPhase::FindRoot {
+            aim: Aim::ForLookup,
+        },
     }
 }
 

@@ -26,7 +26,7 @@ pub(crate) fn after_items(
     words: Vec<u64>,
 ) -> Result<PlainPhase, AllocError>
     ensures { IfOk result (λ after. as_phase after
-      ≡ after_items (as_setup setup.now) (as_flight flight.now) row count words.items) }
+        ≡ after_items (as_setup setup.now) (as_flight flight.now) row count words.items) }
 {
     match count.checked_mul(ITEM_WORDS as u64) {
         Some(all) if all <= words.len() as u64 => {
