@@ -95,24 +95,34 @@ fn going_after(
         (λ after. as_seat after
         ≡ state_after (as_setup setup.now) seat (as_account account) (as_flight flight) (as_phase phase) word)) }
 {
-    let mut account = account;
-    let mut flight = flight;
     let seen = done_seen(&phase, word);
     let Some(used) = used_after(alloc, setup, &account.used, &phase, word)? else {
         return Ok(None);
     };
-    let Some(phase) = phase_after(alloc, setup, seat, &account.used, &flight, phase, word)? else {
+    let Some(after) = phase_after(alloc, setup, seat, &account.used, &flight, phase, word)? else {
         return Ok(None);
     };
-    account.used = used;
+    let flight = with_step(flight, seen)?;
+    Ok(Some(PlainSeat {
+        account: PlainAccount { used, ..account },
+        stand: PlainStand::InFlight(flight, after),
+    }))
+}
+
+// The call with one more step, and with the done word that it sees.
+fn with_step(flight: PlainFlight, seen: Option<u32>) -> Result<PlainFlight, AllocError>
+    requires { flight.steps < 2 ^ 62 }
+    ensures { IfOk result (λ after. as_flight after ≡ record (as_flight flight) {
+      seen = option_map_or (more flight.seen.items) seen flight.seen.items;
+      steps = flight.steps + 1;
+    }) }
+{
+    let mut flight = flight;
     flight.steps += 1;
     if let Some(count) = seen {
         flight.seen.push(count)?;
     }
-    Ok(Some(PlainSeat {
-        account,
-        stand: PlainStand::InFlight(flight, phase),
-    }))
+    Ok(flight)
 }
 
 // The done word that the step sees, if it is one.

@@ -14,10 +14,10 @@ ghost use Rattle.core_values.specs.Views.{as_bucket_try, as_flight, as_phase, as
 ghost use Rattle.core_phases.specs.Causes.{IsBucketTry, IsOpSoFar, IsRowSoFar};
 
 use crate::answers::{answered_by, is_applied};
-use crate::rows::{is_of_table, row_length, whole_bucket, whole_op};
+use crate::rows::{row_length, whole_bucket, whole_op};
 use bucket_states::{Bucket, Op};
 use core_model::Round;
-use core_values::{PlainBucketTry, PlainFlight, PlainPhase, PlainSetup, copy_bucket};
+use core_values::{PlainBucketTry, PlainFlight, PlainPhase, PlainSetup, copy_bucket, is_of_table};
 use plain_map::FullKind;
 use std::alloc::{AllocError, Global};
 use step_counts::{OP_WORDS, SeatRows};

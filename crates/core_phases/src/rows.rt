@@ -1,12 +1,11 @@
 //! Rows that are loaded word by word: buckets, and the ops of the seats.
 
-ghost use Rattle.std.specs.Prelude.{◌≡◌, ◌≤◌, ◌↔◌, IsTrue, Some, IfOk, MatchOption, length};
+ghost use Rattle.std.specs.Prelude.{◌≡◌, ◌≤◌, Some, IfOk, MatchOption, length};
 ghost use Rattle.step_counts.specs.declared.TheConstants.{OP_WORDS as WORDS};
 ghost use Rattle.step_counts.specs.StepCounts.{bucket_row_words};
-ghost use Rattle.bucket_states.specs.States.{state_of};
 ghost use Rattle.core_model.specs.Setup.{settings_of};
 ghost use Rattle.core_model.specs.Goes.{more, op_in_words};
-ghost use Rattle.core_values.specs.Rows.{IsOfTable, IsReadBucket};
+ghost use Rattle.core_values.specs.Rows.{IsReadBucket};
 ghost use Rattle.core_values.specs.Views.{as_setup};
 ghost use Rattle.core_phases.specs.Causes.{IsOpSoFar, IsRowSoFar};
 
@@ -63,16 +62,4 @@ pub(crate) fn whole_op(setup: &PlainSetup, found: &[Option<Op>], words: &[u64]) 
         number: row.number,
         call: row.call,
     })
-}
-
-/// Whether the bucket can be that of a table.
-pub(crate) fn is_of_table(setup: &PlainSetup, bucket: &Bucket) -> bool
-    ensures { IsTrue result ↔ IsOfTable (settings_of (as_setup setup.now)) (state_of bucket.now) }
-{
-    let settings = setup.layout.settings();
-    bucket.depth <= settings.depth
-        && bucket.prefix < 1 << bucket.depth
-        && bucket.items.len() <= settings.items as usize
-        && bucket.applied.len() == settings.seats as usize
-        && bucket.replies.len() == settings.seats as usize
 }
