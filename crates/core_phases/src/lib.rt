@@ -17,3 +17,6 @@ mod rows;
 
 pub use after::seat_after;
 pub use faults::StepFault;
+
+#[cfg(test)]
+mod tests;
