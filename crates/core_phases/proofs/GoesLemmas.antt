@@ -1,5 +1,5 @@
 -- A seat that goes on with its call, by what each part of it becomes.
-use Rattle.std.proofs.Common.{◌≡◌, ℕ, ◌+◌, List, Option, refl, ap, sym, subst, ◌∙◌}
+use Rattle.std.proofs.Common.{◌≡◌, ℕ, ◌+◌, List, Option, refl, ap, sym, ◌∙◌}
 use Rattle.std.specs.Option.{option_map_or}
 use Rattle.step_counts.specs.declared.rows.SeatRows.{SeatRows}
 use Rattle.core_model.specs.Setup.{Setup}

@@ -1,5 +1,5 @@
 -- Where a step can be computed: the rows that it reads and makes are rows of a table, and its counts have not ended.
-use Rattle.std.specs.Prelude.{ℕ, ◌≡◌, ◌+◌, ◌^◌, ◌<◌, ◌≤◌, List, Option, length}
+use Rattle.std.specs.Prelude.{ℕ, ◌^◌, ◌<◌, ◌≤◌, List, Option, length}
 use Rattle.step_counts.specs.declared.TheConstants.{OP_WORDS}
 use Rattle.step_counts.specs.StepCounts.{bucket_row_words}
 use Rattle.plain_map.specs.declared.records.TheConstants.{MOST_SEATS}

@@ -6,7 +6,7 @@ ghost use Rattle.core_model.specs.Setup.{seats_of};
 ghost use Rattle.core_model.specs.Goes.{more, phase_after};
 ghost use Rattle.core_values.specs.Views.{as_flight, as_phase, as_setup};
 ghost use Rattle.core_phases.specs.Causes.{RowsStand};
-ghost use Rattle.core_phases.specs.Groups.{IsInDirectoryTry, IsInTry};
+ghost use Rattle.core_phases.specs.Groups.{IsInDirectoryChange, IsInDirectoryTry, IsInTry};
 
 use crate::finds::{after_done, after_find, after_op_word};
 use crate::last_looks::after_last_words;
@@ -119,7 +119,10 @@ fn bucket_try_after(
             found,
             op,
             words,
-        } => { bucket_tries::after_op(setup, round, attempt, found, op, with_word(words, word)?) }
+        } => {
+            let words = with_word(words, word)?;
+            bucket_tries::after_op(setup, round, attempt, found, op, words)
+        }
         P::TryStore {
             round,
             attempt,
@@ -157,28 +160,26 @@ fn directory_try_after(
 {
     use PlainPhase as P;
     match phase {
-        P::DirRoot { round, turn, first } => Ok(Some(P::DirDepth {
-            round,
-            turn,
-            first: first.unwrap_or(word),
-            root: word,
-        })),
+        P::DirRoot { round, turn, first } => {
+            let first = first.unwrap_or(word);
+            Ok(Some(P::DirDepth {
+                round,
+                turn,
+                first,
+                root: word,
+            }))
+        }
         P::DirDepth {
             round,
             turn,
             first,
             root,
-        } => Ok(Some(directory_tries::after_entries(
-            alloc,
-            setup,
-            flight,
-            round,
-            turn,
-            first,
-            root,
-            word,
-            Vec::new(alloc),
-        ))),
+        } => {
+            let words = Vec::new(alloc);
+            Ok(Some(directory_tries::after_entries(
+                alloc, setup, flight, round, turn, first, root, word, words,
+            )))
+        }
         P::DirEntries {
             round,
             turn,
@@ -206,16 +207,33 @@ fn directory_try_after(
             op,
             words,
         } => {
-            directory_tries::after_op(
-                alloc,
-                setup,
-                round,
-                attempt,
-                found,
-                op,
-                with_word(words, word)?,
-            )
+            let words = with_word(words, word)?;
+            directory_tries::after_op(alloc, setup, round, attempt, found, op, words)
         }
+        in_try => directory_change_after(alloc, setup, seat, used, flight, in_try, word),
+    }
+}
+
+// The same, in a directory try that has found the announced ops.
+fn directory_change_after(
+    alloc: Global,
+    setup: &PlainSetup,
+    seat: u32,
+    used: &SeatRows,
+    flight: &PlainFlight,
+    phase: PlainPhase,
+    word: u64,
+) -> Result<Option<PlainPhase>, AllocError>
+    requires seat { seat < seats_of (as_setup setup.now) }
+    requires used { AreBelow (2 ^ 62) used.now }
+    requires group { IsInDirectoryChange (as_phase phase) }
+    ensures { IfOk result (λ after. MatchOption after
+        (¬ RowsStand (as_setup setup.now) (as_phase phase) word)
+        (λ after. as_phase after
+        ≡ phase_after (as_setup setup.now) seat used.now (as_flight flight.now) (as_phase phase) word)) }
+{
+    use PlainPhase as P;
+    match phase {
         P::DirWord {
             round,
             attempt,

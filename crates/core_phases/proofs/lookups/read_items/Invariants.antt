@@ -1,5 +1,4 @@
-use Rattle.std.proofs.Common.{◌≡◌, ◌*◌, ◌≤◌, length}
-use Rattle.step_counts.specs.declared.TheConstants.{ITEM_WORDS}
+use Rattle.std.proofs.Common.{◌≡◌}
 use Rattle.word_rows.specs.BucketWords.{items_of_words}
 use Rattle.core_phases.proofs.lookups.read_items.Given as goal
 
