@@ -2,3 +2,9 @@
 //!
 //! All is plain and slow: each function computes its definition, and no more is asked of it.
 #![tactic(auto)]
+
+mod places;
+mod words;
+
+pub use places::place_of;
+pub use words::{action, find, perform};
