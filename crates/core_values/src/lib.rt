@@ -4,12 +4,14 @@
 #![tactic(auto)]
 
 mod phases;
+mod places;
 mod rows;
 mod seats;
 mod setup;
 mod values;
 
 pub use phases::{PlainBucketTry, PlainDirectoryTry, PlainPhase};
+pub use places::{bucket_of, next_bucket, prefix_at};
 pub use rows::{copy_bucket, read_bucket, write_bucket};
 pub use seats::{PlainAccount, PlainFlight, PlainSeat, PlainStand, PlainWorld};
 pub use setup::PlainSetup;

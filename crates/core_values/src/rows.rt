@@ -24,8 +24,8 @@ pub fn read_bucket(
 ) -> Result<Option<Bucket>, AllocError>
     requires whole { length words.now ≡ bucket_row_words (settings_of (as_setup setup.now)) }
     ensures { IfOk result (λ read. MatchOption read
-      (¬ SpellSomeBucket (settings_of (as_setup setup.now)) words.now)
-      (IsReadBucket (as_setup setup.now) words.now)) }
+        (¬ SpellSomeBucket (settings_of (as_setup setup.now)) words.now)
+        (IsReadBucket (as_setup setup.now) words.now)) }
 {
     Err(AllocError)
 }
@@ -40,8 +40,8 @@ pub fn write_bucket(
     bucket: &Bucket,
 ) -> Result<Option<Vec<u64>>, AllocError>
     ensures { IfOk result (λ written. MatchOption written
-      (¬ IsBucket (settings_of (as_setup setup.now)) (row_of_state base (state_of bucket.now)))
-      (λ words. words.items ≡ bucket_words (as_setup setup.now) base (state_of bucket.now))) }
+        (¬ IsBucket (settings_of (as_setup setup.now)) (row_of_state base (state_of bucket.now)))
+        (λ words. words.items ≡ bucket_words (as_setup setup.now) base (state_of bucket.now))) }
 {
     Err(AllocError)
 }
