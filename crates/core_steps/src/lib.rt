@@ -3,8 +3,11 @@
 //! All is plain and slow: each function computes its definition, and no more is asked of it.
 #![tactic(auto)]
 
+mod asks;
 mod places;
+mod stores;
 mod words;
 
+pub use asks::ask;
 pub use places::place_of;
 pub use words::{action, find, perform};

@@ -79,8 +79,8 @@ fn known_place(layout: &Layout, address: &Address) -> Result<u64, StepFault>
     }
 }
 
-// The word at this place.
-fn word_at(words: &[u64], place: u64) -> u64
+/// The word at this place, and 0 past the end.
+pub(crate) fn word_at(words: &[u64], place: u64) -> u64
     ensures { result ≡ slice_index words.now place }
 {
     words.get(place as usize).copied().unwrap_or(0)
