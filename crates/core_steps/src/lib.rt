@@ -5,9 +5,13 @@
 
 mod asks;
 mod places;
+mod seats;
 mod stores;
+mod turns;
 mod words;
+mod worlds;
 
 pub use asks::ask;
 pub use places::place_of;
 pub use words::{action, find, perform};
+pub use worlds::{open_world, run_world, step_world};
