@@ -114,7 +114,7 @@ impl Bucket {
 }
 
 // Copies the items into a vector that has room for them.
-fn refill<T: Copy>(into: &mut Vec<T>, items: &[T])
+pub(crate) fn refill<T: Copy>(into: &mut Vec<T>, items: &[T])
     requires { length items.now ≤ vec_capacity into.old }
     ensures items { into.new.items ≡ items.now }
     ensures room { vec_capacity into.new ≡ vec_capacity into.old }

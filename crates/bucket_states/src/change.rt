@@ -72,9 +72,8 @@ impl Bucket {
 
 // The first bits of a key's hash.
 #[tactic(auto, unfolding(crate::specs::Items::prefix_of))]
-fn prefix_of(rules: &Rules, depth: u32, key: &Key) -> u64
-    requires range { InRange rules.now }
-    requires depth { depth ≤ rules.now.depth }
+pub(crate) fn prefix_of(rules: &Rules, depth: u32, key: &Key) -> u64
+    requires { depth ≤ 64 }
     ensures { result ≡ prefix_of rules.now depth key.now }
 {
     bits(key.hash(&rules.hashing), depth)

@@ -5,6 +5,7 @@ mod bucket;
 mod change;
 mod items;
 mod laws;
+mod leaves;
 mod ops;
 
 pub use bucket::Bucket;

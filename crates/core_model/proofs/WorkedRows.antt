@@ -13,9 +13,10 @@ use Rattle.word_rows.specs.Shape.{number_after}
 use Rattle.word_rows.specs.Blocks.{blocks}
 use Rattle.bucket_states.specs.Items.{prefix_of, reply_in, items_after, overflows}
 use Rattle.bucket_states.specs.Change.{after_op, change}
+use Rattle.bucket_states.specs.Halves.{half}
 use Rattle.plain_map.specs.PlainObject.{class_of}
 use Rattle.core_model.specs.Setup.{Setup, rules_of, next_number}
-use Rattle.core_model.specs.Leaves.{half, split, apply}
+use Rattle.core_model.specs.Leaves.{split, apply}
 use Rattle.core_model.specs.DirectoryChange.{change_leaves, with_leaves}
 use Rattle.core_model.specs.Opening.{opening_leaves}
 use Rattle.core_model.specs.Worlds.{opening_words}

@@ -8,11 +8,12 @@ use Rattle.plain_map.specs.declared.rules.Rules.{Rules}
 use Rattle.plain_map.specs.Calls.{key_in}
 use Rattle.plain_map.specs.PlainObject.{InRange, Sessions, reply_of, map_after}
 use Rattle.bucket_states.specs.declared.ops.Op.{Op}
+use Rattle.bucket_states.specs.Halves.{half}
 use Rattle.bucket_states.specs.Parts.{HoldsPart}
 use Rattle.bucket_states.specs.States.{BucketState}
 use Rattle.bucket_states.specs.Laws.{IsGood, IsUntouched, Announces, Taken, applied_of, reply_at, sessions_after}
 use Rattle.core_model.specs.Directories.{DirectoryState, bucket_of}
-use Rattle.core_model.specs.Leaves.{NewLeaf, leaf_of, half}
+use Rattle.core_model.specs.Leaves.{NewLeaf, leaf_of}
 use Rattle.core_model.specs.DirectoryChange.{LoadedBucket, loaded_of, is_frozen_without, comes_from, change_leaves, with_leaves}
 use Rattle.core_model.specs.Closed.{keys_with_prefix}
 

@@ -1,7 +1,7 @@
 -- New leaves, and the two small steps of which each change of a directory is made: a split, and the answer to one call.
 -- A list of leaves is in the order of their prefixes as bit strings, and no two leaves share a key.
 -- Source: this project's own; the split is that of Fagin and others, "Extendible hashing", 1979.
-use Rattle.std.specs.Prelude.{ℕ, zero, suc, ◌+◌, ◌-◌, ◌*◌, ◌^◌, ◌==◌, nat_lt, Bool, false, ◌&&◌, if◌then◌else◌, List, [], ◌∷◌, ◌++◌, Option, filter, find}
+use Rattle.std.specs.Prelude.{ℕ, zero, suc, ◌-◌, ◌*◌, ◌^◌, ◌==◌, nat_lt, Bool, ◌&&◌, if◌then◌else◌, List, [], ◌∷◌, ◌++◌, Option, find}
 use Rattle.std.specs.List.{list_any}
 use Rattle.plain_map.specs.declared.keys.Key.{Key}
 use Rattle.plain_map.specs.declared.rules.Rules.{Rules}
@@ -11,6 +11,7 @@ use Rattle.bucket_states.specs.declared.ops.Op.{Op}
 use Rattle.bucket_states.specs.Items.{prefix_of, overflows}
 use Rattle.bucket_states.specs.States.{BucketState}
 use Rattle.bucket_states.specs.Change.{answered}
+pub use Rattle.bucket_states.specs.Halves.{half}
 
 -- a bucket that is made, and the number of the bucket that it comes from, or none at an opening
 pub record NewLeaf : Type 0 where
@@ -24,18 +25,6 @@ is_in rules key bucket = prefix_of rules bucket.depth key == bucket.prefix
 -- the leaf of a key
 abbrev pub leaf_of : Rules → Key → List NewLeaf → Option NewLeaf
 leaf_of rules key leaves = find (λ leaf. is_in rules key leaf.bucket) leaves
-
--- one of the two parts of a bucket: the pairs whose next hash bit is this one, in their order. It is not frozen, and
--- has all numbers and replies
-unfoldable pub half : Rules → (bit : ℕ) → BucketState → BucketState
-half rules bit bucket = record {
-  prefix = 2 * bucket.prefix + bit;
-  depth = suc bucket.depth;
-  frozen = false;
-  items = filter (λ pair. prefix_of rules (suc bucket.depth) pair.key == 2 * bucket.prefix + bit) bucket.items;
-  applied = bucket.applied;
-  replies = bucket.replies;
-}
 
 -- both parts
 abbrev pub halves : Rules → NewLeaf → List NewLeaf

@@ -8,11 +8,15 @@ mod places;
 mod rows;
 mod seats;
 mod setup;
+mod spelling;
 mod values;
 
 pub use phases::{PlainBucketTry, PlainDirectoryTry, PlainPhase};
 pub use places::{bucket_of, next_bucket, prefix_at};
-pub use rows::{copy_bucket, read_bucket, write_bucket};
+pub use rows::{copy_bucket, is_of_table, read_bucket, write_bucket};
 pub use seats::{PlainAccount, PlainFlight, PlainSeat, PlainStand, PlainWorld};
 pub use setup::PlainSetup;
 pub use values::{PlainDirectory, PlainLeaf, PlainLoaded};
+
+#[cfg(test)]
+mod tests;

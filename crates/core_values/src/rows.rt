@@ -1,6 +1,6 @@
 //! Buckets read from words, and written as words.
 
-ghost use Rattle.std.specs.Prelude.{◌≡◌, IfOk, MatchOption, Some, length};
+ghost use Rattle.std.specs.Prelude.{◌≡◌, ◌↔◌, IsTrue, IfOk, MatchOption, Some, length};
 ghost use Rattle.step_counts.specs.StepCounts.{bucket_row_words};
 ghost use Rattle.word_rows.specs.BucketWords.{IsBucket, SpellSomeBucket};
 ghost use Rattle.bucket_states.specs.States.{HasRoom, row_of_state, state_of};
@@ -11,8 +11,12 @@ ghost use Rattle.core_values.specs.Views.{as_setup};
 ghost use Rattle.core_values.specs.Rows.{IsReadBucket, IsOfTable};
 
 use crate::PlainSetup;
+use crate::spelling::is_row;
 use bucket_states::Bucket;
+use plain_map::BucketRow;
 use std::alloc::{AllocError, Global};
+use step_counts::bucket_row_words;
+use word_rows::row_laws;
 
 /// The bucket that the words of a row spell, or `None` where they spell none.
 ///
@@ -27,7 +31,15 @@ pub fn read_bucket(
         (¬ SpellSomeBucket (settings_of (as_setup setup.now)) words.now)
         (IsReadBucket (as_setup setup.now) words.now)) }
 {
-    Err(AllocError)
+    row_laws();
+    let settings = setup.layout.settings();
+    let mut row = BucketRow::with_room(alloc, settings)?;
+    if !setup.layout.read_bucket(words, &mut row) {
+        return Ok(None);
+    }
+    let mut bucket = Bucket::with_room(alloc, settings)?;
+    bucket.from_row(&row);
+    Ok(Some(bucket))
 }
 
 /// The words of the row of a bucket that was made from the row `base`, or `None` where it has no spelling.
@@ -43,7 +55,15 @@ pub fn write_bucket(
         (¬ IsBucket (settings_of (as_setup setup.now)) (row_of_state base (state_of bucket.now)))
         (λ words. words.items ≡ bucket_words (as_setup setup.now) base (state_of bucket.now))) }
 {
-    Err(AllocError)
+    let settings = setup.layout.settings();
+    if !is_row(settings, base, bucket) {
+        return Ok(None);
+    }
+    let mut row = BucketRow::with_room(alloc, settings)?;
+    bucket.to_row(base, &mut row);
+    let mut words = vec![in alloc; 0; bucket_row_words(settings) as usize]?;
+    setup.layout.write_bucket(&row, &mut words);
+    Ok(Some(words))
 }
 
 /// Another bucket that is the same, with all the room of a bucket of the table.
@@ -54,5 +74,19 @@ pub fn copy_bucket(alloc: Global, setup: &PlainSetup, bucket: &Bucket) -> Result
     ensures same { IfOk result (λ copy. state_of copy ≡ state_of bucket.now) }
     ensures room { IfOk result (HasRoom (settings_of (as_setup setup.now)).seats (settings_of (as_setup setup.now)).items) }
 {
-    Err(AllocError)
+    let mut copy = Bucket::with_room(alloc, setup.layout.settings())?;
+    copy.copy_from(bucket);
+    Ok(copy)
+}
+
+/// Whether the bucket has as many seats as the table, and no more items, depth or prefix than a bucket of it may have.
+pub fn is_of_table(setup: &PlainSetup, bucket: &Bucket) -> bool
+    ensures { IsTrue result ↔ IsOfTable (settings_of (as_setup setup.now)) (state_of bucket.now) }
+{
+    let settings = setup.layout.settings();
+    bucket.depth <= settings.depth
+        && bucket.prefix < 1 << bucket.depth
+        && bucket.items.len() <= settings.items as usize
+        && bucket.applied.len() == settings.seats as usize
+        && bucket.replies.len() == settings.seats as usize
 }
