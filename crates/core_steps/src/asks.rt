@@ -1,13 +1,16 @@
 //! What a seat asks of the words, by its phase.
 
-ghost use Rattle.std.specs.Prelude.{◌≡◌, ◌+◌, ◌<◌, Err, IfOk};
+ghost use Rattle.std.specs.Prelude.{◌≡◌, ◌+◌, ◌^◌, ◌<◌, Err, IfErr, IfOk, IsErr};
 ghost use Rattle.plain_map.specs.Calls.{key_in};
 ghost use Rattle.word_rows.specs.declared.addresses.Address.TheVariants.{BucketRowWord, DirectoryWord};
 ghost use Rattle.bucket_states.specs.Items.{prefix_of};
 ghost use Rattle.core_model.specs.declared.events.Ask.TheVariants.{Load};
 ghost use Rattle.core_model.specs.Setup.{rules_of, seats_of};
 ghost use Rattle.core_model.specs.Asks.{ask_in, next};
+ghost use Rattle.word_rows.specs.Shape.{AreBelow};
+ghost use Rattle.word_rows.specs.Places.{IsAddress};
 ghost use Rattle.core_values.specs.Views.{as_account, as_flight, as_phase, as_setup, as_stand};
+ghost use Rattle.core_steps.specs.Causes.{AsksWord, CanStore, IsStorable};
 
 use crate::stores::{
     announce, can_publish, exchange_bucket, exchange_root, store_bucket_word, store_directory_word,
@@ -31,6 +34,10 @@ pub fn ask(
     requires { seat < seats_of (as_setup setup.now) }
     ensures value { IfOk result (λ ask.
       ask ≡ next (as_setup setup.now) seat (as_account account.now) (as_stand stand.now)) }
+    ensures words { result ≡ Err StepFault.NoWord
+      → ¬ AsksWord (as_setup setup.now).shape (next (as_setup setup.now) seat (as_account account.now) (as_stand stand.now)) }
+    ensures rows { result ≡ Err StepFault.NoRow → ¬ CanStore (as_setup setup.now) (as_stand stand.now) }
+    ensures counts { result ≡ Err StepFault.NoCount → ¬ AreBelow (2 ^ 62) account.now.used }
 {
     match stand {
         PlainStand::Idle => Ok(Ask::Nothing),
@@ -50,6 +57,11 @@ pub(crate) fn ask_in(
     requires { seat < seats_of (as_setup setup.now) }
     ensures value { IfOk result (λ ask.
       ask ≡ ask_in (as_setup setup.now) seat used.now (as_flight flight.now) (as_phase phase.now)) }
+    ensures words { result ≡ Err StepFault.NoWord → ¬ AsksWord (as_setup setup.now).shape
+      (ask_in (as_setup setup.now) seat used.now (as_flight flight.now) (as_phase phase.now)) }
+    ensures rows { result ≡ Err StepFault.NoRow
+      → ¬ IsStorable (as_setup setup.now) (as_flight flight.now) (as_phase phase.now) }
+    ensures counts { result ≡ Err StepFault.NoCount → ¬ AreBelow (2 ^ 62) used.now }
 {
     if !can_publish(used) {
         return Err(StepFault::NoCount);
@@ -112,6 +124,9 @@ fn load_directory(row: u64, i: usize) -> Ask
 fn load_entry(setup: &PlainSetup, flight: &PlainFlight, root: u64, depth: u64) -> Result<Ask, StepFault>
     ensures value { IfOk result (λ ask.
       ask ≡ Load (DirectoryWord root (2 + prefix_of (rules_of (as_setup setup.now)) depth (key_in flight.now.call)))) }
+    ensures only { IfErr result (λ fault. fault ≡ StepFault.NoWord) }
+    ensures words { IsErr result → ¬ IsAddress (as_setup setup.now).shape
+      (DirectoryWord root (2 + prefix_of (rules_of (as_setup setup.now)) depth (key_in flight.now.call))) }
 {
     let place = prefix_at(&setup.rules(), depth, flight.call.key());
     match place.checked_add(2) {

@@ -1,6 +1,6 @@
 //! What a seat stores and exchanges.
 
-ghost use Rattle.std.specs.Prelude.{◌≡◌, ◌+◌, ◌^◌, ◌<◌, ◌↔◌, IfOk, IsTrue, MatchOption, Some, map, slice_index};
+ghost use Rattle.std.specs.Prelude.{◌≡◌, ◌+◌, ◌^◌, ◌<◌, ◌↔◌, Err, IfErr, IfOk, IsErr, IsTrue, MatchOption, Some, map, slice_index};
 ghost use Rattle.plain_map.specs.declared.full.FullKind.TheVariants.{BucketRows, DirRows, OpRows};
 ghost use Rattle.word_rows.specs.Shape.{AreBelow};
 ghost use Rattle.word_rows.specs.declared.addresses.Address.TheVariants.{
@@ -12,22 +12,22 @@ ghost use Rattle.word_rows.specs.declared.addresses.Address.TheVariants.{
   Root,
 };
 ghost use Rattle.word_rows.specs.OpWords.{IsOp, IsRowCall, words_of_op};
-ghost use Rattle.bucket_states.specs.States.{state_of};
 ghost use Rattle.core_model.specs.declared.events.Ask.TheVariants.{Exchange, Store};
-ghost use Rattle.core_model.specs.Setup.{next_number, seats_of, settings_of};
+ghost use Rattle.core_model.specs.Setup.{next_number, seats_of};
 ghost use Rattle.core_model.specs.Stores.{bucket_words, directory_puts, made_bucket, put_at};
 ghost use Rattle.core_model.specs.Asks.{op_row_of, store_of};
 ghost use Rattle.core_values.specs.Views.{as_bucket_try, as_directory_try, as_flight, as_loaded, as_setup};
-ghost use Rattle.core_values.specs.Rows.{IsOfTable};
-ghost use Rattle.core_steps.specs.Causes.{IsMade};
+ghost use Rattle.core_steps.specs.Causes.{IsMade, IsMemoryOrRow};
+ghost use Rattle.core_leaves.specs.Changes.{IsChange};
 
 use crate::words::word_at;
-use bucket_states::{Bucket, Op};
+use bucket_states::Op;
 use core_leaves::directory_puts;
 use core_model::{Ask, Put};
 use core_phases::StepFault;
 use core_values::{
-    PlainBucketTry, PlainDirectoryTry, PlainFlight, PlainLoaded, PlainSetup, copy_bucket, write_bucket,
+    PlainBucketTry, PlainDirectoryTry, PlainFlight, PlainLoaded, PlainSetup, copy_bucket, is_of_table,
+    write_bucket,
 };
 use plain_map::{Call, FullKind};
 use std::alloc::{AllocError, Global};
@@ -58,6 +58,8 @@ pub(crate) fn store_op_word(
     ensures value { IfOk result (λ ask. ask
       ≡ Store (OpWord (next_number (as_setup setup.now) seat OpRows used.now) stored)
         (slice_index (words_of_op (op_row_of (as_flight flight.now))) stored)) }
+    ensures only { IfErr result (λ fault. fault ≡ StepFault.NoRow) }
+    ensures rows { IsErr result ↔ (¬ IsOp (op_row_of (as_flight flight.now))) }
 {
     let row = OpRow {
         number: flight.number,
@@ -98,6 +100,8 @@ pub(crate) fn store_bucket_word(
       ≡ Store (BucketRowWord (next_number (as_setup setup.now) seat BucketRows used.now) stored)
         (slice_index (bucket_words (as_setup setup.now) (Some attempt.now.row)
         (made_bucket (as_setup setup.now) (as_bucket_try attempt.now) found.now)) stored)) }
+    ensures only { IfErr result IsMemoryOrRow }
+    ensures rows { result ≡ Err StepFault.NoRow → ¬ IsMade (as_setup setup.now) (as_bucket_try attempt.now) found.now }
 {
     let Some(words) = made_words(alloc, setup, attempt, found)? else {
         return Err(StepFault::NoRow);
@@ -132,6 +136,9 @@ pub(crate) fn store_directory_word(
     ensures value { IfOk result (λ ask. ask
       ≡ store_of (put_at (directory_puts (as_setup setup.now) seat used.now (as_directory_try attempt.now) found.now
         (map as_loaded loaded.now)) stored)) }
+    ensures only { IfErr result IsMemoryOrRow }
+    ensures rows { result ≡ Err StepFault.NoRow
+      → ¬ IsChange (as_setup setup.now) (as_directory_try attempt.now) found.now (map as_loaded loaded.now) }
 {
     let Some(puts) = directory_puts(alloc, setup, seat, used, attempt, found, loaded)? else {
         return Err(StepFault::NoRow);
@@ -203,17 +210,4 @@ fn made_words(
     let mut bucket = copy_bucket(alloc, setup, &attempt.state)?;
     bucket.apply_all(&setup.rules(), found);
     write_bucket(alloc, setup, Some(attempt.row), &bucket)
-}
-
-// Whether the bucket can be one of the table.
-fn is_of_table(setup: &PlainSetup, bucket: &Bucket) -> bool
-    ensures { IsTrue result ↔ IsOfTable (settings_of (as_setup setup.now)) (state_of bucket.now) }
-{
-    let settings = setup.layout.settings();
-    let seats = settings.seats as usize;
-    bucket.depth <= settings.depth
-        && bucket.prefix < 1 << bucket.depth
-        && bucket.items.len() <= settings.items as usize
-        && bucket.applied.len() == seats
-        && bucket.replies.len() == seats
 }
