@@ -1,13 +1,13 @@
 //! What an event makes a seat do: rest, or take a step.
 
-ghost use Rattle.std.specs.Prelude.{◌≡◌, ◌+◌, ◌<◌, IfOk};
+ghost use Rattle.std.specs.Prelude.{◌≡◌, ◌+◌, ◌^◌, ◌<◌, IfErr, IfOk, IfSome, IsErr};
 ghost use Rattle.plain_map.specs.Serving.{CanCount};
 ghost use Rattle.core_model.specs.Setup.{seats_of};
 ghost use Rattle.core_model.specs.SeatStates.{begun, Idle};
 ghost use Rattle.core_model.specs.Worlds.{refusal_of};
 ghost use Rattle.plain_map.specs.Room.{left_of};
 ghost use Rattle.core_values.specs.Views.{as_account, as_flight, as_seat, as_setup};
-ghost use Rattle.core_steps.specs.Turns.{IsTurn};
+ghost use Rattle.core_steps.specs.Turns.{IsTurn, step_at};
 
 use core_phases::StepFault;
 use core_values::{PlainAccount, PlainFlight, PlainPhase, PlainSeat, PlainSetup, PlainStand};
@@ -34,6 +34,10 @@ pub(crate) fn turn_of(
 ) -> Result<Turn, StepFault>
     requires { seat < seats_of (as_setup setup.now) }
     ensures turn { IfOk result (IsTurn (as_setup setup.now) seat (as_seat state).account (as_seat state).stand begin) }
+    ensures only { IfErr result (λ fault. fault ≡ StepFault.NoCount) }
+    ensures counts { IsErr result → ¬ IfSome
+      (step_at (as_setup setup.now) seat (as_seat state).account (as_seat state).stand begin)
+      (λ step. step.0.number < 2 ^ 32) }
 {
     let PlainSeat { account, stand } = state;
     match stand {
@@ -52,6 +56,9 @@ fn begin_call(
 ) -> Result<Turn, StepFault>
     requires { seat < seats_of (as_setup setup.now) }
     ensures turn { IfOk result (IsTurn (as_setup setup.now) seat (as_account account) Idle begin) }
+    ensures only { IfErr result (λ fault. fault ≡ StepFault.NoCount) }
+    ensures counts { IsErr result → ¬ IfSome (step_at (as_setup setup.now) seat (as_account account) Idle begin)
+      (λ step. step.0.number < 2 ^ 32) }
 {
     let Some((packet, call)) = begin else {
         return Ok(Turn::Rest(account));

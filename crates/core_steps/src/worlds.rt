@@ -1,10 +1,11 @@
 //! The words and the seats of a table after each event.
 
-ghost use Rattle.std.specs.Prelude.{◌≡◌, ◌<◌, IfOk, MatchOption, fold};
+ghost use Rattle.std.specs.Prelude.{◌≡◌, ◌<◌, Err, IfOk, MatchOption, fold};
 ghost use Rattle.core_model.specs.Worlds.{happens, opening_world, step_of};
 ghost use Rattle.core_model.specs.Setup.{seats_of};
 ghost use Rattle.core_values.specs.Views.{as_account, as_flight, as_phase, as_setup, as_world};
 ghost use Rattle.core_leaves.specs.Changes.{IsOpening};
+ghost use Rattle.core_steps.specs.WorldCauses.{OfEvent, StepAsksWord, StepCounts, StepHasRows};
 
 use crate::asks::ask_in;
 use crate::seats::{fresh_seats, put_seat, take_seat};
@@ -42,6 +43,12 @@ pub fn step_world(
     event: &Event,
 ) -> Result<PlainWorld, StepFault>
     ensures after { IfOk result (λ after. as_world after ≡ happens (as_setup setup.now) (as_world world) event.now) }
+    ensures words { result ≡ Err StepFault.NoWord
+      → ¬ OfEvent StepAsksWord (as_setup setup.now) (as_world world) event.now }
+    ensures rows { result ≡ Err StepFault.NoRow
+      → ¬ OfEvent StepHasRows (as_setup setup.now) (as_world world) event.now }
+    ensures counts { result ≡ Err StepFault.NoCount
+      → ¬ OfEvent StepCounts (as_setup setup.now) (as_world world) event.now }
 {
     if event.seat >= setup.seats() {
         return Ok(world);
@@ -72,6 +79,12 @@ fn step(
     requires { seat < seats_of (as_setup setup.now) }
     ensures after { IfOk result (λ after. as_world after
       ≡ step_of (as_setup setup.now) (as_world world) seat (as_account account) (as_flight flight) (as_phase phase)) }
+    ensures words { result ≡ Err StepFault.NoWord
+      → ¬ StepAsksWord (as_setup setup.now) world.words.items seat (as_account account) (as_flight flight) (as_phase phase) }
+    ensures rows { result ≡ Err StepFault.NoRow
+      → ¬ StepHasRows (as_setup setup.now) world.words.items seat (as_account account) (as_flight flight) (as_phase phase) }
+    ensures counts { result ≡ Err StepFault.NoCount
+      → ¬ StepCounts (as_setup setup.now) world.words.items seat (as_account account) (as_flight flight) (as_phase phase) }
 {
     let ask = ask_in(alloc, setup, seat, &account.used, &flight, &phase)?;
     let word = find(setup, &world.words, &ask)?;
