@@ -5,7 +5,7 @@ ghost use Rattle.core_model.specs.Worlds.{happens, opening_world, step_of};
 ghost use Rattle.core_model.specs.Setup.{seats_of};
 ghost use Rattle.core_values.specs.Views.{as_account, as_flight, as_phase, as_setup, as_world};
 ghost use Rattle.core_leaves.specs.Changes.{IsOpening};
-ghost use Rattle.core_steps.specs.WorldCauses.{OfEvent, StepAsksWord, StepCounts, StepHasRows};
+ghost use Rattle.core_steps.specs.WorldCauses.{OfEvent, OfEvents, StepAsksWord, StepCounts, StepHasRows};
 
 use crate::asks::ask_in;
 use crate::seats::{fresh_seats, put_seat, take_seat};
@@ -103,6 +103,12 @@ pub fn run_world(
 ) -> Result<PlainWorld, StepFault>
     ensures after { IfOk result (λ after.
       as_world after ≡ fold (happens (as_setup setup.now)) (as_world world) events.now) }
+    ensures words { result ≡ Err StepFault.NoWord
+      → ¬ OfEvents StepAsksWord (as_setup setup.now) (as_world world) events.now }
+    ensures rows { result ≡ Err StepFault.NoRow
+      → ¬ OfEvents StepHasRows (as_setup setup.now) (as_world world) events.now }
+    ensures counts { result ≡ Err StepFault.NoCount
+      → ¬ OfEvents StepCounts (as_setup setup.now) (as_world world) events.now }
 {
     let mut after = world;
     for event in events {
