@@ -1,5 +1,8 @@
 //! Why a step cannot be computed.
 
+ghost use Rattle.std.specs.Prelude.{◌≡◌};
+ghost use Rattle.core_phases.specs.declared.faults.StepFault.TheVariants.{Memory};
+
 use std::alloc::AllocError;
 
 /// Why a step cannot be computed.
@@ -16,7 +19,9 @@ pub enum StepFault {
 }
 
 impl From<AllocError> for StepFault {
-    fn from(_: AllocError) -> StepFault {
+    ghost from_gives = { λ _ fault. fault ≡ Memory };
+
+    fn from(_none: AllocError) -> StepFault {
         StepFault::Memory
     }
 }

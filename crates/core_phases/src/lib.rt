@@ -4,7 +4,19 @@
 #![tactic(auto)]
 
 mod after;
+mod answers;
+mod bucket_tries;
+mod counts;
+mod directory_tries;
 mod faults;
+mod finds;
+mod last_looks;
+mod lookups;
+mod phases;
+mod rows;
 
 pub use after::seat_after;
 pub use faults::StepFault;
+
+#[cfg(test)]
+mod tests;
