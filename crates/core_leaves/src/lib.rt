@@ -4,9 +4,16 @@
 #![tactic(auto)]
 
 mod change;
+mod directory;
+mod leaves;
 mod opening;
+mod pairs;
 mod puts;
+mod rows;
+mod steps;
+mod stores;
 
 pub use change::change_leaves;
+pub use leaves::leaf_place;
 pub use opening::opening_words;
 pub use puts::directory_puts;

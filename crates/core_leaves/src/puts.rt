@@ -7,9 +7,13 @@ ghost use Rattle.core_model.specs.Stores.{directory_puts};
 ghost use Rattle.core_values.specs.Views.{as_directory_try, as_loaded, as_setup};
 ghost use Rattle.core_leaves.specs.Changes.{IsChange};
 
+use crate::change_leaves;
+use crate::directory::with_leaves;
+use crate::rows::{directory_words, leaf_puts, push_directory_row};
 use bucket_states::Op;
 use core_model::Put;
 use core_values::{PlainDirectoryTry, PlainLoaded, PlainSetup};
+use plain_map::FullKind;
 use std::alloc::{AllocError, Global};
 use step_counts::SeatRows;
 
@@ -17,6 +21,7 @@ use step_counts::SeatRows;
 ///
 /// `None` comes only where what was loaded cannot be that of a table, or a leaf has no spelling. The only error is
 /// want of memory.
+#[tactic(auto, unfolding(core_model::specs::Stores::directory_puts))]
 pub fn directory_puts(
     alloc: Global,
     setup: &PlainSetup,
@@ -33,5 +38,20 @@ pub fn directory_puts(
       (λ puts. puts.items
         ≡ directory_puts (as_setup setup.now) seat used.now (as_directory_try attempt.now) found.now (map as_loaded loaded.now))) }
 {
-    Err(AllocError)
+    if attempt.root == u64::MAX {
+        return Ok(None);
+    }
+    let Some(leaves) = change_leaves(alloc, setup, attempt, found, loaded)? else {
+        return Ok(None);
+    };
+    let bucket = setup.next_number(seat, FullKind::BucketWords, used);
+    let row = setup.next_number(seat, FullKind::BucketRows, used);
+    let Some(mut puts) = leaf_puts(alloc, setup, loaded, bucket, row, &leaves)? else {
+        return Ok(None);
+    };
+    let directory = with_leaves(alloc, bucket, &leaves, &attempt.directory)?;
+    let words = directory_words(alloc, Some(attempt.root), &directory)?;
+    let directory_row = setup.next_number(seat, FullKind::DirRows, used);
+    push_directory_row(&mut puts, directory_row, &words)?;
+    Ok(Some(puts))
 }

@@ -1,0 +1,44 @@
+-- Where leaves stand, and which leaves can be those of a table.
+use Rattle.std.specs.Prelude.{◌≡◌, ℕ, ◌^◌, ◌<◌, ◌≤◌, nat_lt, Bool, true, false, List, [], ◌∷◌, length, map, slice_index_or, Option, Some, None, Vec}
+use Rattle.std.specs.declared.alloc.Global.{Global}
+use Rattle.plain_map.specs.declared.rules.Rules.{Rules}
+use Rattle.bucket_states.specs.States.{BucketState, state_of}
+use Rattle.core_model.specs.Leaves.{NewLeaf, first_class}
+use Rattle.core_values.specs.declared.values.PlainLeaf.{PlainLeaf}
+use Rattle.core_values.specs.Views.{as_leaf}
+
+-- the first element that passes the test stands here
+pub record IsFirst {X : Type 0} (test : X → Bool) (xs : List X) (at : ℕ) : Type 0 where
+  pub in_range : at < length xs
+  pub passes : (d : X) → test (slice_index_or xs at d) ≡ true
+  pub before : (k : ℕ) (d : X) → k < at → test (slice_index_or xs k d) ≡ false
+
+-- no element passes the test
+abbrev pub NonePasses : {X : Type 0} → (X → Bool) → List X → Type 0
+NonePasses {X} test xs = (k : ℕ) (d : X) → k < length xs → test (slice_index_or xs k d) ≡ false
+
+-- the one leaf comes before the other
+abbrev pub is_before : Rules → PlainLeaf → PlainLeaf → Bool
+is_before rules leaf other = nat_lt (first_class rules (state_of leaf.bucket)) (first_class rules (state_of other.bucket))
+
+-- a bucket that can be split
+pub record CanSplit (greatest : ℕ) (bucket : BucketState) : Type 0 where
+  pub depth : bucket.depth < greatest
+  pub prefix : bucket.prefix < 2 ^ bucket.depth
+
+-- the depth and the prefix of a leaf go together, and it has a number and a reply for each seat
+pub record IsFit (greatest seats : ℕ) (leaf : NewLeaf) : Type 0 where
+  pub depth : leaf.bucket.depth ≤ greatest
+  pub prefix : leaf.bucket.prefix < 2 ^ leaf.bucket.depth
+  pub applied : length leaf.bucket.applied ≡ seats
+  pub replies : length leaf.bucket.replies ≡ seats
+
+-- so are all of these
+abbrev pub AreFit : (greatest seats : ℕ) → List NewLeaf → Type 0
+AreFit greatest seats [] = Unit {0}
+AreFit greatest seats (leaf ∷ leaves) = IsFit greatest seats leaf × AreFit greatest seats leaves
+
+-- these leaves are made, or nothing where not all of them are fit
+abbrev pub MakesLeaves : (greatest seats : ℕ) → List NewLeaf → Option (Vec PlainLeaf Global) → Type 0
+MakesLeaves greatest seats made None = ¬ AreFit greatest seats made
+MakesLeaves greatest seats made (Some leaves) = map as_leaf leaves.items ≡ made
