@@ -1,0 +1,3 @@
+pub mod Causes
+pub mod Turns
+pub mod WorldCauses
