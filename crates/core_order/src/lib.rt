@@ -2,3 +2,11 @@
 //!
 //! All is plain and slow: each function computes its definition, and no more is asked of it.
 #![tactic(auto)]
+
+mod reading;
+mod values;
+
+pub use reading::{
+    applied_at, directory_base, directory_depth, directory_entries, root_of, row_base, row_depth, row_of, row_prefix,
+};
+pub use values::{ClosedLeaf, PlainClosing, PlainPiece, PlainPlaced, PlainPlacing};
