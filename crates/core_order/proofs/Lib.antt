@@ -1,2 +1,4 @@
 mod ShapeLemmas
 mod WordLemmas
+mod LoopLemmas
+mod LineLemmas

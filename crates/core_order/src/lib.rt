@@ -4,9 +4,11 @@
 #![tactic(auto)]
 
 mod reading;
+mod rows;
 mod values;
 
 pub use reading::{
     applied_at, directory_base, directory_depth, directory_entries, root_of, row_base, row_depth, row_of, row_prefix,
 };
+pub use rows::{bucket_line, bucket_rows, directory_line, directory_rows, first_row, is_exchanged, leaves_new_in, named_buckets};
 pub use values::{ClosedLeaf, PlainClosing, PlainPiece, PlainPlaced, PlainPlacing};
