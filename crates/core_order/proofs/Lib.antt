@@ -2,3 +2,4 @@ mod ShapeLemmas
 mod WordLemmas
 mod LoopLemmas
 mod LineLemmas
+mod PieceLemmas

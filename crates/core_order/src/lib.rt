@@ -3,12 +3,19 @@
 //! All is plain and slow: each function computes its definition, and no more is asked of it.
 #![tactic(auto)]
 
+mod pieces;
+mod placed;
 mod reading;
 mod rows;
 mod values;
 
+pub use pieces::{calls_in, first_rows, is_later, new_in_rows, new_number, pieces_of, updates_in_rows};
 pub use reading::{
-    applied_at, directory_base, directory_depth, directory_entries, root_of, row_base, row_depth, row_of, row_prefix,
+    applied_at, directory_base, directory_depth, directory_entries, root_of, row_base, row_depth,
+    row_of, row_prefix,
 };
-pub use rows::{bucket_line, bucket_rows, directory_line, directory_rows, first_row, is_exchanged, leaves_new_in, named_buckets};
+pub use rows::{
+    bucket_line, bucket_rows, directory_line, directory_rows, first_row, is_exchanged,
+    leaves_new_in, named_buckets,
+};
 pub use values::{ClosedLeaf, PlainClosing, PlainPiece, PlainPlaced, PlainPlacing};
