@@ -3,3 +3,5 @@ mod WordLemmas
 mod LoopLemmas
 mod LineLemmas
 mod PieceLemmas
+mod TurnLemmas
+mod ChoiceLemmas
