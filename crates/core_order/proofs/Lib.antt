@@ -1,0 +1,7 @@
+mod ShapeLemmas
+mod WordLemmas
+mod LoopLemmas
+mod LineLemmas
+mod PieceLemmas
+mod TurnLemmas
+mod ChoiceLemmas

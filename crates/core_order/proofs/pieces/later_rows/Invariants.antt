@@ -1,0 +1,12 @@
+use Rattle.std.proofs.Common.{◌≡◌, ◌++◌, map, drop}
+use Rattle.std.specs.List.{filter}
+use Rattle.core_model.specs.Order.{is_later}
+use Rattle.core_model.specs.Order.{ByDirectoryRow}
+use Rattle.core_values.specs.Views.{as_setup}
+use Rattle.core_order.specs.Views.{as_piece}
+use Rattle.core_order.proofs.pieces.later_rows.Given as goal
+
+abbrev pub invariant-loop-row : goal.invariant-loop-row
+invariant-loop-row l =
+    map as_piece l.pieces.items ++ map ByDirectoryRow (filter (is_later (as_setup l.setup) l.words) (drop l.row-index l.row-items))
+    ≡ map ByDirectoryRow (filter (is_later (as_setup l.setup) l.words) l.row-items)
