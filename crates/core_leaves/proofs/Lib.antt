@@ -6,3 +6,4 @@ mod RowLemmas
 mod PlaceLemmas
 mod PairLemmas
 mod OpeningLemmas
+mod RoomLemmas
