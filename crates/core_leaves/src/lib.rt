@@ -17,3 +17,6 @@ pub use change::change_leaves;
 pub use leaves::leaf_place;
 pub use opening::opening_words;
 pub use puts::directory_puts;
+
+#[cfg(test)]
+mod tests;
