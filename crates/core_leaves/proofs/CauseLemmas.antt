@@ -22,9 +22,10 @@ pub AreFit-spelled : (settings : Settings) (base : NewLeaf → Option ℕ) (leav
     → All (λ leaf. IsBucket settings (row_of_state (base leaf) leaf.bucket)) leaves → AreFit settings.depth settings.seats leaves
 AreFit-spelled settings base [] all = tt
 AreFit-spelled settings base (leaf ∷ leaves) all =
-    let one : IsBucket settings (row_of_state (base leaf) leaf.bucket) = all 0 leaf (omega arith) in
-    (record { depth = one.depth; prefix = one.prefix; applied = one.seats.each_number; replies = one.seats.each_reply },
-    AreFit-spelled settings base leaves (λ k d below. all (suc k) d (omega arith)))
+    let one : IsBucket settings (row_of_state (base leaf) leaf.bucket) = all 0 leaf (omega arith) in (
+      record { depth = one.depth; prefix = one.prefix; applied = one.seats.each_number; replies = one.seats.each_reply },
+      AreFit-spelled settings base leaves (λ k d below. all (suc k) d (omega arith)),
+    )
 
 module _ (setup : Setup) (attempt : DirectoryTry) (found : List (Option Op)) (loaded : List LoadedBucket) where
   by_option : (r : Option (Vec PlainLeaf Global)) → MakesLeaves (settings_of setup).depth (seats_of setup) (made_leaves setup attempt found loaded) r

@@ -59,9 +59,11 @@ OfOpening-row at each i (word ∷ words) = (each i, OfOpening-row at each (suc i
 OfOpening-leaves : (setup : Setup) (bucket row : ℕ) (leaves : List NewLeaf) → OfOpening (leaf_puts setup (λ _. None) bucket row leaves)
 unfolding OfOpening
 OfOpening-leaves setup bucket row [] = tt
-OfOpening-leaves setup bucket row (leaf ∷ leaves) =
-    (tt, OfOpening-append (row_puts (BucketRowWord row) 0 (bucket_words setup None leaf.bucket)) (leaf_puts setup (λ _. None) (suc bucket) (suc row) leaves)
-    (OfOpening-row (BucketRowWord row) (λ i. tt) 0 (bucket_words setup None leaf.bucket)) (OfOpening-leaves setup (suc bucket) (suc row) leaves))
+OfOpening-leaves setup bucket row (leaf ∷ leaves) = (
+  tt,
+  OfOpening-append (row_puts (BucketRowWord row) 0 (bucket_words setup None leaf.bucket)) (leaf_puts setup (λ _. None) (suc bucket) (suc row) leaves)
+      (OfOpening-row (BucketRowWord row) (λ i. tt) 0 (bucket_words setup None leaf.bucket)) (OfOpening-leaves setup (suc bucket) (suc row) leaves),
+)
 
 -- an opening stores at its own addresses
 pub AreOfOpening-puts : (setup : Setup) (leaves : List NewLeaf) → AreOfOpening (puts_of_opening setup leaves)

@@ -18,4 +18,3 @@ some_bucket_rows shape = let some : 0 < 2 ^ shape.settings.depth = some_places s
 pub some_directory_rows : (shape : Shape) → 0 < count_of shape DirRows
 unfolding number_after
 some_directory_rows shape = omega arith
-

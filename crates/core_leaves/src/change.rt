@@ -26,8 +26,8 @@ pub fn change_leaves(
     loaded: &[PlainLoaded],
 ) -> Result<Option<Vec<PlainLeaf>>, AllocError>
     ensures { IfOk result (λ leaves. MatchOption leaves
-      (¬ IsChange (as_setup setup.now) (as_directory_try attempt.now) found.now (map as_loaded loaded.now))
-      (λ leaves. map as_leaf leaves.items
+        (¬ IsChange (as_setup setup.now) (as_directory_try attempt.now) found.now (map as_loaded loaded.now))
+        (λ leaves. map as_leaf leaves.items
         ≡ made_leaves (as_setup setup.now) (as_directory_try attempt.now) found.now (map as_loaded loaded.now))) }
 {
     let table = Table {

@@ -54,7 +54,13 @@ fn must_split(rules: &Rules, call: &Call, leaves: &[PlainLeaf]) -> bool
 }
 
 // One of the two parts of a bucket, as a leaf that comes from the bucket with the number `from`.
-pub(crate) fn half(alloc: Global, rules: &Rules, bit: u64, from: Option<u64>, bucket: &Bucket) -> Result<PlainLeaf, AllocError>
+pub(crate) fn half(
+    alloc: Global,
+    rules: &Rules,
+    bit: u64,
+    from: Option<u64>,
+    bucket: &Bucket,
+) -> Result<PlainLeaf, AllocError>
     requires bit { bit ≤ 1 }
     requires depth { bucket.now.depth < 64 }
     requires prefix { bucket.now.prefix < 2 ^ 63 }
@@ -97,7 +103,11 @@ fn place_among(rules: &Rules, leaf: &PlainLeaf, leaves: &[PlainLeaf]) -> usize
 }
 
 // One more leaf, at its place in the order.
-pub(crate) fn add_leaf(rules: &Rules, leaf: PlainLeaf, mut leaves: Vec<PlainLeaf>) -> Result<Vec<PlainLeaf>, AllocError>
+pub(crate) fn add_leaf(
+    rules: &Rules,
+    leaf: PlainLeaf,
+    mut leaves: Vec<PlainLeaf>,
+) -> Result<Vec<PlainLeaf>, AllocError>
     requires { InRange rules.now }
     ensures { IfOk result (λ more. map as_leaf more.items ≡ add_leaf rules.now (as_leaf leaf) (map as_leaf leaves.items)) }
 {
@@ -115,7 +125,12 @@ pub(crate) fn can_split(rules: &Rules, bucket: &Bucket) -> bool
 }
 
 // The leaves with the leaf of the key in its two parts.
-pub(crate) fn split(alloc: Global, table: &Table, key: &Key, mut leaves: Vec<PlainLeaf>) -> Result<Option<Vec<PlainLeaf>>, AllocError>
+pub(crate) fn split(
+    alloc: Global,
+    table: &Table,
+    key: &Key,
+    mut leaves: Vec<PlainLeaf>,
+) -> Result<Option<Vec<PlainLeaf>>, AllocError>
     requires { InRange table.now.rules }
     ensures { IfOk result (MakesLeaves table.now.rules.depth table.now.seats (split table.now.rules key.now (map as_leaf leaves.items))) }
 {

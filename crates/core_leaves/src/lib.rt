@@ -19,3 +19,6 @@ pub use leaves::leaf_place;
 pub use opening::opening_words;
 pub use puts::directory_puts;
 pub use room::first_without_room;
+
+#[cfg(test)]
+mod tests;

@@ -24,8 +24,8 @@ use std::alloc::{AllocError, Global};
 #[tactic(auto, unfolding(core_model::specs::Worlds::opening_words))]
 pub fn opening_words(alloc: Global, setup: &PlainSetup) -> Result<Option<Vec<u64>>, AllocError>
     ensures { IfOk result (λ words. MatchOption words
-      (¬ IsOpening (as_setup setup.now))
-      (λ words. words.items ≡ opening_words (as_setup setup.now))) }
+        (¬ IsOpening (as_setup setup.now))
+        (λ words. words.items ≡ opening_words (as_setup setup.now))) }
 {
     let Some(leaves) = first_leaves(alloc, setup)? else {
         return Ok(None);
@@ -38,7 +38,11 @@ pub fn opening_words(alloc: Global, setup: &PlainSetup) -> Result<Option<Vec<u64
 }
 
 // All that is stored at the opening: the words and rows of its leaves, and then its directory row.
-fn opening_puts(alloc: Global, setup: &PlainSetup, leaves: &[PlainLeaf]) -> Result<Option<Vec<Put>>, AllocError>
+fn opening_puts(
+    alloc: Global,
+    setup: &PlainSetup,
+    leaves: &[PlainLeaf],
+) -> Result<Option<Vec<Put>>, AllocError>
     ensures { IfOk result (λ puts. MatchOption puts
         (¬ All (λ leaf. IsBucket (settings_of (as_setup setup.now)) (row_of_state None leaf.bucket)) (map as_leaf leaves.now))
         (λ puts. puts.items ≡ puts_of_opening (as_setup setup.now) (map as_leaf leaves.now))) }
@@ -53,7 +57,11 @@ fn opening_puts(alloc: Global, setup: &PlainSetup, leaves: &[PlainLeaf]) -> Resu
 }
 
 // The directory of the opening, in which the leaves are numbered from 0 on.
-fn opening_directory(alloc: Global, start: u32, leaves: &[PlainLeaf]) -> Result<PlainDirectory, AllocError>
+fn opening_directory(
+    alloc: Global,
+    start: u32,
+    leaves: &[PlainLeaf],
+) -> Result<PlainDirectory, AllocError>
     requires { start ≤ 12 }
     ensures { IfOk result (λ directory. as_directory directory ≡ opening_directory start (map as_leaf leaves.now)) }
 {

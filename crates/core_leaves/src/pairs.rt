@@ -60,7 +60,11 @@ fn put_pair(rules: &Rules, pair: &Pair, leaf: &mut PlainLeaf) -> Result<(), Allo
 }
 
 // The leaves with the pair in the leaf of its key.
-fn put_in(rules: &Rules, pair: &Pair, mut leaves: Vec<PlainLeaf>) -> Result<Vec<PlainLeaf>, AllocError>
+fn put_in(
+    rules: &Rules,
+    pair: &Pair,
+    mut leaves: Vec<PlainLeaf>,
+) -> Result<Vec<PlainLeaf>, AllocError>
     ensures { IfOk result (λ after. map as_leaf after.items ≡ put_in rules.now pair.now (map as_leaf leaves.items)) }
 {
     match leaf_place(rules, &pair.key, &leaves) {
@@ -111,7 +115,10 @@ fn with_pairs(
 
 /// The leaves that a table begins with.
 #[tactic(auto, unfolding(core_model::specs::Opening::opening_leaves))]
-pub(crate) fn first_leaves(alloc: Global, setup: &PlainSetup) -> Result<Option<Vec<PlainLeaf>>, AllocError>
+pub(crate) fn first_leaves(
+    alloc: Global,
+    setup: &PlainSetup,
+) -> Result<Option<Vec<PlainLeaf>>, AllocError>
     ensures { IfOk result (MakesLeaves (settings_of (as_setup setup.now)).depth (seats_of (as_setup setup.now)) (first_leaves (as_setup setup.now))) }
 {
     let table = Table {

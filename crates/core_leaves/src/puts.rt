@@ -34,8 +34,8 @@ pub fn directory_puts(
     requires seat { seat < seats_of (as_setup setup.now) }
     requires used { AreBelow (2 ^ 62) used.now }
     ensures { IfOk result (λ puts. MatchOption puts
-      (¬ IsChange (as_setup setup.now) (as_directory_try attempt.now) found.now (map as_loaded loaded.now))
-      (λ puts. puts.items
+        (¬ IsChange (as_setup setup.now) (as_directory_try attempt.now) found.now (map as_loaded loaded.now))
+        (λ puts. puts.items
         ≡ directory_puts (as_setup setup.now) seat used.now (as_directory_try attempt.now) found.now (map as_loaded loaded.now))) }
 {
     if attempt.root == u64::MAX {

@@ -29,7 +29,11 @@ fn push_bucket_row(puts: &mut Vec<Put>, row: u64, words: &[u64]) -> Result<(), A
 }
 
 /// Stores the words of a directory row.
-pub(crate) fn push_directory_row(puts: &mut Vec<Put>, row: u64, words: &[u64]) -> Result<(), AllocError>
+pub(crate) fn push_directory_row(
+    puts: &mut Vec<Put>,
+    row: u64,
+    words: &[u64],
+) -> Result<(), AllocError>
     ensures { IfOk result (λ _. puts.new.items ≡ puts.old.items ++ row_puts (DirectoryWord row) 0 words.now) }
 {
     for (i, word) in words.iter().enumerate() {
@@ -42,7 +46,11 @@ pub(crate) fn push_directory_row(puts: &mut Vec<Put>, row: u64, words: &[u64]) -
 }
 
 /// The words of the row of a directory that was made from the row `base`.
-pub(crate) fn directory_words(alloc: Global, base: Option<u64>, directory: &PlainDirectory) -> Result<Vec<u64>, AllocError>
+pub(crate) fn directory_words(
+    alloc: Global,
+    base: Option<u64>,
+    directory: &PlainDirectory,
+) -> Result<Vec<u64>, AllocError>
     requires { IsBase base }
     ensures { IfOk result (λ words. words.items ≡ directory_words base (as_directory directory.now)) }
 {

@@ -76,7 +76,12 @@ fn answer_in(table: &Table, seat: usize, op: &Op, leaf: &mut PlainLeaf) -> Resul
 }
 
 // The leaves with the op answered in the leaf of its key.
-fn apply(table: &Table, seat: usize, op: &Op, mut leaves: Vec<PlainLeaf>) -> Result<Option<Vec<PlainLeaf>>, AllocError>
+fn apply(
+    table: &Table,
+    seat: usize,
+    op: &Op,
+    mut leaves: Vec<PlainLeaf>,
+) -> Result<Option<Vec<PlainLeaf>>, AllocError>
     requires { seat < table.now.seats }
     ensures { IfOk result (MakesLeaves table.now.rules.depth table.now.seats (apply table.now.rules seat op.now (map as_leaf leaves.items))) }
 {

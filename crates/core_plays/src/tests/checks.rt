@@ -3,7 +3,7 @@
 use super::tables::{Played, automatic, calls_of, key, segments, setup_of};
 use crate::play;
 use core_order::{
-    PlainClosing, PlainLeafAt, PlainPlaced, closed_depth, closed_leaves, closed_pairs, closing_of,
+    PlainClosing, ClosedLeaf, PlainPlaced, closed_depth, closed_leaves, closed_pairs, closing_of,
     effects, order,
 };
 use core_values::PlainSetup;
@@ -17,7 +17,7 @@ use step_counts::Settings;
 fn head_of(placed: &PlainPlaced) -> (u32, u32, u32, [u32; 8]) {
     match placed {
         PlainPlaced::Answered(r) => (r.seat, r.number, r.packet, r.seen.counts),
-        PlainPlaced::Pending(u) => (u.seat, u.number, u.packet, u.seen.counts),
+        PlainPlaced::Begun(u) => (u.seat, u.number, u.packet, u.seen.counts),
     }
 }
 
@@ -55,7 +55,7 @@ fn replay(
                     r.packet
                 );
             }
-            PlainPlaced::Pending(u) => {
+            PlainPlaced::Begun(u) => {
                 map.answer(&rules, &u.call)?;
             }
         }
@@ -121,7 +121,7 @@ fn stands_once(
 }
 
 // Each class has one leaf.
-fn leaves_cover(rt: &impl Abort, depth: u32, leaves: &[PlainLeafAt], name: &str) {
+fn leaves_cover(rt: &impl Abort, depth: u32, leaves: &[ClosedLeaf], name: &str) {
     for class in 0..(1u64 << depth.min(12)) {
         let count = leaves
             .iter()
