@@ -26,7 +26,7 @@ pub layout_counts :
 layout_counts layout last first size is_last is_first is_size =
     let some : 1 ≤ layout.settings.seats = omega (arith, layout.settings.seats_in_range) in
     let ends : (kind : FullKind) → first_number (shape_of layout) last kind + of_kind kind (sizes_of (shape_of layout) last) ≡ count_of (shape_of layout) kind
-        = λ kind. range_ends (shape_of layout) kind last (omega (arith, layout.shaped.each_seat, some, is_last)) in
+    = λ kind. range_ends (shape_of layout) kind last (omega (arith, layout.shaped.each_seat, some, is_last)) in
     let begin = is_first in
     let ops = ends OpRows in
     let rows = ends BucketRows in

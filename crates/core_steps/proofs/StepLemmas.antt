@@ -66,7 +66,7 @@ happens_rest setup world event state seats account taken is_account idle none =
     let put : List SeatState → World = λ all. record { words = world.words; seats = all } in
     let back : (record { account = account; stand = Idle }) ≡ seat_in world event.seat = grind (arith, is_account, idle, taken.stood) in
     let same : set seats event.seat (record { account = account; stand = Idle }) ≡ world.seats =
-        taken.rest _ ∙ ap (set world.seats event.seat) back ∙ set-get_or world.seats event.seat fresh_seat in
+    taken.rest _ ∙ ap (set world.seats event.seat) back ∙ set-get_or world.seats event.seat fresh_seat in
     let Rests : SeatState → Type 0 = λ s. act setup world event.seat s.account s.stand event.begin ≡ world in
     ap put same ∙ sym (subst Rests taken.stood (act_rests setup world event.seat state.account state.stand event.begin none)) ∙ sym (happens_within setup world event taken.within)
 
@@ -82,7 +82,7 @@ happens_step setup world event state seats account flight phase taken is_account
     let Steps : SeatState → Type 0 = λ s. act setup world event.seat s.account s.stand event.begin ≡ step_of setup world event.seat account flight phase in
     let acts = act_steps setup world event.seat state.account state.stand event.begin flight phase some in
     let acts_so : act setup world event.seat state.account state.stand event.begin ≡ step_of setup world event.seat account flight phase =
-        acts ∙ ap (λ a. step_of setup world event.seat a flight phase) (sym is_account) in
+    acts ∙ ap (λ a. step_of setup world event.seat a flight phase) (sym is_account) in
     over ∙ sym (subst Steps taken.stood acts_so) ∙ sym (happens_within setup world event taken.within)
 
 -- what holds of the step that the event makes holds of the step that is taken
@@ -110,5 +110,5 @@ pub of_count :
 of_count setup world event state seats taken holds =
     let Fits : Option (Flight × Phase) → Type 0 = λ found. IfSome found (λ step. step.0.number < 2 ^ 32) in
     let fits : (found : Option (Flight × Phase)) → IfSome found (λ step. StepCounts setup world.words event.seat (seat_in world event.seat).account step.0 step.1) → Fits found
-        = λ found h. count_fits setup world event found h in
+    = λ found h. count_fits setup world event found h in
     subst Fits (step_in_within setup world event state seats taken) (fits (step_in setup world event) holds)

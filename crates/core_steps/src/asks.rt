@@ -33,15 +33,22 @@ pub fn ask(
 ) -> Result<Ask, StepFault>
     requires { seat < seats_of (as_setup setup.now) }
     ensures value { IfOk result (λ ask.
-      ask ≡ next (as_setup setup.now) seat (as_account account.now) (as_stand stand.now)) }
+        ask ≡ next (as_setup setup.now) seat (as_account account.now) (as_stand stand.now)) }
     ensures words { result ≡ Err StepFault.NoWord
-      → ¬ AsksWord (as_setup setup.now).shape (next (as_setup setup.now) seat (as_account account.now) (as_stand stand.now)) }
+        → ¬ AsksWord (as_setup setup.now).shape (next (as_setup setup.now) seat (as_account account.now) (as_stand stand.now)) }
     ensures rows { result ≡ Err StepFault.NoRow → ¬ CanStore (as_setup setup.now) (as_stand stand.now) }
     ensures counts { result ≡ Err StepFault.NoCount → ¬ AreBelow (2 ^ 62) account.now.used }
 {
     match stand {
         PlainStand::Idle => Ok(Ask::Nothing),
-        PlainStand::InFlight(flight, phase) => ask_in(alloc, setup, seat, &account.used, flight, phase),
+        PlainStand::InFlight(flight, phase) => ask_in(
+            alloc,
+            setup,
+            seat,
+            &account.used,
+            flight,
+            phase,
+        ),
     }
 }
 
@@ -56,11 +63,11 @@ pub(crate) fn ask_in(
 ) -> Result<Ask, StepFault>
     requires { seat < seats_of (as_setup setup.now) }
     ensures value { IfOk result (λ ask.
-      ask ≡ ask_in (as_setup setup.now) seat used.now (as_flight flight.now) (as_phase phase.now)) }
+        ask ≡ ask_in (as_setup setup.now) seat used.now (as_flight flight.now) (as_phase phase.now)) }
     ensures words { result ≡ Err StepFault.NoWord → ¬ AsksWord (as_setup setup.now).shape
-      (ask_in (as_setup setup.now) seat used.now (as_flight flight.now) (as_phase phase.now)) }
+        (ask_in (as_setup setup.now) seat used.now (as_flight flight.now) (as_phase phase.now)) }
     ensures rows { result ≡ Err StepFault.NoRow
-      → ¬ IsStorable (as_setup setup.now) (as_flight flight.now) (as_phase phase.now) }
+        → ¬ IsStorable (as_setup setup.now) (as_flight flight.now) (as_phase phase.now) }
     ensures counts { result ≡ Err StepFault.NoCount → ¬ AreBelow (2 ^ 62) used.now }
 {
     if !can_publish(used) {
@@ -90,17 +97,29 @@ pub(crate) fn ask_in(
         PlainPhase::TryOp { op, words, .. } | PlainPhase::DirOp { op, words, .. } => {
             Ok(Ask::Load(Address::OpWord(*op, words.len() as u64)))
         }
-        PlainPhase::TryStore { attempt, found, stored, .. } => {
-            store_bucket_word(alloc, setup, seat, used, attempt, found, *stored)
-        }
+        PlainPhase::TryStore {
+            attempt,
+            found,
+            stored,
+            ..
+        } => { store_bucket_word(alloc, setup, seat, used, attempt, found, *stored) }
         PlainPhase::TryExchange { round, attempt, .. } => {
             Ok(exchange_bucket(setup, seat, used, round.bucket, attempt.row))
         }
         PlainPhase::DirEntries { root, words, .. } => Ok(load_directory(*root, 2 + words.len())),
-        PlainPhase::DirStore { attempt, found, loaded, stored, .. } => {
-            store_directory_word(alloc, setup, seat, used, attempt, found, loaded, *stored)
-        }
-        PlainPhase::DirExchange { attempt, .. } => Ok(exchange_root(setup, seat, used, attempt.root)),
+        PlainPhase::DirStore {
+            attempt,
+            found,
+            loaded,
+            stored,
+            ..
+        } => { store_directory_word(alloc, setup, seat, used, attempt, found, loaded, *stored) }
+        PlainPhase::DirExchange { attempt, .. } => Ok(exchange_root(
+            setup,
+            seat,
+            used,
+            attempt.root,
+        )),
         PlainPhase::StoreDone { .. } => Ok(store_done(seat, flight)),
         PlainPhase::Stuck => Ok(Ask::Nothing),
     }
@@ -121,12 +140,17 @@ fn load_directory(row: u64, i: usize) -> Ask
 }
 
 // The load of the entry for a key. Where the entry's place has no number, the table has no such word.
-fn load_entry(setup: &PlainSetup, flight: &PlainFlight, root: u64, depth: u64) -> Result<Ask, StepFault>
+fn load_entry(
+    setup: &PlainSetup,
+    flight: &PlainFlight,
+    root: u64,
+    depth: u64,
+) -> Result<Ask, StepFault>
     ensures value { IfOk result (λ ask.
-      ask ≡ Load (DirectoryWord root (2 + prefix_of (rules_of (as_setup setup.now)) depth (key_in flight.now.call)))) }
+        ask ≡ Load (DirectoryWord root (2 + prefix_of (rules_of (as_setup setup.now)) depth (key_in flight.now.call)))) }
     ensures only { IfErr result (λ fault. fault ≡ StepFault.NoWord) }
     ensures words { IsErr result → ¬ IsAddress (as_setup setup.now).shape
-      (DirectoryWord root (2 + prefix_of (rules_of (as_setup setup.now)) depth (key_in flight.now.call))) }
+        (DirectoryWord root (2 + prefix_of (rules_of (as_setup setup.now)) depth (key_in flight.now.call))) }
 {
     let place = prefix_at(&setup.rules(), depth, flight.call.key());
     match place.checked_add(2) {

@@ -15,3 +15,6 @@ pub use asks::ask;
 pub use places::place_of;
 pub use words::{action, find, perform};
 pub use worlds::{open_world, run_world, step_world};
+
+#[cfg(test)]
+mod tests;

@@ -14,8 +14,8 @@ use word_rows::{Address, Layout};
 /// `None` comes exactly where the table has no such word.
 pub fn place_of(layout: &Layout, address: &Address) -> Option<u64>
     ensures { MatchOption result
-      (¬ IsAddress (shape_of layout.now) address.now)
-      (λ found. (found ≡ place (shape_of layout.now) address.now) × IsAddress (shape_of layout.now) address.now) }
+        (¬ IsAddress (shape_of layout.now) address.now)
+        (λ found. (found ≡ place (shape_of layout.now) address.now) × IsAddress (shape_of layout.now) address.now) }
 {
     if !is_address(layout, address) {
         return None;
@@ -34,8 +34,10 @@ fn is_address(layout: &Layout, address: &Address) -> bool
         Address::Announcement(seat) | Address::Done(seat) => seat < u64::from(settings.seats),
         Address::BucketWord(bucket) => bucket < counts.bucket_words,
         Address::OpWord(row, i) => row < counts.op_rows && i < OP_WORDS as u64,
-        Address::BucketRowWord(row, i) => row < counts.bucket_rows && i < bucket_row_words(settings),
-        Address::DirectoryWord(row, i) => row < counts.directory_rows && i < directory_row_words(settings),
+        Address::BucketRowWord(row, i) => row < counts.bucket_rows
+            && i < bucket_row_words(settings),
+        Address::DirectoryWord(row, i) => row < counts.directory_rows
+            && i < directory_row_words(settings),
     }
 }
 

@@ -26,7 +26,7 @@ pub(crate) fn fresh_seats(alloc: Global, many: u32) -> Result<Vec<PlainSeat>, Al
 pub(crate) fn take_seat(alloc: Global, seats: &mut Vec<PlainSeat>, seat: u32) -> PlainSeat
     ensures taken { as_seat result ≡ slice_index_or (map as_seat seats.old.items) seat fresh_seat }
     ensures rest { (state : SeatState) →
-      slice_set (map as_seat seats.new.items) seat state ≡ slice_set (map as_seat seats.old.items) seat state }
+        slice_set (map as_seat seats.new.items) seat state ≡ slice_set (map as_seat seats.old.items) seat state }
 {
     let place = seat as usize;
     if place < seats.len() {

@@ -26,8 +26,8 @@ use core_leaves::directory_puts;
 use core_model::{Ask, Put};
 use core_phases::StepFault;
 use core_values::{
-    PlainBucketTry, PlainDirectoryTry, PlainFlight, PlainLoaded, PlainSetup, copy_bucket, is_of_table,
-    write_bucket,
+    PlainBucketTry, PlainDirectoryTry, PlainFlight, PlainLoaded, PlainSetup, copy_bucket,
+    is_of_table, write_bucket,
 };
 use plain_map::{Call, FullKind};
 use std::alloc::{AllocError, Global};
@@ -56,7 +56,7 @@ pub(crate) fn store_op_word(
     requires seat { seat < seats_of (as_setup setup.now) }
     requires used { AreBelow (2 ^ 62) used.now }
     ensures value { IfOk result (λ ask. ask
-      ≡ Store (OpWord (next_number (as_setup setup.now) seat OpRows used.now) stored)
+        ≡ Store (OpWord (next_number (as_setup setup.now) seat OpRows used.now) stored)
         (slice_index (words_of_op (op_row_of (as_flight flight.now))) stored)) }
     ensures only { IfErr result (λ fault. fault ≡ StepFault.NoRow) }
     ensures rows { IsErr result ↔ (¬ IsOp (op_row_of (as_flight flight.now))) }
@@ -97,7 +97,7 @@ pub(crate) fn store_bucket_word(
     requires seat { seat < seats_of (as_setup setup.now) }
     requires used { AreBelow (2 ^ 62) used.now }
     ensures value { IfOk result (λ ask. ask
-      ≡ Store (BucketRowWord (next_number (as_setup setup.now) seat BucketRows used.now) stored)
+        ≡ Store (BucketRowWord (next_number (as_setup setup.now) seat BucketRows used.now) stored)
         (slice_index (bucket_words (as_setup setup.now) (Some attempt.now.row)
         (made_bucket (as_setup setup.now) (as_bucket_try attempt.now) found.now)) stored)) }
     ensures only { IfErr result IsMemoryOrRow }
@@ -107,11 +107,20 @@ pub(crate) fn store_bucket_word(
         return Err(StepFault::NoRow);
     };
     let number = setup.next_number(seat, FullKind::BucketRows, used);
-    Ok(Ask::Store(Address::BucketRowWord(number, stored), word_at(&words, stored)))
+    Ok(Ask::Store(
+        Address::BucketRowWord(number, stored),
+        word_at(&words, stored),
+    ))
 }
 
 /// The exchange of a bucket word.
-pub(crate) fn exchange_bucket(setup: &PlainSetup, seat: u32, used: &SeatRows, bucket: u64, old: u64) -> Ask
+pub(crate) fn exchange_bucket(
+    setup: &PlainSetup,
+    seat: u32,
+    used: &SeatRows,
+    bucket: u64,
+    old: u64,
+) -> Ask
     requires seat { seat < seats_of (as_setup setup.now) }
     requires used { AreBelow (2 ^ 62) used.now }
     ensures { result ≡ Exchange (BucketWord bucket) old (next_number (as_setup setup.now) seat BucketRows used.now) }
@@ -134,11 +143,11 @@ pub(crate) fn store_directory_word(
     requires seat { seat < seats_of (as_setup setup.now) }
     requires used { AreBelow (2 ^ 62) used.now }
     ensures value { IfOk result (λ ask. ask
-      ≡ store_of (put_at (directory_puts (as_setup setup.now) seat used.now (as_directory_try attempt.now) found.now
+        ≡ store_of (put_at (directory_puts (as_setup setup.now) seat used.now (as_directory_try attempt.now) found.now
         (map as_loaded loaded.now)) stored)) }
     ensures only { IfErr result IsMemoryOrRow }
     ensures rows { result ≡ Err StepFault.NoRow
-      → ¬ IsChange (as_setup setup.now) (as_directory_try attempt.now) found.now (map as_loaded loaded.now) }
+        → ¬ IsChange (as_setup setup.now) (as_directory_try attempt.now) found.now (map as_loaded loaded.now) }
 {
     let Some(puts) = directory_puts(alloc, setup, seat, used, attempt, found, loaded)? else {
         return Err(StepFault::NoRow);
@@ -200,8 +209,8 @@ fn made_words(
     found: &[Option<Op>],
 ) -> Result<Option<Vec<u64>>, AllocError>
     ensures { IfOk result (λ made. MatchOption made
-      (¬ IsMade (as_setup setup.now) (as_bucket_try attempt.now) found.now)
-      (λ words. words.items ≡ bucket_words (as_setup setup.now) (Some attempt.now.row)
+        (¬ IsMade (as_setup setup.now) (as_bucket_try attempt.now) found.now)
+        (λ words. words.items ≡ bucket_words (as_setup setup.now) (Some attempt.now.row)
         (made_bucket (as_setup setup.now) (as_bucket_try attempt.now) found.now))) }
 {
     if !is_of_table(setup, &attempt.state) || found.len() > setup.seats() as usize {

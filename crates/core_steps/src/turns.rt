@@ -36,8 +36,8 @@ pub(crate) fn turn_of(
     ensures turn { IfOk result (IsTurn (as_setup setup.now) seat (as_seat state).account (as_seat state).stand begin) }
     ensures only { IfErr result (λ fault. fault ≡ StepFault.NoCount) }
     ensures counts { IsErr result → ¬ IfSome
-      (step_at (as_setup setup.now) seat (as_seat state).account (as_seat state).stand begin)
-      (λ step. step.0.number < 2 ^ 32) }
+        (step_at (as_setup setup.now) seat (as_seat state).account (as_seat state).stand begin)
+        (λ step. step.0.number < 2 ^ 32) }
 {
     let PlainSeat { account, stand } = state;
     match stand {
@@ -58,7 +58,7 @@ fn begin_call(
     ensures turn { IfOk result (IsTurn (as_setup setup.now) seat (as_account account) Idle begin) }
     ensures only { IfErr result (λ fault. fault ≡ StepFault.NoCount) }
     ensures counts { IsErr result → ¬ IfSome (step_at (as_setup setup.now) seat (as_account account) Idle begin)
-      (λ step. step.0.number < 2 ^ 32) }
+        (λ step. step.0.number < 2 ^ 32) }
 {
     let Some((packet, call)) = begin else {
         return Ok(Turn::Rest(account));

@@ -14,7 +14,9 @@ use crate::words::{find, perform};
 use core_leaves::opening_words;
 use core_model::Event;
 use core_phases::{StepFault, seat_after};
-use core_values::{PlainAccount, PlainFlight, PlainPhase, PlainSeat, PlainSetup, PlainStand, PlainWorld};
+use core_values::{
+    PlainAccount, PlainFlight, PlainPhase, PlainSeat, PlainSetup, PlainStand, PlainWorld,
+};
 use std::alloc::{AllocError, Global};
 
 /// The words and the seats at the opening.
@@ -22,8 +24,8 @@ use std::alloc::{AllocError, Global};
 /// `None` comes only where a first leaf has no spelling. The only error is want of memory.
 pub fn open_world(alloc: Global, setup: &PlainSetup) -> Result<Option<PlainWorld>, AllocError>
     ensures { IfOk result (λ world. MatchOption world
-      (¬ IsOpening (as_setup setup.now))
-      (λ world. as_world world ≡ opening_world (as_setup setup.now))) }
+        (¬ IsOpening (as_setup setup.now))
+        (λ world. as_world world ≡ opening_world (as_setup setup.now))) }
 {
     let Some(words) = opening_words(alloc, setup)? else {
         return Ok(None);
@@ -44,11 +46,11 @@ pub fn step_world(
 ) -> Result<PlainWorld, StepFault>
     ensures after { IfOk result (λ after. as_world after ≡ happens (as_setup setup.now) (as_world world) event.now) }
     ensures words { result ≡ Err StepFault.NoWord
-      → ¬ OfEvent StepAsksWord (as_setup setup.now) (as_world world) event.now }
+        → ¬ OfEvent StepAsksWord (as_setup setup.now) (as_world world) event.now }
     ensures rows { result ≡ Err StepFault.NoRow
-      → ¬ OfEvent StepHasRows (as_setup setup.now) (as_world world) event.now }
+        → ¬ OfEvent StepHasRows (as_setup setup.now) (as_world world) event.now }
     ensures counts { result ≡ Err StepFault.NoCount
-      → ¬ OfEvent StepCounts (as_setup setup.now) (as_world world) event.now }
+        → ¬ OfEvent StepCounts (as_setup setup.now) (as_world world) event.now }
 {
     if event.seat >= setup.seats() {
         return Ok(world);
@@ -78,13 +80,13 @@ fn step(
 ) -> Result<PlainWorld, StepFault>
     requires { seat < seats_of (as_setup setup.now) }
     ensures after { IfOk result (λ after. as_world after
-      ≡ step_of (as_setup setup.now) (as_world world) seat (as_account account) (as_flight flight) (as_phase phase)) }
+        ≡ step_of (as_setup setup.now) (as_world world) seat (as_account account) (as_flight flight) (as_phase phase)) }
     ensures words { result ≡ Err StepFault.NoWord
-      → ¬ StepAsksWord (as_setup setup.now) world.words.items seat (as_account account) (as_flight flight) (as_phase phase) }
+        → ¬ StepAsksWord (as_setup setup.now) world.words.items seat (as_account account) (as_flight flight) (as_phase phase) }
     ensures rows { result ≡ Err StepFault.NoRow
-      → ¬ StepHasRows (as_setup setup.now) world.words.items seat (as_account account) (as_flight flight) (as_phase phase) }
+        → ¬ StepHasRows (as_setup setup.now) world.words.items seat (as_account account) (as_flight flight) (as_phase phase) }
     ensures counts { result ≡ Err StepFault.NoCount
-      → ¬ StepCounts (as_setup setup.now) world.words.items seat (as_account account) (as_flight flight) (as_phase phase) }
+        → ¬ StepCounts (as_setup setup.now) world.words.items seat (as_account account) (as_flight flight) (as_phase phase) }
 {
     let ask = ask_in(alloc, setup, seat, &account.used, &flight, &phase)?;
     let word = find(setup, &world.words, &ask)?;
@@ -102,13 +104,13 @@ pub fn run_world(
     events: &[Event],
 ) -> Result<PlainWorld, StepFault>
     ensures after { IfOk result (λ after.
-      as_world after ≡ fold (happens (as_setup setup.now)) (as_world world) events.now) }
+        as_world after ≡ fold (happens (as_setup setup.now)) (as_world world) events.now) }
     ensures words { result ≡ Err StepFault.NoWord
-      → ¬ OfEvents StepAsksWord (as_setup setup.now) (as_world world) events.now }
+        → ¬ OfEvents StepAsksWord (as_setup setup.now) (as_world world) events.now }
     ensures rows { result ≡ Err StepFault.NoRow
-      → ¬ OfEvents StepHasRows (as_setup setup.now) (as_world world) events.now }
+        → ¬ OfEvents StepHasRows (as_setup setup.now) (as_world world) events.now }
     ensures counts { result ≡ Err StepFault.NoCount
-      → ¬ OfEvents StepCounts (as_setup setup.now) (as_world world) events.now }
+        → ¬ OfEvents StepCounts (as_setup setup.now) (as_world world) events.now }
 {
     let mut after = world;
     for event in events {
