@@ -40,10 +40,8 @@ pub fn closed_depth(setup: &PlainSetup, words: &[u64]) -> u64
 fn closed_buckets(alloc: Global, setup: &PlainSetup, words: &[u64]) -> Result<Vec<u64>, AllocError>
     ensures { IfOk result (λ buckets. buckets.items ≡ closed_buckets (as_setup setup.now) words.now) }
 {
-    each_once_first(
-        alloc,
-        directory_entries(setup, words, root_of(setup, words)),
-    )
+    let named = directory_entries(setup, words, root_of(setup, words));
+    each_once_first(alloc, named)
 }
 
 /// The leaves, in the order of the directory's places.

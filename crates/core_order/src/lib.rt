@@ -10,6 +10,8 @@ mod placed;
 mod placement;
 mod reading;
 mod rows;
+#[cfg(test)]
+mod tests;
 mod turns;
 mod values;
 
