@@ -5,3 +5,5 @@ mod LineLemmas
 mod PieceLemmas
 mod TurnLemmas
 mod ChoiceLemmas
+mod ItemLemmas
+mod ClosingLemmas

@@ -1,5 +1,5 @@
 -- The words of rows, and what a world must be for its closing to be told.
-use Rattle.std.specs.Prelude.{ℕ, ◌≤◌, List, length}
+use Rattle.std.specs.Prelude.{ℕ, ◌^◌, ◌≤◌, List, length}
 use Rattle.std.specs.List.{All}
 use Rattle.step_counts.specs.StepCounts.{bucket_row_words}
 use Rattle.plain_map.specs.declared.records.TheConstants.{MOST_SEATS}
@@ -23,3 +23,8 @@ SawFew (InFlight flight phase) = length flight.seen ≤ MOST_SEATS
 -- every seat did
 abbrev pub EachSawFew : World → Type 0
 EachSawFew world = All (λ seat. SawFew seat.stand) world.seats
+
+-- a world whose closing can be told: each seat has a number, and saw few
+pub record CanBeTold (world : World) : Type 0 where
+  pub seats : length world.seats ≤ 2 ^ 32
+  pub seen : EachSawFew world

@@ -13,7 +13,6 @@ ghost use Rattle.core_model.specs.Order.{
   first_rows,
   is_call,
   is_later,
-
   new_in_rows,
   new_number,
   pieces_of,
@@ -26,8 +25,8 @@ ghost use Rattle.core_order.specs.Views.{as_closing, as_piece, as_placed};
 
 use crate::placed::{call_of, is_update};
 use crate::{
-    PlainClosing, PlainPiece, PlainPlaced, applied_at, bucket_rows, directory_base, directory_rows, first_row,
-    is_exchanged, leaves_new_in, row_base,
+    PlainClosing, PlainPiece, PlainPlaced, applied_at, bucket_rows, directory_base, directory_rows,
+    first_row, is_exchanged, leaves_new_in, row_base,
 };
 use core_values::PlainSetup;
 use plain_map::Record;
@@ -87,7 +86,7 @@ pub fn updates_in_rows(
     rows: &[u64],
 ) -> Result<Vec<PlainPlaced>, AllocError>
     ensures { IfOk result (λ calls. map as_placed calls.items
-      ≡ updates_in_rows (as_setup setup.now) (as_closing closing.now) rows.now) }
+        ≡ updates_in_rows (as_setup setup.now) (as_closing closing.now) rows.now) }
 {
     let mut updates = Vec::new(alloc);
     for seat in 0..setup.seats() {
@@ -106,7 +105,7 @@ fn update_in_rows(
     seat: u32,
 ) -> Option<PlainPlaced>
     ensures { option_to_list (option_map as_placed result)
-      ≡ option_map_or (λ number. option_to_list (find (is_call seat number) (calls_of (as_closing closing.now))))
+        ≡ option_map_or (λ number. option_to_list (find (is_call seat number) (calls_of (as_closing closing.now))))
         (new_in_rows (as_setup setup.now) (as_closing closing.now).words rows.now seat) [] }
 {
     let Some(number) = new_in_rows(setup, &closing.words, rows, seat) else {
@@ -123,7 +122,7 @@ pub fn calls_in(
     piece: &PlainPiece,
 ) -> Result<Vec<PlainPlaced>, AllocError>
     ensures { IfOk result (λ calls. map as_placed calls.items
-      ≡ calls_in (as_setup setup.now) (as_closing closing.now) (as_piece piece.now)) }
+        ≡ calls_in (as_setup setup.now) (as_closing closing.now) (as_piece piece.now)) }
 {
     match piece {
         PlainPiece::ByBucketRow(row) => updates_in_rows(alloc, setup, closing, &[*row]),
@@ -167,7 +166,7 @@ fn exchanged_rows(
     words: &[u64],
 ) -> Result<Vec<PlainPiece>, AllocError>
     ensures { IfOk result (λ pieces. map as_piece pieces.items
-      ≡ map ByBucketRow (filter (is_exchanged (as_setup setup.now) words.now) (bucket_rows (as_setup setup.now) words.now))) }
+        ≡ map ByBucketRow (filter (is_exchanged (as_setup setup.now) words.now) (bucket_rows (as_setup setup.now) words.now))) }
 {
     let rows = bucket_rows(alloc, setup, words)?;
     let mut pieces = Vec::new(alloc);
@@ -186,7 +185,7 @@ fn later_rows(
     words: &[u64],
 ) -> Result<Vec<PlainPiece>, AllocError>
     ensures { IfOk result (λ pieces. map as_piece pieces.items
-      ≡ map ByDirectoryRow (filter (is_later (as_setup setup.now) words.now) (directory_rows (as_setup setup.now) words.now))) }
+        ≡ map ByDirectoryRow (filter (is_later (as_setup setup.now) words.now) (directory_rows (as_setup setup.now) words.now))) }
 {
     let rows = directory_rows(alloc, setup, words)?;
     let mut pieces = Vec::new(alloc);

@@ -27,8 +27,8 @@ ghost use Rattle.core_order.specs.Views.{as_closing, as_piece, as_placed, as_pla
 
 use crate::turns::{are_looked, are_next};
 use crate::{
-    PlainClosing, PlainPiece, PlainPlaced, PlainPlacing, bucket_rows, calls_in, directory_base, directory_rows,
-    first_rows, is_later, pieces_of, row_base,
+    PlainClosing, PlainPiece, PlainPlaced, PlainPlacing, bucket_rows, calls_in, directory_base,
+    directory_rows, first_rows, is_later, pieces_of, row_base,
 };
 use core_values::PlainSetup;
 use std::alloc::{AllocError, Global};
@@ -53,13 +53,9 @@ pub fn start_of(
 }
 
 // The published bucket rows that were made from none.
-fn opening_rows(
-    alloc: Global,
-    setup: &PlainSetup,
-    words: &[u64],
-) -> Result<Vec<u64>, AllocError>
+fn opening_rows(alloc: Global, setup: &PlainSetup, words: &[u64]) -> Result<Vec<u64>, AllocError>
     ensures { IfOk result (λ rows. rows.items
-      ≡ filter (λ row. option_map_or (λ _. false) (bucket_row (as_setup setup.now) words.now row).base true)
+        ≡ filter (λ row. option_map_or (λ _. false) (bucket_row (as_setup setup.now) words.now row).base true)
         (bucket_rows (as_setup setup.now) words.now)) }
 {
     let published = bucket_rows(alloc, setup, words)?;
@@ -79,7 +75,7 @@ fn opening_directories(
     words: &[u64],
 ) -> Result<Vec<u64>, AllocError>
     ensures { IfOk result (λ rows. rows.items
-      ≡ filter (λ row. not (is_later (as_setup setup.now) words.now row)) (directory_rows (as_setup setup.now) words.now)) }
+        ≡ filter (λ row. not (is_later (as_setup setup.now) words.now row)) (directory_rows (as_setup setup.now) words.now)) }
 {
     let published = directory_rows(alloc, setup, words)?;
     let mut rows = Vec::new(alloc);
@@ -96,16 +92,22 @@ pub fn is_done(closing: &PlainClosing, placing: &PlainPlacing, row: Option<u64>)
     ensures { result ≡ is_done (as_closing closing.now) (as_placing placing.now) row }
 {
     match row {
-        Some(row) => placing.rows.contains(&row) && are_looked(&closing.records, &placing.order, row),
+        Some(row) => placing.rows.contains(&row)
+            && are_looked(&closing.records, &placing.order, row),
         None => true,
     }
 }
 
 // Whether what each of these rows was made from is done.
-fn are_done(setup: &PlainSetup, closing: &PlainClosing, placing: &PlainPlacing, rows: &[u64]) -> bool
+fn are_done(
+    setup: &PlainSetup,
+    closing: &PlainClosing,
+    placing: &PlainPlacing,
+    rows: &[u64],
+) -> bool
     ensures { result ≡ list_all
-      (λ first. is_done (as_closing closing.now) (as_placing placing.now) (bucket_row (as_setup setup.now) (as_closing closing.now).words first).base)
-      rows.now }
+        (λ first. is_done (as_closing closing.now) (as_placing placing.now) (bucket_row (as_setup setup.now) (as_closing closing.now).words first).base)
+        rows.now }
 {
     for row in rows {
         if !is_done(closing, placing, row_base(setup, &closing.words, *row)) {
@@ -124,22 +126,34 @@ pub fn has_base(
     piece: &PlainPiece,
 ) -> Result<bool, AllocError>
     ensures { IfOk result (λ has. has
-      ≡ has_base (as_setup setup.now) (as_closing closing.now) (as_placing placing.now) (as_piece piece.now)) }
+        ≡ has_base (as_setup setup.now) (as_closing closing.now) (as_placing placing.now) (as_piece piece.now)) }
 {
     match piece {
-        PlainPiece::ByBucketRow(row) => Ok(is_done(closing, placing, row_base(setup, &closing.words, *row))),
+        PlainPiece::ByBucketRow(row) => Ok(is_done(
+            closing,
+            placing,
+            row_base(setup, &closing.words, *row),
+        )),
         PlainPiece::ByDirectoryRow(row) => {
             let firsts = first_rows(alloc, setup, &closing.words, *row)?;
-            Ok(has_directory(setup, closing, placing, *row) && are_done(setup, closing, placing, &firsts))
+            Ok(
+                has_directory(setup, closing, placing, *row)
+                    && are_done(setup, closing, placing, &firsts),
+            )
         }
         PlainPiece::ByLookup(record) => Ok(placing.rows.contains(&record.place)),
     }
 }
 
 // Whether the directory row that this one was made from, if there is one, is placed.
-fn has_directory(setup: &PlainSetup, closing: &PlainClosing, placing: &PlainPlacing, row: u64) -> bool
+fn has_directory(
+    setup: &PlainSetup,
+    closing: &PlainClosing,
+    placing: &PlainPlacing,
+    row: u64,
+) -> bool
     ensures { result ≡ option_map_or (is_among (as_placing placing.now).directories)
-      (directory_row (as_setup setup.now) (as_closing closing.now).words row).base true }
+        (directory_row (as_setup setup.now) (as_closing closing.now).words row).base true }
 {
     match directory_base(setup, &closing.words, row) {
         Some(base) => placing.directories.contains(&base),
@@ -156,7 +170,7 @@ pub fn is_ready(
     piece: &PlainPiece,
 ) -> Result<bool, AllocError>
     ensures { IfOk result (λ ready. ready
-      ≡ is_ready (as_setup setup.now) (as_closing closing.now) (as_placing placing.now) (as_piece piece.now)) }
+        ≡ is_ready (as_setup setup.now) (as_closing closing.now) (as_placing placing.now) (as_piece piece.now)) }
 {
     if !has_base(alloc, setup, closing, placing, piece)? {
         return Ok(false);
@@ -185,7 +199,7 @@ fn has_rank(
     piece: &PlainPiece,
 ) -> Result<bool, AllocError>
     ensures { IfOk result (λ has. has
-      ≡ has_rank (as_setup setup.now) (as_closing closing.now) (as_placing placing.now) rank (as_piece piece.now)) }
+        ≡ has_rank (as_setup setup.now) (as_closing closing.now) (as_placing placing.now) rank (as_piece piece.now)) }
 {
     if !is_ready(alloc, setup, closing, placing, piece)? {
         return Ok(false);
@@ -203,7 +217,7 @@ fn first_of_rank(
     rank: u64,
 ) -> Result<Option<usize>, AllocError>
     ensures { IfOk result (λ at. at
-      ≡ position (has_rank (as_setup setup.now) (as_closing closing.now) (as_placing placing.now) rank) (as_placing placing.now).left) }
+        ≡ position (has_rank (as_setup setup.now) (as_closing closing.now) (as_placing placing.now) rank) (as_placing placing.now).left) }
 {
     for (at, piece) in placing.left.iter().enumerate() {
         if has_rank(alloc, setup, closing, placing, rank, piece)? {
@@ -274,7 +288,7 @@ pub fn place_piece(
     at: usize,
 ) -> Result<(), AllocError>
     ensures { OnOk result (as_placing placing.new
-      ≡ place_piece (as_setup setup.now) (as_closing closing.now) (as_placing placing.old) at (slice_get (as_placing placing.old).left at)) }
+        ≡ place_piece (as_setup setup.now) (as_closing closing.now) (as_placing placing.old) at (slice_get (as_placing placing.old).left at)) }
 {
     if at >= placing.left.len() {
         return Ok(());
@@ -298,7 +312,7 @@ pub fn place_all(
     most: usize,
 ) -> Result<(), AllocError>
     ensures { OnOk result (as_placing placing.new
-      ≡ place_all (as_setup setup.now) (as_closing closing.now) most (as_placing placing.old)) }
+        ≡ place_all (as_setup setup.now) (as_closing closing.now) most (as_placing placing.old)) }
 {
     for _ in 0..most {
         let Some(at) = choice(alloc, setup, closing, placing)? else {

@@ -59,7 +59,10 @@ pub(crate) fn bucket_row_word(setup: &PlainSetup, words: &[u64], row: u64, i: u6
 {
     let start = setup.layout.bucket_row_word(0, 0);
     let width = bucket_row_words(setup.layout.settings());
-    word(words, start as u128 + (row as u128 * width as u128 + i as u128))
+    word(
+        words,
+        start as u128 + (row as u128 * width as u128 + i as u128),
+    )
 }
 
 /// The prefix that a bucket row says.

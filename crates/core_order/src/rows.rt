@@ -19,7 +19,8 @@ ghost use Rattle.core_model.specs.Reading.{
 ghost use Rattle.core_values.specs.Views.{as_setup};
 
 use crate::reading::{
-    bucket_row_count, directory_base, directory_entries, directory_row_count, root_of, row_base, row_depth, row_of,
+    bucket_row_count, directory_base, directory_entries, directory_row_count, root_of, row_base,
+    row_depth, row_of,
 };
 use core_values::PlainSetup;
 use std::alloc::{AllocError, Global};
@@ -91,14 +92,22 @@ pub fn directory_line(
 }
 
 /// The published directory rows: the root's row and all that it comes from, the latest first.
-pub fn directory_rows(alloc: Global, setup: &PlainSetup, words: &[u64]) -> Result<Vec<u64>, AllocError>
+pub fn directory_rows(
+    alloc: Global,
+    setup: &PlainSetup,
+    words: &[u64],
+) -> Result<Vec<u64>, AllocError>
     ensures { IfOk result (λ rows. rows.items ≡ directory_rows (as_setup setup.now) words.now) }
 {
     directory_line(alloc, setup, words, Some(root_of(setup, words)))
 }
 
 /// The buckets that a published directory row names.
-pub fn named_buckets(alloc: Global, setup: &PlainSetup, words: &[u64]) -> Result<Vec<u64>, AllocError>
+pub fn named_buckets(
+    alloc: Global,
+    setup: &PlainSetup,
+    words: &[u64],
+) -> Result<Vec<u64>, AllocError>
     ensures { IfOk result (λ buckets. buckets.items ≡ named_buckets (as_setup setup.now) words.now) }
 {
     let rows = directory_rows(alloc, setup, words)?;

@@ -42,14 +42,15 @@ pub fn are_placed(order: &[PlainPlaced], many: u32, seat: u32) -> bool
 pub fn is_next(setup: &PlainSetup, order: &[PlainPlaced], placed: &PlainPlaced) -> bool
     ensures { result ≡ is_next (as_setup setup.now) (map as_placed order.now) (as_placed placed.now) }
 {
-    are_placed(order, placed.number().saturating_sub(1), placed.seat()) && saw_placed(setup, order, placed)
+    are_placed(order, placed.number().saturating_sub(1), placed.seat())
+        && saw_placed(setup, order, placed)
 }
 
 // Whether all calls that it had seen are placed.
 fn saw_placed(setup: &PlainSetup, order: &[PlainPlaced], placed: &PlainPlaced) -> bool
     ensures { result ≡ list_all
-      (λ seat. are_placed (map as_placed order.now) (seen_of (as_placed placed.now) seat) seat)
-      (range_with_len 0 (seats_of (as_setup setup.now))) }
+        (λ seat. are_placed (map as_placed order.now) (seen_of (as_placed placed.now) seat) seat)
+        (range_with_len 0 (seats_of (as_setup setup.now))) }
 {
     for seat in 0..setup.seats() {
         if !are_placed(order, placed.seen(seat), seat) {
@@ -74,10 +75,13 @@ pub(crate) fn are_next(setup: &PlainSetup, order: &[PlainPlaced], calls: &[Plain
 /// Whether all answered lookups of a row are placed.
 pub(crate) fn are_looked(records: &[Record], order: &[PlainPlaced], row: u64) -> bool
     ensures { result ≡ list_all (λ r. is_placed (map as_placed order.now) r.seat r.number)
-      (filter (λ r. r.place == row) (filter (λ r. not (is_update r.call)) records.now)) }
+        (filter (λ r. r.place == row) (filter (λ r. not (is_update r.call)) records.now)) }
 {
     for record in records {
-        if !is_update(&record.call) && record.place == row && !is_placed(order, record.seat, record.number) {
+        if !is_update(&record.call)
+            && record.place == row
+            && !is_placed(order, record.seat, record.number)
+        {
             return false;
         }
     }
