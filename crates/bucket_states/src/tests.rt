@@ -6,7 +6,7 @@ ghost use Rattle.plain_map.specs.PlainObject.{InRange};
 
 use crate::{Bucket, Op};
 use hash_bits::Hashing;
-use plain_map::{BucketRow, Call, Key, PlainMap, Reply, Rules};
+use plain_map::{BucketRow, Call, Key, Pair, PlainMap, Reply, Rules};
 use std::process::Abort;
 use std::test::Fail;
 use step_counts::Settings;
@@ -162,4 +162,50 @@ fn a_bucket_goes_through_its_row(rt: HostRuntime) -> Result<(), Fail> {
     assert!(rt; copy.frozen);
     assert_eq!(rt; copy.applied.as_slice(), [0, 3].as_slice());
     Ok(())
+}
+
+// The key of port 1 has the first bits 00, that of 16384 has 01, and that of 32768 has 10. A full bucket of the keys
+// that begin with 0 is split, and each part has a place for one more.
+#[test]
+fn a_full_bucket_is_split(rt: HostRuntime) -> Result<(), Fail> {
+    let settings = Settings::new(2, 2, 2, 0)?;
+    let rules = Rules {
+        items: 2,
+        depth: 2,
+        hashing: Hashing::Ports(0),
+    };
+    let mut bucket = Bucket::with_room(rt.alloc(), &settings)?;
+    bucket.depth = 1;
+    bucket.apply_all(&rules, &[insert(0, 1, 1), insert(1, 1, 16384)]);
+    let op = Op {
+        seat: 0,
+        number: 2,
+        call: put(2),
+    };
+    bucket.apply_all(&rules, &[Some(op), None]);
+    assert!(rt; bucket.frozen);
+    assert!(rt; bucket.overflows(&rules, &op.call));
+    assert!(rt; bucket.holds(&rules, &key(16384)));
+    assert!(rt; !bucket.holds(&rules, &key(32768)));
+    for (bit, port) in [(0, 1), (1, 16384)] {
+        let mut part = Bucket::with_room(rt.alloc(), &settings)?;
+        bucket.half_into(&rules, bit, &mut part);
+        assert_eq!(rt; [part.prefix, part.depth as u64], [bit, 2]);
+        assert!(rt; !part.frozen);
+        assert_eq!(rt; part.items.as_slice(), [pair(port)].as_slice());
+        assert_eq!(rt; part.applied.as_slice(), [1, 1].as_slice());
+        assert!(rt; !part.overflows(&rules, &op.call));
+        part.answer(&rules, 0, &op);
+        assert_eq!(rt; part.items.as_slice(), [pair(port), pair(2)].as_slice());
+        assert_eq!(rt; part.applied.as_slice(), [2, 1].as_slice());
+        assert_eq!(rt; part.replies[0], Some(Reply::New));
+    }
+    Ok(())
+}
+
+fn pair(port: u64) -> Pair {
+    Pair {
+        key: key(port),
+        value: port,
+    }
 }
