@@ -54,6 +54,29 @@ fn setup_with(alloc: Global, settings: &Settings, pairs: &[Pair]) -> Result<Plai
     })
 }
 
+// So many words, which are 0 but for these parts, each from the word with its number on.
+fn words_with(
+    alloc: Global,
+    count: usize,
+    parts: &[(usize, &[u64])],
+) -> Result<Vec<u64>, AllocError> {
+    let mut words = vec![in alloc; 0; count]?;
+    for (at, part) in parts {
+        put_part(&mut words, *at, part);
+    }
+    Ok(words)
+}
+
+// Puts a part in, as far as there are words.
+fn put_part(words: &mut Vec<u64>, at: usize, part: &[u64]) {
+    for (i, word) in part.iter().enumerate() {
+        let place = at.saturating_add(i);
+        if place < words.len() {
+            words[place] = *word;
+        }
+    }
+}
+
 // The words at the opening: how many, and all that are not 0 by their numbers. A third pair of one half splits the one
 // leaf; the pairs of ports 1, 2 and 16384 split it twice.
 #[test]
@@ -101,14 +124,7 @@ fn tables_open(rt: HostRuntime) -> Result<(), Fail> {
         let Some(words) = opening_words(rt.alloc(), &setup)? else {
             return Err(Fail::from("no words"));
         };
-        let mut wanted = vec![in rt.alloc(); 0; count]?;
-        for (at, part) in parts {
-            for (i, word) in part.iter().enumerate() {
-                let place = at.saturating_add(i);
-                assert!(rt; place < wanted.len());
-                wanted[place] = *word;
-            }
-        }
+        let wanted = words_with(rt.alloc(), count, parts)?;
         assert_eq!(rt;
             words.as_slice(),
             wanted.as_slice(),
