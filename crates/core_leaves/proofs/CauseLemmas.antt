@@ -1,5 +1,5 @@
 -- Why a change has no leaves.
-use Rattle.std.proofs.Common.{◌≡◌, ℕ, suc, ◌<◌, ◌≤◌, List, [], ◌∷◌, length, map, Vec, Option, Some, None, Result, Ok, Err, refl, sym, subst, arith}
+use Rattle.std.proofs.Common.{◌≡◌, ℕ, suc, List, [], ◌∷◌, map, Vec, Option, Some, None, Result, Ok, Err, arith}
 use Rattle.std.specs.Prelude.{IfOk, MatchOption, All}
 use Rattle.std.specs.declared.alloc.Global.{Global}
 use Rattle.std.specs.declared.alloc.AllocError.{AllocError}
@@ -15,7 +15,7 @@ use Rattle.core_model.specs.Stores.{made_leaves, base_of_leaf}
 use Rattle.core_values.specs.declared.values.PlainLeaf.{PlainLeaf}
 use Rattle.core_values.specs.Views.{as_leaf}
 use Rattle.core_leaves.specs.Changes.{IsChange}
-use Rattle.core_leaves.specs.Fit.{IsFit, AreFit, MakesLeaves}
+use Rattle.core_leaves.specs.Fit.{AreFit, MakesLeaves}
 
 -- leaves that can be spelled are fit
 pub AreFit-spelled : (settings : Settings) (base : NewLeaf → Option ℕ) (leaves : List NewLeaf)

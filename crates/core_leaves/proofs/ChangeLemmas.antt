@@ -1,5 +1,5 @@
 -- The change of a directory, step by step.
-use Rattle.std.proofs.Common.{◌≡◌, ℕ, zero, suc, ◌+◌, ◌-◌, ◌<◌, ◌≤◌, Bool, true, false, cond, List, [], ◌∷◌, length, map, drop, drop-cons, get_or, Option, Some, None, refl, sym, ap, subst, ◌∙◌, arith, add-one}
+use Rattle.std.proofs.Common.{◌≡◌, ℕ, zero, suc, ◌+◌, ◌-◌, ◌<◌, ◌≤◌, Bool, true, false, cond, List, [], ◌∷◌, length, drop, drop-cons, get_or, Option, Some, None, refl, sym, ap, subst, ◌∙◌, arith, add-one}
 use native.Mathlib.Numerals.{unary_clauses}
 use Rattle.std.specs.List.{list_any}
 use Rattle.std.proofs.lemmas.List.{drop_all}
@@ -12,7 +12,7 @@ use Rattle.core_model.specs.Directories.{DirectoryState, bucket_of}
 use Rattle.core_model.specs.DirectoryChange.{LoadedBucket, loaded_of, comes_from, with_parts, is_frozen_without, after_op_in, leaves_after_seat, leaves_after}
 use Rattle.core_model.specs.Leaves.{NewLeaf, add_leaf, split, split_for, must_split, apply}
 use Rattle.core_leaves.specs.Fit.{CanSplit, AreFit}
-use Rattle.core_leaves.proofs.FitLemmas.{IsFit-half, AreFit-split, AreFit-split_for, AreFit-apply, AreFit-add_leaf}
+use Rattle.core_leaves.proofs.FitLemmas.{IsFit-half, AreFit-split_for, AreFit-apply, AreFit-add_leaf}
 
 -- no more is split where nothing must be, or no more may be
 pub split_for-end : (rules : Rules) (call : Call) (most : ℕ) (leaves : List NewLeaf) → most ≡ 0 → split_for rules call most leaves ≡ leaves

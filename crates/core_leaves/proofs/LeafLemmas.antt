@@ -1,6 +1,5 @@
 -- What becomes of a list of leaves where its first leaf of a key is replaced, and where a leaf is added.
-use Rattle.std.proofs.Common.{◌≡◌, ℕ, zero, suc, ◌+◌, ◌<◌, ◌≤◌, Bool, true, false, cond, List, [], ◌∷◌, ◌++◌, length, map, take, drop, set, get_or, refl, sym, ap, ◌∙◌, arith, add-one}
-use Rattle.std.specs.Prelude.{nat_lt}
+use Rattle.std.proofs.Common.{◌≡◌, ℕ, zero, suc, ◌+◌, ◌<◌, ◌≤◌, Bool, true, false, cond, List, [], ◌∷◌, ◌++◌, length, map, set, get_or, refl, sym, ap, ◌∙◌, arith, add-one}
 use Rattle.std.specs.List.{insert}
 use Rattle.plain_map.specs.declared.keys.Key.{Key}
 use Rattle.plain_map.specs.declared.rules.Rules.{Rules}
@@ -9,7 +8,7 @@ use Rattle.bucket_states.specs.declared.ops.Op.{Op}
 use Rattle.bucket_states.specs.Change.{answered}
 use Rattle.bucket_states.specs.Halves.{half}
 use Rattle.plain_map.specs.Calls.{key_in}
-use Rattle.core_model.specs.Leaves.{NewLeaf, is_in, at_leaf, add_leaf, apply, first_class, halves}
+use Rattle.core_model.specs.Leaves.{NewLeaf, is_in, at_leaf, add_leaf, apply, halves}
 use Rattle.core_values.specs.declared.values.PlainLeaf.{PlainLeaf}
 use Rattle.core_values.specs.Views.{as_leaf}
 use Rattle.core_leaves.specs.Fit.{IsFirst, NonePasses, is_before}

@@ -1,5 +1,5 @@
 -- What an opening stores, and where.
-use Rattle.std.proofs.Common.{◌≡◌, ℕ, zero, suc, ◌<◌, List, [], ◌∷◌, ◌++◌, length, map, get_or, Option, Some, None, refl, sym, ap, subst, ◌∙◌, arith}
+use Rattle.std.proofs.Common.{◌≡◌, ℕ, zero, suc, ◌<◌, List, [], ◌∷◌, ◌++◌, length, get_or, Option, Some, None, refl, sym, ap, subst, ◌∙◌, arith}
 use Rattle.std.specs.Prelude.{All}
 use Rattle.step_counts.specs.declared.settings.Settings.{Settings}
 use Rattle.word_rows.specs.declared.addresses.Address.{Address}
@@ -7,7 +7,6 @@ use Rattle.word_rows.specs.declared.addresses.Address.TheVariants.{BucketRowWord
 use Rattle.word_rows.specs.BucketWords.{IsBucket}
 use Rattle.bucket_states.specs.States.{row_of_state}
 use Rattle.core_model.specs.declared.events.Put.{Put}
-use Rattle.core_model.specs.DirectoryChange.{LoadedBucket}
 use Rattle.core_model.specs.Leaves.{NewLeaf}
 use Rattle.core_model.specs.Opening.{opening_directory}
 use Rattle.core_model.specs.Setup.{Setup}

@@ -1,5 +1,5 @@
 -- Where a directory change, or an opening, can be written down.
-use Rattle.std.specs.Prelude.{ℕ, ◌^◌, ◌<◌, ◌≤◌, ◌-◌, List, Option, None, length, All}
+use Rattle.std.specs.Prelude.{◌^◌, ◌<◌, ◌≤◌, ◌-◌, List, Option, None, length, All}
 use Rattle.word_rows.specs.BucketWords.{IsBucket}
 use Rattle.bucket_states.specs.declared.ops.Op.{Op}
 use Rattle.bucket_states.specs.States.{row_of_state}

@@ -1,6 +1,5 @@
 use Rattle.std.proofs.Common.{◌≡◌, drop, map}
 use Rattle.core_model.specs.DirectoryChange.{depth_after}
-use Rattle.core_model.specs.Directories.{DirectoryState}
 use Rattle.core_values.specs.Views.{as_directory, as_leaf}
 use Rattle.core_leaves.proofs.directory.depth_after.Given as goal
 

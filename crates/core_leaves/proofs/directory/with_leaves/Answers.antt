@@ -1,4 +1,4 @@
-use Rattle.std.proofs.Common.{◌≡◌, ℕ, ◌-◌, ◌^◌, ◌/◌, ◌∷◌, [], ◌++◌, map, sym, ap, ◌∙◌}
+use Rattle.std.proofs.Common.{ℕ, ◌-◌, ◌^◌, ◌/◌, ◌∷◌, [], ◌++◌, map, sym, ap, ◌∙◌}
 use Rattle.std.specs.Prelude.{slice_index}
 use Rattle.word_rows.specs.Blocks.{first_values}
 use Rattle.core_model.specs.DirectoryChange.{number_at}

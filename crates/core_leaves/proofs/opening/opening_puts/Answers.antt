@@ -1,4 +1,4 @@
-use Rattle.std.proofs.Common.{◌≡◌, ◌++◌, None, map, sym, ap, ◌∙◌}
+use Rattle.std.proofs.Common.{◌++◌, None, map, ap, ◌∙◌}
 use Rattle.step_counts.specs.declared.settings.Settings.{Settings}
 use Rattle.word_rows.specs.declared.addresses.Address.TheVariants.{DirectoryWord}
 use Rattle.core_model.specs.Opening.{opening_directory}

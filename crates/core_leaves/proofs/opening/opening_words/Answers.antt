@@ -1,12 +1,12 @@
-use Rattle.std.proofs.Common.{None, ap, map, subst, sym, ◌∙◌}
+use Rattle.std.proofs.Common.{None, map, subst, sym, ◌∙◌}
 use Rattle.core_model.specs.Setup.{settings_of}
-use Rattle.core_model.specs.Worlds.{first_leaves, opening_words}
+use Rattle.core_model.specs.Worlds.{first_leaves}
 use Rattle.core_values.specs.Views.{as_leaf, as_setup}
 use Rattle.core_leaves.specs.Places.{AreOfOpening}
 use Rattle.core_leaves.proofs.CauseLemmas.{AreFit-spelled}
-use Rattle.core_leaves.proofs.FitLemmas.{none_made, some_made}
+use Rattle.core_leaves.proofs.FitLemmas.{none_made}
 use Rattle.core_leaves.proofs.OpeningLemmas.{AreOfOpening-puts}
-use Rattle.core_leaves.proofs.RowLemmas.{none_said, some_said}
+use Rattle.core_leaves.proofs.RowLemmas.{some_said}
 use Rattle.core_leaves.proofs.opening.opening_words.Goals as goal
 
 pub returns-in_default : goal.returns-in_default

@@ -1,5 +1,4 @@
-use Rattle.std.proofs.Common.{get_or, map, sym, subst}
-use Rattle.core_model.specs.Opening.{with_pair}
+use Rattle.std.proofs.Common.{map, sym, subst}
 use Rattle.core_values.specs.Views.{as_leaf}
 use Rattle.core_leaves.specs.Fit.{AreFit}
 use Rattle.core_leaves.proofs.FitLemmas.{none_made}

@@ -1,4 +1,4 @@
-use Rattle.std.proofs.Common.{◌≡◌, ◌+◌, ◌∷◌, [], ◌++◌, map, ap, subst, ◌∙◌}
+use Rattle.std.proofs.Common.{◌≡◌, ◌+◌, ◌∷◌, [], ◌++◌, map, ap, ◌∙◌}
 use Rattle.word_rows.specs.BucketWords.{IsBucket}
 use Rattle.word_rows.specs.declared.addresses.Address.TheVariants.{BucketRowWord, BucketWord}
 use Rattle.bucket_states.specs.States.{row_of_state, state_of}

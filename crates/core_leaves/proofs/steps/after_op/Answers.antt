@@ -1,6 +1,6 @@
-use Rattle.std.proofs.Common.{◌≡◌, List, true, map, sym, ap, subst, ◌∙◌}
+use Rattle.std.proofs.Common.{◌≡◌, List, map, sym, subst, ◌∙◌}
 use Rattle.core_model.specs.DirectoryChange.{with_parts}
-use Rattle.core_model.specs.Leaves.{NewLeaf, split_for}
+use Rattle.core_model.specs.Leaves.{NewLeaf}
 use Rattle.core_values.specs.Views.{as_leaf, as_loaded}
 use Rattle.core_leaves.specs.Fit.{AreFit}
 use Rattle.core_leaves.proofs.FitLemmas.{AreFit-split_for, AreFit-apply, none_made, some_made}

@@ -1,4 +1,4 @@
-use Rattle.std.proofs.Common.{◌≡◌, Bool, sym, subst, ◌∙◌}
+use Rattle.std.proofs.Common.{◌≡◌, Bool, subst}
 use Rattle.std.specs.Bool.{OnTrue, OnFalse}
 use Rattle.bucket_states.specs.States.{state_of}
 use Rattle.bucket_states.specs.Change.{answered}
