@@ -187,6 +187,7 @@ fn a_full_bucket_is_split(rt: HostRuntime) -> Result<(), Fail> {
     assert!(rt; bucket.overflows(&rules, &op.call));
     assert!(rt; bucket.holds(&rules, &key(16384)));
     assert!(rt; !bucket.holds(&rules, &key(32768)));
+    assert_eq!(rt; bucket.items.len(), 2);
     for (bit, port) in [(0, 1), (1, 16384)] {
         let mut part = Bucket::with_room(rt.alloc(), &settings)?;
         bucket.half_into(&rules, bit, &mut part);
@@ -195,6 +196,7 @@ fn a_full_bucket_is_split(rt: HostRuntime) -> Result<(), Fail> {
         assert_eq!(rt; part.items.as_slice(), [pair(port)].as_slice());
         assert_eq!(rt; part.applied.as_slice(), [1, 1].as_slice());
         assert!(rt; !part.overflows(&rules, &op.call));
+        assert_eq!(rt; part.replies.len(), 2);
         part.answer(&rules, 0, &op);
         assert_eq!(rt; part.items.as_slice(), [pair(port), pair(2)].as_slice());
         assert_eq!(rt; part.applied.as_slice(), [2, 1].as_slice());

@@ -1,4 +1,3 @@
-use Rattle.bucket_states.specs.States.{state_of}
 use Rattle.plain_map.specs.Rows.{bucket_content}
 use Rattle.core_values.specs.Views.{as_setup}
 use Rattle.core_values.proofs.RowLemmas.{IsReadBucket-filled}

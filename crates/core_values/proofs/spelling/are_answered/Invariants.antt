@@ -1,4 +1,4 @@
-use Rattle.std.proofs.Common.{◌≡◌, ℕ, ◌<◌, None, slice_index}
+use Rattle.std.proofs.Common.{ℕ, ◌<◌, None, slice_index}
 use Rattle.std.specs.Prelude.{slice_index_or}
 use Rattle.word_rows.specs.BucketWords.{IsAnswered}
 use Rattle.core_values.proofs.spelling.are_answered.Given as goal
