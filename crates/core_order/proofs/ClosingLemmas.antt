@@ -1,5 +1,5 @@
 -- A closing by its parts, and what its seats saw.
-use Rattle.std.proofs.Common.{◌≡◌, ℕ, ◌<◌, List, length, map, get_or, sym, ap, ◌∙◌, subst, arith}
+use Rattle.std.proofs.Common.{◌≡◌, ℕ, List, map, sym, ap, ◌∙◌, subst, arith}
 use Rattle.std.specs.List.{All, flat_map, enumerate_from}
 use Rattle.std.proofs.lemmas.List.{get_or-map, length-map}
 use Rattle.plain_map.specs.declared.records.Record.{Record}

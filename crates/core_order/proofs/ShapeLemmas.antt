@@ -1,14 +1,13 @@
 -- How many rows and buckets a layout has.
-use Rattle.std.proofs.Common.{◌≡◌, ℕ, ◌+◌, ◌-◌, ◌<◌, ◌≤◌, ◌^◌, List, length, take, get_or, arith, sym, ap, ◌∙◌}
+use Rattle.std.proofs.Common.{◌≡◌, ℕ, ◌+◌, ◌-◌, ◌<◌, ◌≤◌, length, take, get_or, arith, ap}
 use Rattle.std.specs.List.{sum_by}
 use Rattle.std.proofs.lemmas.List.{take_all}
 use Rattle.std.proofs.lemmas.List.Sums.{sum_by_more}
 use Rattle.std.proofs.lemmas.Nat.{pow_pos}
-use Rattle.step_counts.specs.declared.rows.SeatRows.{SeatRows}
 use Rattle.plain_map.specs.declared.full.FullKind.{FullKind}
-use Rattle.plain_map.specs.declared.full.FullKind.TheVariants.{OpRows, BucketRows, BucketWords, DirRows}
+use Rattle.plain_map.specs.declared.full.FullKind.TheVariants.{BucketRows, BucketWords, DirRows}
 use Rattle.plain_map.specs.Room.{no_rows}
-use Rattle.word_rows.specs.Shape.{Shape, IsShape, of_kind, number_after, first_number, sizes_of, count_of, opening_rows}
+use Rattle.word_rows.specs.Shape.{Shape, of_kind, number_after, first_number, sizes_of, count_of}
 use Rattle.word_rows.specs.declared.layout.Layout.{Layout}
 use Rattle.word_rows.specs.LayoutView.{shape_of}
 use Rattle.word_rows.proofs.Ranges.{opening_within}

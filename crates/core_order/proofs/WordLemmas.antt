@@ -1,10 +1,9 @@
 -- A word of a part of the words.
-use Rattle.std.proofs.Common.{◌≡◌, ℕ, ◌+◌, ◌*◌, ◌^◌, ◌<◌, ◌≤◌, List, length, map, take, drop, get_or, sym, ap, ◌∙◌, arith}
+use Rattle.std.proofs.Common.{◌≡◌, ℕ, ◌+◌, ◌*◌, ◌<◌, ◌≤◌, List, map, take, drop, get_or, sym, ap, ◌∙◌, arith}
 use Rattle.std.specs.List.{range_with_len}
 use Rattle.std.proofs.lemmas.List.{get_or-take, get_or-drop, get_or_past, drop-take, drop-drop}
 use Rattle.std.proofs.lemmas.List.FromFn.{get_or-map-range_with_len, length-map-range_with_len}
-use Rattle.step_counts.specs.StepCounts.{bucket_row_words}
-use Rattle.word_rows.specs.BucketWords.{applied_of_words, seat_part}
+use Rattle.word_rows.specs.BucketWords.{seat_part}
 use Rattle.core_model.specs.Setup.{Setup, settings_of, seats_of}
 use Rattle.core_model.specs.Reading.{applied_at}
 use Rattle.core_order.specs.Parts.{bucket_row_part}

@@ -1,5 +1,5 @@
 -- Where a step can be computed: what it stores can be spelled, what it reads is a row, and its counts have not ended.
-use Rattle.std.specs.Prelude.{ℕ, ◌≤◌, List, Option, Some, length}
+use Rattle.std.specs.Prelude.{◌≤◌, List, Option, Some, length}
 use Rattle.word_rows.specs.Shape.{Shape}
 use Rattle.word_rows.specs.Places.{IsAddress}
 use Rattle.word_rows.specs.OpWords.{IsOp}

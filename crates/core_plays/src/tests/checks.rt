@@ -3,7 +3,7 @@
 use super::tables::{Played, automatic, calls_of, key, segments, setup_of};
 use crate::play;
 use core_order::{
-    PlainClosing, ClosedLeaf, PlainPlaced, closed_depth, closed_leaves, closed_pairs, closing_of,
+    ClosedLeaf, PlainClosing, PlainPlaced, closed_depth, closed_leaves, closed_pairs, closing_of,
     effects, order,
 };
 use core_values::PlainSetup;

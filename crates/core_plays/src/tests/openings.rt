@@ -39,7 +39,11 @@ fn first_pairs_find_room_or_not(rt: HostRuntime) -> Result<(), Fail> {
 // A table is opened as deep as its first pairs want it.
 #[test]
 fn an_opening_splits(rt: HostRuntime) -> Result<(), Fail> {
-    for (ports, leaves, depth) in [([].as_slice(), 1, 0), ([1, 16384].as_slice(), 1, 0), ([1, 16384, 32768].as_slice(), 2, 1)] {
+    for (ports, leaves, depth) in [
+        ([].as_slice(), 1, 0),
+        ([1, 16384].as_slice(), 1, 0),
+        ([1, 16384, 32768].as_slice(), 2, 1),
+    ] {
         let Some(setup) = setup_with(rt.alloc(), ports)? else {
             assert!(rt; false, "no such table");
             continue;

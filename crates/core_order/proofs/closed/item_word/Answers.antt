@@ -1,4 +1,4 @@
-use Rattle.std.proofs.Common.{◌≡◌, ℕ, ◌≤◌, ◌<◌, ◌∙◌, ap, sym, arith}
+use Rattle.std.proofs.Common.{◌<◌, ◌∙◌, arith}
 use Rattle.core_values.specs.Views.{as_setup}
 use Rattle.core_order.specs.Parts.{bucket_row_part}
 use Rattle.core_order.proofs.ItemLemmas.{item_word-inside}

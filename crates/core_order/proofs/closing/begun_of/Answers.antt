@@ -1,4 +1,4 @@
-use Rattle.std.proofs.Common.{◌≡◌, sym, subst}
+use Rattle.std.proofs.Common.{sym, subst}
 use Rattle.core_values.specs.declared.seats.PlainSeat.{PlainSeat}
 use Rattle.core_values.specs.Views.{as_stand}
 use Rattle.core_order.specs.Parts.{SawFew}

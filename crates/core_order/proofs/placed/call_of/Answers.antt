@@ -1,8 +1,8 @@
-use Rattle.std.proofs.Common.{◌≡◌, List, Option, Some, None, map, ap, sym, ◌∙◌}
+use Rattle.std.proofs.Common.{◌≡◌, List, Some, None, map, ap, sym, ◌∙◌}
 use Rattle.std.specs.Prelude.{find, option_map}
 use Rattle.plain_map.specs.declared.records.Record.{Record}
 use Rattle.plain_map.specs.declared.records.Pending.{Pending}
-use Rattle.plain_map.specs.History.{Placed, answered, pending}
+use Rattle.plain_map.specs.History.{answered, pending}
 use Rattle.core_model.specs.Order.{is_call}
 use Rattle.core_order.proofs.PieceLemmas.{find-front, find-back}
 use Rattle.core_order.proofs.placed.call_of.Goals as goal

@@ -1,4 +1,4 @@
-use Rattle.std.proofs.Common.{◌≡◌, ℕ, ◌+◌, ◌-◌, ◌<◌, ◌∙◌, Some, None, sym, arith}
+use Rattle.std.proofs.Common.{ℕ, ◌+◌, ◌-◌, ◌<◌, ◌∙◌, sym, arith}
 use Rattle.core_model.specs.Setup.{seats_of}
 use Rattle.core_values.specs.Views.{as_setup}
 use Rattle.core_order.specs.Views.{as_closing, as_placing}

@@ -1,4 +1,4 @@
-use Rattle.std.proofs.Common.{◌≡◌, ◌+◌, ◌-◌, ◌∙◌, sym, arith}
+use Rattle.std.proofs.Common.{◌+◌, ◌-◌, ◌∙◌, sym, arith}
 use Rattle.core_values.specs.Views.{as_setup}
 use Rattle.core_order.specs.Views.{as_closing, as_placing}
 use Rattle.core_order.proofs.ChoiceLemmas.{place_all-none, place_all-goes}

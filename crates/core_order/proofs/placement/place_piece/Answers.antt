@@ -1,8 +1,8 @@
-use Rattle.std.proofs.Common.{◌≡◌, ℕ, suc, ◌+◌, ◌<◌, ◌∙◌, List, ◌++◌, take, drop, get_or, length, Option, Some, map, ap, sym, arith}
+use Rattle.std.proofs.Common.{◌≡◌, ℕ, suc, ◌+◌, ◌<◌, ◌∙◌, List, ◌++◌, take, drop, length, Option, Some, map, ap, sym, arith}
 use Rattle.std.specs.Prelude.{slice_get, option_map}
 use Rattle.std.proofs.lemmas.List.{map-append, take-map, drop-map}
 use Rattle.std.proofs.lemmas.Option.{slice_get-map, slice_get-get_or}
-use Rattle.core_model.specs.Order.{Piece, Closing, calls_in, rows_with, directories_with}
+use Rattle.core_model.specs.Order.{Piece, calls_in, rows_with, directories_with}
 use Rattle.core_values.specs.Views.{as_setup}
 use Rattle.core_order.specs.declared.values.PlainPiece.{PlainPiece}
 use Rattle.core_order.specs.declared.values.PlainPlaced.{PlainPlaced}

@@ -1,5 +1,4 @@
-use Rattle.std.proofs.Common.{◌≡◌, ◌+◌, ◌-◌, ◌^◌, ◌<◌, ◌∙◌, ap, arith}
-use Rattle.step_counts.specs.declared.rows.SeatRows.{SeatRows}
+use Rattle.std.proofs.Common.{◌≡◌, ◌+◌, ◌^◌, ◌<◌, arith}
 use Rattle.plain_map.specs.declared.full.FullKind.TheVariants.{BucketRows}
 use Rattle.word_rows.specs.Shape.{count_of}
 use Rattle.word_rows.specs.LayoutView.{shape_of}

@@ -1,7 +1,6 @@
 use Rattle.std.proofs.Common.{◌≡◌, ℕ, ◌+◌, ◌^◌, List, drop, take, get_or, ◌∙◌, ap}
 use Rattle.word_rows.specs.declared.addresses.Address.TheVariants.{DirectoryWord}
 use Rattle.word_rows.specs.Places.{place}
-use Rattle.core_model.specs.Worlds.{word_at}
 use Rattle.core_values.specs.Views.{as_setup}
 use Rattle.core_order.proofs.WordLemmas.{entries-part}
 use Rattle.core_order.proofs.reading.directory_entries.Goals as goal

@@ -1,4 +1,4 @@
-use Rattle.std.proofs.Common.{◌≡◌, ◌-◌, ◌<◌, arith}
+use Rattle.std.proofs.Common.{◌-◌, ◌<◌, arith}
 use Rattle.plain_map.specs.declared.full.FullKind.TheVariants.{BucketRows}
 use Rattle.word_rows.specs.Shape.{count_of}
 use Rattle.core_model.specs.Reading.{bucket_row, bucket_line}

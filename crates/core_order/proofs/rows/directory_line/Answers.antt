@@ -1,4 +1,4 @@
-use Rattle.std.proofs.Common.{◌≡◌, ◌-◌, ◌<◌, arith}
+use Rattle.std.proofs.Common.{◌-◌, ◌<◌, arith}
 use Rattle.plain_map.specs.declared.full.FullKind.TheVariants.{DirRows}
 use Rattle.word_rows.specs.Shape.{count_of}
 use Rattle.core_model.specs.Reading.{directory_row, directory_line}

@@ -1,4 +1,4 @@
-use Rattle.std.proofs.Common.{◌≡◌, ℕ, Vec, Global, ap, ◌∙◌, sym}
+use Rattle.std.proofs.Common.{ℕ, Vec, Global, ap, ◌∙◌, sym}
 use Rattle.core_model.specs.Reading.{each_once}
 use Rattle.core_order.proofs.LoopLemmas.{each_once-kept, each_once-left}
 use Rattle.core_order.proofs.rows.each_once.Goals as goal

@@ -1,4 +1,4 @@
-use Rattle.std.proofs.Common.{◌≡◌, ℕ, List, Vec, Global, get_or, ap, ◌∙◌, sym}
+use Rattle.std.proofs.Common.{ℕ, List, Vec, Global, get_or, ap, ◌∙◌, sym}
 use Rattle.std.specs.Prelude.{not}
 use Rattle.std.specs.List.{filter}
 use Rattle.core_model.specs.Reading.{is_among, directory_at}

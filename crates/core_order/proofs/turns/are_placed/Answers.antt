@@ -1,4 +1,4 @@
-use Rattle.std.proofs.Common.{◌≡◌, ◌+◌, ◌-◌, ◌∙◌, map, sym, arith}
+use Rattle.std.proofs.Common.{◌+◌, ◌-◌, ◌∙◌, map, sym, arith}
 use Rattle.core_model.specs.Order.{is_placed}
 use Rattle.core_order.specs.Views.{as_placed}
 use Rattle.core_order.proofs.TurnLemmas.{range-goes}

@@ -1,6 +1,6 @@
 -- Each event leads on.
 use Rattle.core_values.specs.Views.{as_setup, as_world}
-use Rattle.core_plays.proofs.PlayLemmas.{leads_on, leads_nowhere}
+use Rattle.core_plays.proofs.PlayLemmas.{leads_on}
 use Rattle.core_plays.proofs.plays.step_seat.Goals as goal
 
 pub returns-then-not-is_idle-2 : goal.returns-then-not-is_idle-2

@@ -1,4 +1,4 @@
-use Rattle.std.proofs.Common.{ℕ, ◌<◌}
+use Rattle.std.proofs.Common.{◌<◌}
 use Rattle.core_values.specs.Views.{as_setup, as_world}
 use Rattle.core_plays.specs.Played.{Leads}
 use Rattle.core_plays.proofs.plays.step_seat.Given as goal

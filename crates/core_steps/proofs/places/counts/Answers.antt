@@ -1,5 +1,5 @@
 -- The last seat's ranges end where all numbers do, which are few.
-use Rattle.std.proofs.Common.{◌≡◌, ℕ, ◌+◌, ◌-◌, ◌^◌, ◌<◌, arith, ap}
+use Rattle.std.proofs.Common.{◌-◌, arith, ap}
 use Rattle.core_steps.proofs.PlaceLemmas.{layout_counts, layout_counts_few}
 use Rattle.core_steps.proofs.places.counts.Goals as goal
 

@@ -1,5 +1,5 @@
 -- What is left in the place of a seat is overwritten.
-use Rattle.std.proofs.Common.{◌≡◌, ◌∙◌, ap, set, map}
+use Rattle.std.proofs.Common.{◌∙◌, ap, set, map}
 use Rattle.std.proofs.lemmas.List.{map-set, set-set}
 use Rattle.core_values.specs.Views.{as_seat}
 use Rattle.core_steps.proofs.seats.take_seat.Goals as goal

@@ -1,6 +1,5 @@
 -- The step is that of the seat as it stood before it was taken out.
-use Rattle.std.proofs.Common.{◌≡◌, ◌<◌, IfOk, Some, arith, map, subst}
-use Rattle.core_model.specs.SeatStates.{SeatState}
+use Rattle.std.proofs.Common.{◌≡◌, IfOk, Some, arith, map, subst}
 use Rattle.core_values.specs.Views.{as_account, as_flight, as_phase, as_seat, as_setup, as_world}
 use Rattle.core_steps.specs.Turns.{IsTurn, step_at}
 use Rattle.core_steps.specs.WorldCauses.{StepCounts, StepHasRows}
