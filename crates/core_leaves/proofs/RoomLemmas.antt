@@ -32,9 +32,9 @@ pub finds_next : (rules : Rules) (first : List Pair) (place : ℕ) (pair : Pair)
 finds_next rules first place pair within is room found k none below = elim (cases_lt k place) [
   | inl earlier ↦ found k none earlier
   | inr later ↦
-    let same : place ≡ k = omega (arith, later, below) in
-    subst (λ (n : ℕ). classmates rules (get_or first n none).key (take n first) < rules.items) same
-    (subst (λ (p : Pair). classmates rules p.key (take place first) < rules.items) (get_or_read_under first place (length first) pair none is within refl) room)
+      let same : place ≡ k = omega (arith, later, below) in
+      subst (λ (n : ℕ). classmates rules (get_or first n none).key (take n first) < rules.items) same
+      (subst (λ (p : Pair). classmates rules p.key (take place first) < rules.items) (get_or_read_under first place (length first) pair none is within refl) room)
 ]
 
 pub have_room : (rules : Rules) (first : List Pair) (many : ℕ) → many ≤ length first → FindRoom rules first many → HaveRoom rules (take many first)

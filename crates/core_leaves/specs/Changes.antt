@@ -8,15 +8,12 @@ use Rattle.core_model.specs.DirectoryChange.{LoadedBucket}
 use Rattle.core_model.specs.Phases.{DirectoryTry}
 use Rattle.core_model.specs.Stores.{base_of_leaf, made_leaves}
 use Rattle.core_model.specs.Worlds.{first_leaves}
-use Rattle.core_values.specs.Rows.{IsOfTable}
 
--- what a directory try found and loaded can be that of a table, and each leaf that it makes can be spelled
+-- what a directory try found can be that of a table, and each leaf that it makes can be spelled
 pub record IsChange (setup : Setup) (attempt : DirectoryTry) (found : List (Option Op)) (loaded : List LoadedBucket) : Type 0 where
   pub seats : length found ≤ seats_of setup
   pub depth : attempt.directory.depth ≤ (settings_of setup).depth
   pub root : attempt.root < 2 ^ 64 - 1
-  pub loaded_rows : All (λ l. l.row < 2 ^ 64 - 1) loaded
-  pub buckets : All (λ l. IsOfTable (settings_of setup) l.state) loaded
   pub leaves :
       All (λ leaf. IsBucket (settings_of setup) (row_of_state (base_of_leaf loaded leaf) leaf.bucket))
       (made_leaves setup attempt found loaded)

@@ -12,8 +12,8 @@ use plain_map::{Key, Pair, Rules};
 /// each pair finds room.
 pub fn first_without_room(setup: &PlainSetup) -> Option<usize>
     ensures { MatchOption result
-      (HaveRoom (rules_of (as_setup setup.now)) (as_setup setup.now).first)
-      (IsFirstWithoutRoom (rules_of (as_setup setup.now)) (as_setup setup.now).first) }
+        (HaveRoom (rules_of (as_setup setup.now)) (as_setup setup.now).first)
+        (IsFirstWithoutRoom (rules_of (as_setup setup.now)) (as_setup setup.now).first) }
 {
     let rules = setup.rules();
     for place in 0..setup.first.len() {

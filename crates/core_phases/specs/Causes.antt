@@ -52,7 +52,7 @@ IsSeenCount SeeDone word = word < 2 ^ 32
 IsSeenCount phase word = Unit {0}
 
 -- one more step can be counted
-pub record CountsGoOn (setup : Setup) (account : Account) (flight : Flight) (phase : Phase) (word : ℕ) : Type 0 where
+pub record CountsGoOn (account : Account) (flight : Flight) (phase : Phase) (word : ℕ) : Type 0 where
   pub used : AreBelow (2 ^ 62) account.used
   pub steps : flight.steps < 2 ^ 62
   pub seen : length flight.seen ≤ MOST_SEATS

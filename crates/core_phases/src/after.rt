@@ -36,9 +36,9 @@ pub fn seat_after(
     ensures words { result ≢ Err StepFault.NoWord }
     ensures rows { result ≡ Err StepFault.NoRow → ¬ RowsStand (as_setup setup.now) (as_phase phase) word }
     ensures counts { result ≡ Err StepFault.NoCount
-        → ¬ CountsGoOn (as_setup setup.now) (as_account account) (as_flight flight) (as_phase phase) word }
+        → ¬ CountsGoOn (as_account account) (as_flight flight) (as_phase phase) word }
 {
-    if !counts_go_on(setup, &account, &flight, &phase, word) {
+    if !counts_go_on(&account, &flight, &phase, word) {
         return Err(StepFault::NoCount);
     }
     match counted_after(alloc, setup, seat, account, flight, phase, word)? {
@@ -58,7 +58,7 @@ fn counted_after(
     word: u64,
 ) -> Result<Option<PlainSeat>, AllocError>
     requires seat { seat < seats_of (as_setup setup.now) }
-    requires counts { CountsGoOn (as_setup setup.now) (as_account account) (as_flight flight) (as_phase phase) word }
+    requires counts { CountsGoOn (as_account account) (as_flight flight) (as_phase phase) word }
     ensures { IfOk result (λ after. MatchOption after
         (¬ RowsStand (as_setup setup.now) (as_phase phase) word)
         (λ after. as_seat after
@@ -88,7 +88,7 @@ fn going_after(
     word: u64,
 ) -> Result<Option<PlainSeat>, AllocError>
     requires seat { seat < seats_of (as_setup setup.now) }
-    requires counts { CountsGoOn (as_setup setup.now) (as_account account) (as_flight flight) (as_phase phase) word }
+    requires counts { CountsGoOn (as_account account) (as_flight flight) (as_phase phase) word }
     requires goes_on { GoesOn (as_phase phase) }
     ensures { IfOk result (λ after. MatchOption after
         (¬ RowsStand (as_setup setup.now) (as_phase phase) word)

@@ -2,10 +2,10 @@
 
 ghost use Rattle.std.specs.Prelude.{◌↔◌, ◌^◌, IsTrue};
 ghost use Rattle.word_rows.specs.Shape.{AreBelow};
-ghost use Rattle.core_values.specs.Views.{as_account, as_flight, as_phase, as_setup};
+ghost use Rattle.core_values.specs.Views.{as_account, as_flight, as_phase};
 ghost use Rattle.core_phases.specs.Causes.{CountsGoOn, IsSeenCount};
 
-use core_values::{PlainAccount, PlainFlight, PlainPhase, PlainSetup};
+use core_values::{PlainAccount, PlainFlight, PlainPhase};
 use plain_map::MOST_SEATS;
 use step_counts::SeatRows;
 
@@ -14,16 +14,14 @@ const MOST: u64 = 1 << 62;
 
 /// Whether one more step can be counted.
 pub(crate) fn counts_go_on(
-    setup: &PlainSetup,
     account: &PlainAccount,
     flight: &PlainFlight,
     phase: &PlainPhase,
     word: u64,
 ) -> bool
     ensures { IsTrue result
-        ↔ CountsGoOn (as_setup setup.now) (as_account account.now) (as_flight flight.now) (as_phase phase.now) word }
+        ↔ CountsGoOn (as_account account.now) (as_flight flight.now) (as_phase phase.now) word }
 {
-    let _of = setup;
     are_few(&account.used)
         && flight.steps < MOST
         && flight.seen.len() <= MOST_SEATS

@@ -26,7 +26,7 @@ pub record StepHasRows (setup : Setup) (words : List ℕ) (seat : ℕ) (account 
 -- the number of its call fits, and one more step can be counted
 pub record StepCounts (setup : Setup) (words : List ℕ) (seat : ℕ) (account : Account) (flight : Flight) (phase : Phase) : Type 0 where
   pub number : flight.number < 2 ^ 32
-  pub goes_on : CountsGoOn setup account flight phase (found_in setup words seat account flight phase)
+  pub goes_on : CountsGoOn account flight phase (found_in setup words seat account flight phase)
 
 -- the step that an event makes, if it makes one, is of this kind
 abbrev pub OfEvent :

@@ -1,5 +1,5 @@
 -- The earlier pairs have found room.
-use Rattle.std.proofs.Common.{◌≡◌, ◌≤◌, ◌<◌, List, length, take, get_or, arith, refl, subst, ◌∙◌, ap}
+use Rattle.std.proofs.Common.{◌≡◌, ◌≤◌, ◌<◌, List, length, take, arith, subst, ◌∙◌, ap}
 use Rattle.std.proofs.lemmas.List.{take_all}
 use Rattle.plain_map.specs.declared.keys.Pair.{Pair}
 use Rattle.plain_map.specs.declared.rules.Rules.{Rules}
@@ -14,11 +14,11 @@ returns-then-earlier-rules c =
     let rules : Rules = rules_of (as_setup c.args.setup.now) in
     let pair : Pair = c.index.result.now in
     let counted : c.classmates-earlier.result ≡ classmates rules pair.key (take c.loop-place.place first) =
-        c.classmates-earlier.ensures
-        ∙ ap (λ (r : Rules). classmates r pair.key (take c.loop-place.place c.deref.result.now)) c.rules-rules.ensures.value
-        ∙ ap (λ (ps : List Pair). classmates rules pair.key (take c.loop-place.place ps)) c.deref.ensures.value in
+    c.classmates-earlier.ensures
+    ∙ ap (λ (r : Rules). classmates r pair.key (take c.loop-place.place c.deref.result.now)) c.rules-rules.ensures.value
+    ∙ ap (λ (ps : List Pair). classmates rules pair.key (take c.loop-place.place ps)) c.deref.ensures.value in
     let full : rules.items ≤ classmates rules pair.key (take c.loop-place.place first) =
-        omega (arith, c.if-earlier-rules.true, ap (λ (r : Rules). r.items) c.rules-rules.ensures.value, counted) in
+    omega (arith, c.if-earlier-rules.true, ap (λ (r : Rules). r.items) c.rules-rules.ensures.value, counted) in
     first_without rules first c.loop-place.place pair (omega (arith, c.loop-place-test.true, c.len-place-end.ensures)) c.loop-place.invariant
     (subst (λ (p : Pair). rules.items ≤ classmates rules p.key (take c.loop-place.place first)) c.index.ensures full)
 
@@ -28,11 +28,11 @@ loop-place-preserved c =
     let rules : Rules = rules_of (as_setup c.args.setup.now) in
     let pair : Pair = c.index.result.now in
     let counted : c.classmates-earlier.result ≡ classmates rules pair.key (take c.loop-place.place first) =
-        c.classmates-earlier.ensures
-        ∙ ap (λ (r : Rules). classmates r pair.key (take c.loop-place.place c.deref.result.now)) c.rules-rules.ensures.value
-        ∙ ap (λ (ps : List Pair). classmates rules pair.key (take c.loop-place.place ps)) c.deref.ensures.value in
+    c.classmates-earlier.ensures
+    ∙ ap (λ (r : Rules). classmates r pair.key (take c.loop-place.place c.deref.result.now)) c.rules-rules.ensures.value
+    ∙ ap (λ (ps : List Pair). classmates rules pair.key (take c.loop-place.place ps)) c.deref.ensures.value in
     let room : classmates rules pair.key (take c.loop-place.place first) < rules.items =
-        omega (arith, c.if-earlier-rules.false, ap (λ (r : Rules). r.items) c.rules-rules.ensures.value, counted) in
+    omega (arith, c.if-earlier-rules.false, ap (λ (r : Rules). r.items) c.rules-rules.ensures.value, counted) in
     finds_next rules first c.loop-place.place pair (omega (arith, c.loop-place-test.true, c.len-place-end.ensures)) c.index.ensures room c.loop-place.invariant
 
 pub returns : goal.returns
