@@ -34,10 +34,10 @@ value_at-find key (pair ∷ pairs) =
     ap (λ b. cond b (Some pair.value) (value_at key pairs)) (same_key-equiv.symm pair.key key ∙ sym (eq_by_cmp-same_key key pair.key))
     ∙ ap (cond _ (Some pair.value)) (value_at-find key pairs)
 
-abbrev own_sessions : List Pair → Sessions
+abbrev pub own_sessions : List Pair → Sessions
 own_sessions items = from_entries (map entry_of items)
 
-own_part : (rules : Rules) (prefix depth : ℕ) (items : List Pair) → HasDistinctKeys items → HasPrefix rules prefix depth items → HoldsPart rules prefix depth items (own_sessions items)
+pub own_part : (rules : Rules) (prefix depth : ℕ) (items : List Pair) → HasDistinctKeys items → HasPrefix rules prefix depth items → HoldsPart rules prefix depth items (own_sessions items)
 own_part rules prefix depth items distinct inside = record {
   distinct = distinct;
   inside = inside;
@@ -47,7 +47,7 @@ own_part rules prefix depth items distinct inside = record {
 -- ---- one op
 
 -- a bucket that overflows has no place, and can be split
-overflow_parts : (rules : Rules) (depth : ℕ) (items : List Pair) (call : Call) → overflows rules depth items call ≡ true → (rules.items ≤ length items) × (depth < rules.depth)
+pub overflow_parts : (rules : Rules) (depth : ℕ) (items : List Pair) (call : Call) → overflows rules depth items call ≡ true → (rules.items ≤ length items) × (depth < rules.depth)
 unfolding overflows
 overflow_parts rules depth items (Insert key value) full =
     let parts = and_parts (not (is_some (value_at key items))) (not (has_place rules items) && nat_lt depth rules.depth) full in
@@ -58,7 +58,7 @@ overflow_parts rules depth items (Lookup key) full = cc
 
 module _ (rules : Rules) (range : InRange rules) (seats : ℕ) where
   -- a good bucket can be asked
-  can_answer : (bucket : BucketState) → IsGood rules seats bucket → CanAnswer rules bucket.depth bucket.items
+  pub can_answer : (bucket : BucketState) → IsGood rules seats bucket → CanAnswer rules bucket.depth bucket.items
   can_answer bucket good = record { range = range; within = good.within; few = good.few }
 
   module _ (seat : ℕ) (op : Op) (bucket : BucketState) (good : IsGood rules seats bucket) (inside : seat < seats) where
@@ -78,7 +78,7 @@ module _ (rules : Rules) (range : InRange rules) (seats : ℕ) where
           full = λ is. (omega arith, parts.1);
         }
 
-    took-IsGood : bucket.frozen ≡ false → IsFor rules bucket op → applied_of bucket seat < op.number → overflows rules bucket.depth bucket.items op.call ≡ false
+    pub took-IsGood : bucket.frozen ≡ false → IsFor rules bucket op → applied_of bucket seat < op.number → overflows rules bucket.depth bucket.items op.call ≡ false
         → IsGood rules seats (answered rules bucket seat op)
     took-IsGood live for_it above fits =
         let alike = local_answers rules bucket.prefix bucket.depth bucket.items (own_sessions bucket.items) op.call (can_answer bucket good)

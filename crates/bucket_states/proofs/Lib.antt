@@ -1,12 +1,12 @@
-mod PlaceLemmas
-mod AnswerLemmas
-mod StepLemmas
-mod KeyTests
-mod ItemLemmas
-mod SizeLemmas
-mod PartLemmas
-mod LocalLemmas
-mod WalkLemmas
-mod FoldLemmas
-mod GoodLemmas
-mod ValueLemmas
+pub mod PlaceLemmas
+pub mod AnswerLemmas
+pub mod StepLemmas
+pub mod KeyTests
+pub mod ItemLemmas
+pub mod SizeLemmas
+pub mod PartLemmas
+pub mod LocalLemmas
+pub mod WalkLemmas
+pub mod FoldLemmas
+pub mod GoodLemmas
+pub mod ValueLemmas

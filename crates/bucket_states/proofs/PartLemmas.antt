@@ -49,11 +49,11 @@ prefix_is_class rules key = refl
 
 -- ---- sizes
 
-both_hold : (b : Bool) (o : Option ℕ) → is_some (cond b o None) ≡ true → (b ≡ true) × (is_some o ≡ true)
+pub both_hold : (b : Bool) (o : Option ℕ) → is_some (cond b o None) ≡ true → (b ≡ true) × (is_some o ≡ true)
 both_hold true o is = (refl, is)
 both_hold false o is = cc
 
-some_of : (o : Option ℕ) → is_some o ≡ true → (held : ℕ) × (o ≡ Some held)
+pub some_of : (o : Option ℕ) → is_some o ≡ true → (held : ℕ) × (o ≡ Some held)
 some_of (Some held) is = (held, refl)
 some_of None is = cc
 

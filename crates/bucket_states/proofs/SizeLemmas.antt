@@ -1,19 +1,19 @@
 -- How many keys of a class the sessions hold, against how many items a bucket has.
-use Rattle.std.proofs.Common.{◌≡◌, ℕ, suc, ◌+◌, Bool, true, false, cond, List, [], ◌∷◌, map, length, None, refl, sym, ap, ◌∙◌}
+use Rattle.std.proofs.Common.{◌≡◌, ℕ, suc, Bool, true, false, cond, List, [], ◌∷◌, map, length, None, refl, sym, ap, ◌∙◌}
 use Rattle.std.specs.Prelude.{◌==◌, T, is_some, ◌&&◌}
-use Rattle.std.specs.List.{IsDistinct, AllByRecursion, list_any, count_by}
+use Rattle.std.specs.List.{IsDistinct, AllByRecursion, list_any}
 use Rattle.std.specs.declared.cmp.Ordering.{Ordering}
 use Rattle.std.specs.declared.cmp.Ordering.TheVariants.{Less, Equal, Greater}
 use Rattle.std.specs.Ordering.{eq_by_cmp, is_lt, is_eq}
 use Rattle.std.specs.FinMap.{entries, entries_sorted, get, get-entries}
 use Rattle.std.specs.FinMap.Entries.{where_key, below_all, is_sorted, is_sorted-where_key, find-where_key, is_some-find}
-use Rattle.std.proofs.lemmas.List.Sums.{sum_by-cons, length-filter}
+use Rattle.std.proofs.lemmas.List.Sums.{length-filter}
 use Rattle.plain_map.specs.declared.keys.Key.{Key}
-use Rattle.plain_map.specs.declared.keys.Pair.{Pair}
 use Rattle.plain_map.specs.declared.rules.Rules.{Rules}
-use Rattle.plain_map.specs.Keys.{key_cmp, pair_of}
+use Rattle.plain_map.specs.Keys.{key_cmp}
 use Rattle.plain_map.specs.PlainObject.{Sessions, pairs_of, class_of, class_size}
 use Rattle.plain_map.proofs.KeyLemmas.{exact_keys}
+use Rattle.plain_map.proofs.LocalityLemmas.{count_by-pairs}
 use Rattle.bucket_states.specs.Items.{same_key}
 use Rattle.bucket_states.proofs.KeyTests.{eq_by_cmp-same_key}
 
@@ -42,12 +42,12 @@ below_apart : (x : Key) (es : List (Key × ℕ)) → T (below_all key_cmp x es) 
 below_apart x [] below = tt
 below_apart x (e ∷ es) below = (less_apart x e.0 (first _ _ below), below_apart x es (second _ _ below))
 
-sorted_distinct : (es : List (Key × ℕ)) → T (is_sorted key_cmp es) → IsDistinct same_key (entry_keys es)
+pub sorted_distinct : (es : List (Key × ℕ)) → T (is_sorted key_cmp es) → IsDistinct same_key (entry_keys es)
 unfolding IsDistinct
 sorted_distinct [] sorted = tt
 sorted_distinct (e ∷ es) sorted = (below_apart e.0 es (first _ _ sorted), sorted_distinct es (second _ _ sorted))
 
-list_any-alike : (p q : Key → Bool) → ((k : Key) → p k ≡ q k) → (ks : List Key) → list_any p ks ≡ list_any q ks
+pub list_any-alike : (p q : Key → Bool) → ((k : Key) → p k ≡ q k) → (ks : List Key) → list_any p ks ≡ list_any q ks
 list_any-alike p q same [] = refl
 list_any-alike p q same (k ∷ ks) = cc (same k, list_any-alike p q same ks)
 
@@ -60,13 +60,6 @@ module _ (rules : Rules) (sessions : Sessions) (class : ℕ) where
   abbrev pub of_class : List (Key × ℕ)
   of_class = where_key key_cmp in_class (entries sessions)
 
-  count_by-pairs : (es : List (Key × ℕ)) → count_by (λ (p : Pair). in_class p.key) (map pair_of es) ≡ count_by (λ (e : Key × ℕ). in_class e.0) es
-  count_by-pairs [] = refl
-  count_by-pairs (e ∷ es) =
-      sum_by-cons (λ (p : Pair). cond (in_class p.key) 1 0) (pair_of e) (map pair_of es)
-      ∙ ap (λ (n : ℕ). cond (in_class e.0) 1 0 + n) (count_by-pairs es)
-      ∙ sym (sum_by-cons (λ (e : Key × ℕ). cond (in_class e.0) 1 0) e es)
-
   length-map : (es : List (Key × ℕ)) → length (entry_keys es) ≡ length es
   length-map [] = refl
   length-map (e ∷ es) = ap (λ (n : ℕ). suc n) (length-map es)
@@ -74,7 +67,7 @@ module _ (rules : Rules) (sessions : Sessions) (class : ℕ) where
   -- the size of the class is how many they are
   pub class_size-keys : class_size rules sessions class ≡ length (entry_keys of_class)
   unfolding class_size pairs_of
-  class_size-keys = count_by-pairs (entries sessions) ∙ sym (length-filter (λ (e : Key × ℕ). in_class e.0) (entries sessions)) ∙ sym (length-map of_class)
+  class_size-keys = count_by-pairs in_class (entries sessions) ∙ sym (length-filter (λ (e : Key × ℕ). in_class e.0) (entries sessions)) ∙ sym (length-map of_class)
 
   pub distinct_of_class : IsDistinct same_key (entry_keys of_class)
   distinct_of_class = sorted_distinct of_class (is_sorted-where_key key_cmp in_class (entries sessions) (entries_sorted sessions))

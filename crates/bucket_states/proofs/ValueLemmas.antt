@@ -21,7 +21,7 @@ use Rattle.bucket_states.specs.Values.{IsUpdate, IsUpdateReply, AreUpdates, IsSm
 use Rattle.bucket_states.proofs.StepLemmas.{Outcome, stayed, skipped, froze, took, outcome}
 use Rattle.bucket_states.proofs.WalkLemmas.{KeepsShape-after_seat}
 
-abbrev Small : Pair → Type 0
+abbrev pub Small : Pair → Type 0
 Small item = item.value < 2 ^ 61
 
 -- a value that is held is small
@@ -51,7 +51,7 @@ module _ (rules : Rules) (items : List Pair) (small : All Small items) where
   appended_small pair fits None true = All-push Small items pair small fits
   appended_small pair fits None false = small
 
-  items_small : (call : Call) → IsUpdate call → All Small (items_after rules items call)
+  pub items_small : (call : Call) → IsUpdate call → All Small (items_after rules items call)
   unfolding items_after
   items_small (Insert key value) update = appended_small (record { key = key; value = value }) update (value_at key items) (has_place rules items)
   items_small (Remove key) update = without_small key items small
@@ -73,7 +73,7 @@ module _ (rules : Rules) (items : List Pair) (small : All Small items) where
   reply_small (Lookup key) update = absurd update
 
 module _ (rules : Rules) where
-  took_small : (seat : ℕ) (op : Op) (bucket : BucketState) → seat < length bucket.applied → seat < length bucket.replies → IsUpdate op.call → op.number < 2 ^ 32 → IsSmall bucket
+  pub took_small : (seat : ℕ) (op : Op) (bucket : BucketState) → seat < length bucket.applied → seat < length bucket.replies → IsUpdate op.call → op.number < 2 ^ 32 → IsSmall bucket
       → IsSmall (answered rules bucket seat op)
   took_small seat op bucket at at_too update few small = record {
     values = items_small rules bucket.items small.values op.call update;

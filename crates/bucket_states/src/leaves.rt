@@ -63,8 +63,25 @@ impl Bucket {
         self.replies[seat] = Some(reply);
     }
 
-    /// One of the two parts of this bucket becomes another bucket: the part of the keys whose next hash bit is this one.
-    pub fn half_into(&self, rules: &Rules, bit: u64, out: &mut Bucket)
+    /// The two parts of this bucket become two other buckets: the keys whose next hash bit is 0, and those where it is 1.
+    ///
+    /// The items keep their order, and both parts have all numbers and replies. It takes no memory.
+    pub fn split_one(&self, rules: &Rules, zero: &mut Bucket, one: &mut Bucket)
+        requires depth { self.now.depth < 64 }
+        requires prefix { self.now.prefix < 2 ^ 63 }
+        requires zero { CanHold (state_of self.now) zero.old }
+        requires one { CanHold (state_of self.now) one.old }
+        ensures zero { state_of zero.new ≡ half rules.now 0 (state_of self.now) }
+        ensures one { state_of one.new ≡ half rules.now 1 (state_of self.now) }
+        ensures few { (length zero.new.items.items ≤ length self.now.items.items) × (length one.new.items.items ≤ length self.now.items.items) }
+        ensures room { KeepsRoom zero.old zero.new × KeepsRoom one.old one.new }
+    {
+        self.half_into(rules, 0, zero);
+        self.half_into(rules, 1, one);
+    }
+
+    // One of the two parts of this bucket becomes another bucket: the part of the keys whose next hash bit is this one.
+    fn half_into(&self, rules: &Rules, bit: u64, out: &mut Bucket)
         requires bit { bit ≤ 1 }
         requires depth { self.now.depth < 64 }
         requires prefix { self.now.prefix < 2 ^ 63 }

@@ -188,21 +188,28 @@ fn a_full_bucket_is_split(rt: HostRuntime) -> Result<(), Fail> {
     assert!(rt; bucket.holds(&rules, &key(16384)));
     assert!(rt; !bucket.holds(&rules, &key(32768)));
     assert_eq!(rt; bucket.items.len(), 2);
-    for (bit, port) in [(0, 1), (1, 16384)] {
-        let mut part = Bucket::with_room(rt.alloc(), &settings)?;
-        bucket.half_into(&rules, bit, &mut part);
-        assert_eq!(rt; [part.prefix, part.depth as u64], [bit, 2]);
-        assert!(rt; !part.frozen);
-        assert_eq!(rt; part.items.as_slice(), [pair(port)].as_slice());
-        assert_eq!(rt; part.applied.as_slice(), [1, 1].as_slice());
-        assert!(rt; !part.overflows(&rules, &op.call));
-        assert_eq!(rt; part.replies.len(), 2);
-        part.answer(&rules, 0, &op);
-        assert_eq!(rt; part.items.as_slice(), [pair(port), pair(2)].as_slice());
-        assert_eq!(rt; part.applied.as_slice(), [2, 1].as_slice());
-        assert_eq!(rt; part.replies[0], Some(Reply::New));
-    }
+    let mut zero = Bucket::with_room(rt.alloc(), &settings)?;
+    let mut one = Bucket::with_room(rt.alloc(), &settings)?;
+    bucket.split_one(&rules, &mut zero, &mut one);
+    takes_the_call(&rt, &rules, &mut zero, &op, 0, 1);
+    takes_the_call(&rt, &rules, &mut one, &op, 1, 16384);
     Ok(())
+}
+
+// A half with these bits has the item of this port, and takes up the call that the whole had no place for.
+fn takes_the_call(rt: &impl Abort, rules: &Rules, half: &mut Bucket, op: &Op, bit: u64, port: u64)
+    requires { rules.now.items ≤ vec_capacity half.old.items }
+{
+    assert_eq!(rt; [half.prefix, half.depth as u64], [bit, 2]);
+    assert!(rt; !half.frozen);
+    assert_eq!(rt; half.items.as_slice(), [pair(port)].as_slice());
+    assert_eq!(rt; half.applied.as_slice(), [1, 1].as_slice());
+    assert!(rt; !half.overflows(rules, &op.call));
+    assert_eq!(rt; half.replies.len(), 2);
+    half.answer(rules, 0, op);
+    assert_eq!(rt; half.items.as_slice(), [pair(port), pair(2)].as_slice());
+    assert_eq!(rt; half.applied.as_slice(), [2, 1].as_slice());
+    assert_eq!(rt; half.replies[0], Some(Reply::New));
 }
 
 fn pair(port: u64) -> Pair {

@@ -1,3 +1,6 @@
 mod Plays
 mod WorkedRows
 mod RarePaths
+mod Moments
+mod PlayedStatements
+mod ScheduledPlays

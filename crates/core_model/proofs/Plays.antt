@@ -16,6 +16,7 @@ use Rattle.std.specs.Option.{option_map_or}
 use Rattle.plain_map.specs.declared.calls.Call.TheVariants.{Insert, Remove, Lookup}
 use Rattle.plain_map.specs.declared.keys.Pair.{Pair}
 use Rattle.plain_map.specs.PlainObject.{insert_reply}
+use Rattle.word_rows.specs.Shape.{Shape}
 use Rattle.bucket_states.specs.Items.{value_at, without, appended}
 use Rattle.plain_map.specs.History.{Placed, answered, pending, seat_of, number_of, call_in}
 use Rattle.core_model.specs.Setup.{rules_of, classmates}
@@ -95,45 +96,50 @@ has_reply rules pairs (pending u) = true
 
 abbrev pub is_legal : Rules → List Pair → List Placed → Bool
 is_legal rules pairs [] = true
-is_legal rules pairs (placed ∷ later) = has_reply rules pairs placed && is_legal rules (plain_after rules pairs (call_in placed)) later
+is_legal rules pairs (placed ∷ later) =
+    has_reply rules pairs placed && is_legal rules (plain_after rules pairs (call_in placed)) later
 
 -- whether each call stands after what its caller had seen
-abbrev pub is_after : Setup → List Placed → List Placed → Bool
-is_after setup before [] = true
-is_after setup before (placed ∷ later) = is_next setup before placed && is_after setup (before ++ placed ∷ []) later
+abbrev pub is_after : Shape → List Placed → List Placed → Bool
+is_after shape before [] = true
+is_after shape before (placed ∷ later) = is_next shape before placed && is_after shape (before ++ placed ∷ []) later
 
 -- whether each of these calls stands once
 abbrev pub each_stands_once : List Placed → List Placed → Bool
 each_stands_once order calls =
-    list_all (λ placed. count_by (is_call (seat_of placed) (number_of placed)) order == 1) calls && (length order == length calls)
+    list_all (λ placed. count_by (is_call (seat_of placed) (number_of placed)) order == 1) calls
+    && (length order == length calls)
 
 -- whether each class has one leaf
 abbrev pub is_cover : (depth : ℕ) → List Leaf → Bool
 is_cover depth leaves =
-    list_all (λ class. count_by (λ leaf. class / 2 ^ (depth - leaf.depth) == leaf.prefix) leaves == 1) (range_with_len 0 (2 ^ depth))
+    list_all (λ class. count_by (λ leaf. class / 2 ^ (depth - leaf.depth) == leaf.prefix) leaves == 1)
+    (range_with_len 0 (2 ^ depth))
 
 abbrev pub fault_if_not : Bool → ℕ
 fault_if_not true = 0
 fault_if_not false = 1
 
--- how many of the checks fail: that the order is legal, after and whole, that the leaves cover; and the pieces left over
+-- how many of the checks fail: that the order is legal, after and whole, that the leaves cover; and the pieces left
+-- over
 abbrev pub faults : Setup → World → ℕ
 faults setup world =
     let closing = closing_of world in
-    let order = order_of setup closing in
-    length (placing_of setup closing).left
+    let order = order_of setup.shape closing in
+    length (placing_of setup.shape closing).left
     + fault_if_not (is_legal (rules_of setup) setup.first order)
-    + fault_if_not (is_after setup [] order)
-    + fault_if_not (each_stands_once order (map answered closing.records ++ map pending (effects_of setup closing)))
-    + fault_if_not (is_cover setup.shape.settings.depth (closed_leaves setup world.words))
+    + fault_if_not (is_after setup.shape [] order)
+    + fault_if_not (each_stands_once order
+    (map answered closing.records ++ map pending (effects_of setup.shape closing)))
+    + fault_if_not (is_cover setup.shape.settings.depth (closed_leaves setup.shape world.words))
 
 -- records, order, leaves, the directory's depth, and how many checks fail
 abbrev pub summary : Setup → World → List (ℕ × Reply × ℕ × List ℕ) × List ℕ × List (ℕ × ℕ) × ℕ × ℕ
 summary setup world = (
   map told (records_of world),
-  map packet_of (order_of setup (closing_of world)),
-  map leaf_told (closed_leaves setup world.words),
-  closed_depth setup world.words,
+  map packet_of (order_of setup.shape (closing_of world)),
+  map leaf_told (closed_leaves setup.shape world.words),
+  closed_depth setup.shape world.words,
   faults setup world,
 )
 
@@ -151,8 +157,8 @@ abbrev pub brief : Setup → World → List ℕ × List ℕ × List ℕ × ℕ �
 brief setup world = (
   map (λ r. r.steps) (records_of world),
   map (λ r. kind r.reply) (records_of world),
-  map packet_of (order_of setup (closing_of world)),
-  length (closed_leaves setup world.words),
-  closed_depth setup world.words,
+  map packet_of (order_of setup.shape (closing_of world)),
+  length (closed_leaves setup.shape world.words),
+  closed_depth setup.shape world.words,
   faults setup world,
 )

@@ -1,6 +1,6 @@
--- Schedules of two seats that reach each rare path, computed from the definitions: steps, kinds of replies, order, leaves
--- and depth. Ports 1 and 2 have the first hash bits 000, 16385 has 010, 32769 and 32770 have 100, 40961 has 101 and 49153
--- has 110. Packet 10 s + i is call i of seat s.
+-- Schedules of two seats that reach each rare path, computed from the definitions: steps, kinds of replies, order,
+-- leaves and depth. Ports 1 and 2 have the first hash bits 000, 16385 has 010, 32769 and 32770 have 100, 40961 has 101
+-- and 49153 has 110. Packet 10 s + i is call i of seat s.
 use Rattle.std.proofs.Common.{◌≡◌, refl, [], ◌∷◌, map, arith}
 use Rattle.step_counts.specs.declared.settings.Settings.{Settings}
 use Rattle.step_counts.specs.StepCounts.{automatic_rows_of}
@@ -24,7 +24,7 @@ use Rattle.core_model.specs.Stores.{directory_puts}
 use Rattle.core_model.specs.Order.{placing_of}
 use Rattle.core_model.proofs.Plays.{key, played, brief}
 
-abbrev third_look_shows_applied_settings : Settings
+abbrev pub third_look_shows_applied_settings : Settings
 third_look_shows_applied_settings = record {
   seats = 2;
   items = 2;
@@ -36,7 +36,7 @@ third_look_shows_applied_settings = record {
   start_in_range = (omega arith, omega arith);
 }
 
-abbrev third_look_shows_applied_setup : Setup
+abbrev pub third_look_shows_applied_setup : Setup
 third_look_shows_applied_setup = record {
   shape = record {
     settings = third_look_shows_applied_settings;
@@ -53,11 +53,12 @@ third_look_shows_applied :
     (((1, Insert (key 2) 1) ∷ []) ∷ ((11, Insert (key 1) 11) ∷ (12, Remove (key 1)) ∷ []) ∷ [])
     ((1, 49) ∷ (0, 54) ∷ (1, 9) ∷ (0, 44) ∷ (1, 48) ∷ (0, 17) ∷ (0, 1) ∷ (1, 1) ∷ []))
     ≡ (116 ∷ 51 ∷ 56 ∷ [], 1 ∷ 1 ∷ 4 ∷ [], 11 ∷ 1 ∷ 12 ∷ [], 2, 1, 0)
-unfolding class_of opening_words number_after blocks next_number half split apply change_leaves with_leaves opening_leaves directory_puts placing_of
-    prefix_of reply_in items_after overflows after_op change first_bits hash_of spread
+unfolding class_of opening_words number_after blocks next_number half split apply change_leaves with_leaves
+    opening_leaves directory_puts placing_of prefix_of reply_in items_after overflows after_op change first_bits hash_of
+    spread
 third_look_shows_applied = refl
 
-abbrev third_look_shows_frozen_settings : Settings
+abbrev pub third_look_shows_frozen_settings : Settings
 third_look_shows_frozen_settings = record {
   seats = 2;
   items = 1;
@@ -69,7 +70,7 @@ third_look_shows_frozen_settings = record {
   start_in_range = (omega arith, omega arith);
 }
 
-abbrev third_look_shows_frozen_setup : Setup
+abbrev pub third_look_shows_frozen_setup : Setup
 third_look_shows_frozen_setup = record {
   shape = record {
     settings = third_look_shows_frozen_settings;
@@ -83,14 +84,16 @@ third_look_shows_frozen_setup = record {
 third_look_shows_frozen :
     brief third_look_shows_frozen_setup
     (played third_look_shows_frozen_setup
-    (((1, Insert (key 1) 1) ∷ (2, Remove (key 1)) ∷ (3, Insert (key 32769) 3) ∷ []) ∷ ((11, Insert (key 2) 11) ∷ []) ∷ [])
+    (((1, Insert (key 1) 1) ∷ (2, Remove (key 1)) ∷ (3, Insert (key 32769) 3) ∷ []) ∷ ((11, Insert (key 2) 11) ∷ [])
+    ∷ [])
     ((0, 88) ∷ (1, 48) ∷ (0, 9) ∷ (1, 38) ∷ (0, 42) ∷ (1, 14) ∷ (0, 1) ∷ (1, 60) ∷ []))
     ≡ (45 ∷ 45 ∷ 50 ∷ 160 ∷ [], 1 ∷ 4 ∷ 1 ∷ 1 ∷ [], 1 ∷ 2 ∷ 3 ∷ 11 ∷ [], 2, 1, 0)
-unfolding class_of opening_words number_after blocks next_number half split apply change_leaves with_leaves opening_leaves directory_puts placing_of
-    prefix_of reply_in items_after overflows after_op change first_bits hash_of spread
+unfolding class_of opening_words number_after blocks next_number half split apply change_leaves with_leaves
+    opening_leaves directory_puts placing_of prefix_of reply_in items_after overflows after_op change first_bits hash_of
+    spread
 third_look_shows_frozen = refl
 
-abbrev helpers_change_applies_settings : Settings
+abbrev pub helpers_change_applies_settings : Settings
 helpers_change_applies_settings = record {
   seats = 2;
   items = 1;
@@ -102,7 +105,7 @@ helpers_change_applies_settings = record {
   start_in_range = (omega arith, omega arith);
 }
 
-abbrev helpers_change_applies_setup : Setup
+abbrev pub helpers_change_applies_setup : Setup
 helpers_change_applies_setup = record {
   shape = record {
     settings = helpers_change_applies_settings;
@@ -119,11 +122,12 @@ helpers_change_applies :
     (((1, Insert (key 2) 1) ∷ []) ∷ ((11, Insert (key 1) 11) ∷ (12, Insert (key 32769) 12) ∷ []) ∷ [])
     ((1, 43) ∷ (0, 49) ∷ (1, 14) ∷ (0, 1) ∷ (1, 110) ∷ []))
     ≡ (50 ∷ 117 ∷ 50 ∷ [], 1 ∷ 3 ∷ 1 ∷ [], 1 ∷ 11 ∷ 12 ∷ [], 2, 1, 0)
-unfolding class_of opening_words number_after blocks next_number half split apply change_leaves with_leaves opening_leaves directory_puts placing_of
-    prefix_of reply_in items_after overflows after_op change first_bits hash_of spread
+unfolding class_of opening_words number_after blocks next_number half split apply change_leaves with_leaves
+    opening_leaves directory_puts placing_of prefix_of reply_in items_after overflows after_op change first_bits hash_of
+    spread
 helpers_change_applies = refl
 
-abbrev second_round_finds_applied_settings : Settings
+abbrev pub second_round_finds_applied_settings : Settings
 second_round_finds_applied_settings = record {
   seats = 2;
   items = 1;
@@ -135,7 +139,7 @@ second_round_finds_applied_settings = record {
   start_in_range = (omega arith, omega arith);
 }
 
-abbrev second_round_finds_applied_setup : Setup
+abbrev pub second_round_finds_applied_setup : Setup
 second_round_finds_applied_setup = record {
   shape = record {
     settings = second_round_finds_applied_settings;
@@ -152,11 +156,12 @@ second_round_finds_applied :
     (((1, Insert (key 1) 1) ∷ (2, Insert (key 32769) 2) ∷ []) ∷ ((11, Insert (key 2) 11) ∷ []) ∷ [])
     ((0, 89) ∷ (1, 98) ∷ (0, 6) ∷ (0, 17) ∷ (1, 1) ∷ []))
     ≡ (45 ∷ 67 ∷ 99 ∷ [], 1 ∷ 1 ∷ 3 ∷ [], 1 ∷ 2 ∷ 11 ∷ [], 3, 2, 0)
-unfolding class_of opening_words number_after blocks next_number half split apply change_leaves with_leaves opening_leaves directory_puts placing_of
-    prefix_of reply_in items_after overflows after_op change first_bits hash_of spread
+unfolding class_of opening_words number_after blocks next_number half split apply change_leaves with_leaves
+    opening_leaves directory_puts placing_of prefix_of reply_in items_after overflows after_op change first_bits hash_of
+    spread
 second_round_finds_applied = refl
 
-abbrev second_root_leaves_round_settings : Settings
+abbrev pub second_root_leaves_round_settings : Settings
 second_root_leaves_round_settings = record {
   seats = 2;
   items = 1;
@@ -168,7 +173,7 @@ second_root_leaves_round_settings = record {
   start_in_range = (omega arith, omega arith);
 }
 
-abbrev second_root_leaves_round_setup : Setup
+abbrev pub second_root_leaves_round_setup : Setup
 second_root_leaves_round_setup = record {
   shape = record {
     settings = second_root_leaves_round_settings;
@@ -182,14 +187,16 @@ second_root_leaves_round_setup = record {
 second_root_leaves_round :
     brief second_root_leaves_round_setup
     (played second_root_leaves_round_setup
-    (((1, Insert (key 1) 1) ∷ (2, Insert (key 2) 2) ∷ []) ∷ ((11, Insert (key 32769) 11) ∷ (12, Insert (key 49153) 12) ∷ (13, Insert (key 40961) 13) ∷ []) ∷ [])
+    (((1, Insert (key 1) 1) ∷ (2, Insert (key 2) 2) ∷ []) ∷ ((11, Insert (key 32769) 11) ∷ (12, Insert (key 49153) 12)
+    ∷ (13, Insert (key 40961) 13) ∷ []) ∷ [])
     ((1, 145) ∷ (0, 217) ∷ (1, 11) ∷ (0, 1) ∷ (1, 152) ∷ []))
     ≡ (50 ∷ 168 ∷ 45 ∷ 128 ∷ 135 ∷ [], 1 ∷ 3 ∷ 1 ∷ 1 ∷ 1 ∷ [], 11 ∷ 1 ∷ 2 ∷ 12 ∷ 13 ∷ [], 6, 3, 0)
-unfolding class_of opening_words number_after blocks next_number half split apply change_leaves with_leaves opening_leaves directory_puts placing_of
-    prefix_of reply_in items_after overflows after_op change first_bits hash_of spread
+unfolding class_of opening_words number_after blocks next_number half split apply change_leaves with_leaves
+    opening_leaves directory_puts placing_of prefix_of reply_in items_after overflows after_op change first_bits hash_of
+    spread
 second_root_leaves_round = refl
 
-abbrev second_root_exchange_happens_settings : Settings
+abbrev pub second_root_exchange_happens_settings : Settings
 second_root_exchange_happens_settings = record {
   seats = 2;
   items = 1;
@@ -201,7 +208,7 @@ second_root_exchange_happens_settings = record {
   start_in_range = (omega arith, omega arith);
 }
 
-abbrev second_root_exchange_happens_setup : Setup
+abbrev pub second_root_exchange_happens_setup : Setup
 second_root_exchange_happens_setup = record {
   shape = record {
     settings = second_root_exchange_happens_settings;
@@ -215,14 +222,16 @@ second_root_exchange_happens_setup = record {
 second_root_exchange_happens :
     brief second_root_exchange_happens_setup
     (played second_root_exchange_happens_setup
-    (((1, Insert (key 1) 1) ∷ (2, Insert (key 2) 2) ∷ []) ∷ ((11, Insert (key 32769) 11) ∷ (12, Insert (key 49153) 12) ∷ (13, Insert (key 40961) 13) ∷ []) ∷ [])
+    (((1, Insert (key 1) 1) ∷ (2, Insert (key 2) 2) ∷ []) ∷ ((11, Insert (key 32769) 11) ∷ (12, Insert (key 49153) 12)
+    ∷ (13, Insert (key 40961) 13) ∷ []) ∷ [])
     ((1, 145) ∷ (0, 216) ∷ (1, 1) ∷ (0, 95) ∷ (0, 1) ∷ (1, 136) ∷ []))
     ≡ (50 ∷ 262 ∷ 45 ∷ 102 ∷ 135 ∷ [], 1 ∷ 3 ∷ 1 ∷ 1 ∷ 1 ∷ [], 11 ∷ 1 ∷ 12 ∷ 2 ∷ 13 ∷ [], 6, 3, 0)
-unfolding class_of opening_words number_after blocks next_number half split apply change_leaves with_leaves opening_leaves directory_puts placing_of
-    prefix_of reply_in items_after overflows after_op change first_bits hash_of spread
+unfolding class_of opening_words number_after blocks next_number half split apply change_leaves with_leaves
+    opening_leaves directory_puts placing_of prefix_of reply_in items_after overflows after_op change first_bits hash_of
+    spread
 second_root_exchange_happens = refl
 
-abbrev two_lost_root_exchanges_settings : Settings
+abbrev pub two_lost_root_exchanges_settings : Settings
 two_lost_root_exchanges_settings = record {
   seats = 2;
   items = 1;
@@ -234,7 +243,7 @@ two_lost_root_exchanges_settings = record {
   start_in_range = (omega arith, omega arith);
 }
 
-abbrev two_lost_root_exchanges_setup : Setup
+abbrev pub two_lost_root_exchanges_setup : Setup
 two_lost_root_exchanges_setup = record {
   shape = record {
     settings = two_lost_root_exchanges_settings;
@@ -248,14 +257,16 @@ two_lost_root_exchanges_setup = record {
 two_lost_root_exchanges :
     brief two_lost_root_exchanges_setup
     (played two_lost_root_exchanges_setup
-    (((1, Insert (key 1) 1) ∷ (2, Insert (key 2) 2) ∷ []) ∷ ((11, Insert (key 32769) 11) ∷ (12, Insert (key 49153) 12) ∷ (13, Insert (key 40961) 13) ∷ []) ∷ [])
+    (((1, Insert (key 1) 1) ∷ (2, Insert (key 2) 2) ∷ []) ∷ ((11, Insert (key 32769) 11) ∷ (12, Insert (key 49153) 12)
+    ∷ (13, Insert (key 40961) 13) ∷ []) ∷ [])
     ((1, 145) ∷ (0, 216) ∷ (1, 9) ∷ (0, 94) ∷ (1, 162) ∷ (0, 1) ∷ (0, 17) ∷ (1, 1) ∷ []))
     ≡ (50 ∷ 278 ∷ 45 ∷ 102 ∷ 170 ∷ [], 1 ∷ 3 ∷ 1 ∷ 1 ∷ 1 ∷ [], 11 ∷ 1 ∷ 12 ∷ 2 ∷ 13 ∷ [], 6, 3, 0)
-unfolding class_of opening_words number_after blocks next_number half split apply change_leaves with_leaves opening_leaves directory_puts placing_of
-    prefix_of reply_in items_after overflows after_op change first_bits hash_of spread
+unfolding class_of opening_words number_after blocks next_number half split apply change_leaves with_leaves
+    opening_leaves directory_puts placing_of prefix_of reply_in items_after overflows after_op change first_bits hash_of
+    spread
 two_lost_root_exchanges = refl
 
-abbrev last_look_shows_applied_settings : Settings
+abbrev pub last_look_shows_applied_settings : Settings
 last_look_shows_applied_settings = record {
   seats = 2;
   items = 1;
@@ -267,7 +278,7 @@ last_look_shows_applied_settings = record {
   start_in_range = (omega arith, omega arith);
 }
 
-abbrev last_look_shows_applied_setup : Setup
+abbrev pub last_look_shows_applied_setup : Setup
 last_look_shows_applied_setup = record {
   shape = record {
     settings = last_look_shows_applied_settings;
@@ -281,14 +292,16 @@ last_look_shows_applied_setup = record {
 last_look_shows_applied :
     brief last_look_shows_applied_setup
     (played last_look_shows_applied_setup
-    (((1, Insert (key 1) 1) ∷ (2, Insert (key 32769) 2) ∷ (3, Insert (key 16385) 3) ∷ []) ∷ ((11, Insert (key 2) 11) ∷ []) ∷ [])
+    (((1, Insert (key 1) 1) ∷ (2, Insert (key 32769) 2) ∷ (3, Insert (key 16385) 3) ∷ [])
+    ∷ ((11, Insert (key 2) 11) ∷ []) ∷ [])
     ((0, 142) ∷ (1, 24) ∷ (0, 13) ∷ (1, 45) ∷ (0, 75) ∷ (1, 6) ∷ (0, 1) ∷ (1, 17) ∷ []))
     ≡ (45 ∷ 99 ∷ 87 ∷ 92 ∷ [], 1 ∷ 1 ∷ 1 ∷ 3 ∷ [], 1 ∷ 2 ∷ 3 ∷ 11 ∷ [], 3, 2, 0)
-unfolding class_of opening_words number_after blocks next_number half split apply change_leaves with_leaves opening_leaves directory_puts placing_of
-    prefix_of reply_in items_after overflows after_op change first_bits hash_of spread
+unfolding class_of opening_words number_after blocks next_number half split apply change_leaves with_leaves
+    opening_leaves directory_puts placing_of prefix_of reply_in items_after overflows after_op change first_bits hash_of
+    spread
 last_look_shows_applied = refl
 
-abbrev root_exchange_in_round_two_settings : Settings
+abbrev pub root_exchange_in_round_two_settings : Settings
 root_exchange_in_round_two_settings = record {
   seats = 2;
   items = 1;
@@ -300,7 +313,7 @@ root_exchange_in_round_two_settings = record {
   start_in_range = (omega arith, omega arith);
 }
 
-abbrev root_exchange_in_round_two_setup : Setup
+abbrev pub root_exchange_in_round_two_setup : Setup
 root_exchange_in_round_two_setup = record {
   shape = record {
     settings = root_exchange_in_round_two_settings;
@@ -314,14 +327,16 @@ root_exchange_in_round_two_setup = record {
 root_exchange_in_round_two :
     brief root_exchange_in_round_two_setup
     (played root_exchange_in_round_two_setup
-    (((1, Insert (key 1) 1) ∷ (2, Insert (key 32769) 2) ∷ (3, Insert (key 16385) 3) ∷ []) ∷ ((11, Insert (key 2) 11) ∷ []) ∷ [])
+    (((1, Insert (key 1) 1) ∷ (2, Insert (key 32769) 2) ∷ (3, Insert (key 16385) 3) ∷ [])
+    ∷ ((11, Insert (key 2) 11) ∷ []) ∷ [])
     ((0, 142) ∷ (1, 24) ∷ (0, 1) ∷ (1, 120) ∷ (0, 51) ∷ (1, 1) ∷ []))
     ≡ (45 ∷ 99 ∷ 50 ∷ 145 ∷ [], 1 ∷ 1 ∷ 1 ∷ 3 ∷ [], 1 ∷ 2 ∷ 11 ∷ 3 ∷ [], 3, 2, 0)
-unfolding class_of opening_words number_after blocks next_number half split apply change_leaves with_leaves opening_leaves directory_puts placing_of
-    prefix_of reply_in items_after overflows after_op change first_bits hash_of spread
+unfolding class_of opening_words number_after blocks next_number half split apply change_leaves with_leaves
+    opening_leaves directory_puts placing_of prefix_of reply_in items_after overflows after_op change first_bits hash_of
+    spread
 root_exchange_in_round_two = refl
 
-abbrev number_in_two_leaves_settings : Settings
+abbrev pub number_in_two_leaves_settings : Settings
 number_in_two_leaves_settings = record {
   seats = 2;
   items = 1;
@@ -333,7 +348,7 @@ number_in_two_leaves_settings = record {
   start_in_range = (omega arith, omega arith);
 }
 
-abbrev number_in_two_leaves_setup : Setup
+abbrev pub number_in_two_leaves_setup : Setup
 number_in_two_leaves_setup = record {
   shape = record {
     settings = number_in_two_leaves_settings;
@@ -350,11 +365,12 @@ number_in_two_leaves :
     (((1, Insert (key 1) 1) ∷ (2, Insert (key 1) 2) ∷ []) ∷ ((11, Insert (key 2) 11) ∷ []) ∷ [])
     ((1, 8) ∷ (0, 148) ∷ (0, 1) ∷ (1, 17) ∷ []))
     ≡ (50 ∷ 99 ∷ 25 ∷ [], 1 ∷ 2 ∷ 3 ∷ [], 1 ∷ 2 ∷ 11 ∷ [], 3, 2, 0)
-unfolding class_of opening_words number_after blocks next_number half split apply change_leaves with_leaves opening_leaves directory_puts placing_of
-    prefix_of reply_in items_after overflows after_op change first_bits hash_of spread
+unfolding class_of opening_words number_after blocks next_number half split apply change_leaves with_leaves
+    opening_leaves directory_puts placing_of prefix_of reply_in items_after overflows after_op change first_bits hash_of
+    spread
 number_in_two_leaves = refl
 
-abbrev two_buckets_in_one_change_settings : Settings
+abbrev pub two_buckets_in_one_change_settings : Settings
 two_buckets_in_one_change_settings = record {
   seats = 2;
   items = 1;
@@ -366,7 +382,7 @@ two_buckets_in_one_change_settings = record {
   start_in_range = (omega arith, omega arith);
 }
 
-abbrev two_buckets_in_one_change_setup : Setup
+abbrev pub two_buckets_in_one_change_setup : Setup
 two_buckets_in_one_change_setup = record {
   shape = record {
     settings = two_buckets_in_one_change_settings;
@@ -380,9 +396,11 @@ two_buckets_in_one_change_setup = record {
 two_buckets_in_one_change :
     brief two_buckets_in_one_change_setup
     (played two_buckets_in_one_change_setup
-    (((1, Insert (key 1) 1) ∷ (2, Insert (key 2) 2) ∷ []) ∷ ((11, Insert (key 32769) 11) ∷ (12, Insert (key 32770) 12) ∷ []) ∷ [])
+    (((1, Insert (key 1) 1) ∷ (2, Insert (key 2) 2) ∷ []) ∷ ((11, Insert (key 32769) 11) ∷ (12, Insert (key 32770) 12)
+    ∷ []) ∷ [])
     ((1, 89) ∷ (0, 200) ∷ (0, 1) ∷ (1, 23) ∷ []))
     ≡ (50 ∷ 151 ∷ 45 ∷ 67 ∷ [], 1 ∷ 3 ∷ 1 ∷ 3 ∷ [], 11 ∷ 1 ∷ 2 ∷ 12 ∷ [], 4, 2, 0)
-unfolding class_of opening_words number_after blocks next_number half split apply change_leaves with_leaves opening_leaves directory_puts placing_of
-    prefix_of reply_in items_after overflows after_op change first_bits hash_of spread
+unfolding class_of opening_words number_after blocks next_number half split apply change_leaves with_leaves
+    opening_leaves directory_puts placing_of prefix_of reply_in items_after overflows after_op change first_bits hash_of
+    spread
 two_buckets_in_one_change = refl

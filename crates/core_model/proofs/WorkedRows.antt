@@ -1,5 +1,5 @@
--- Small tables worked by hand, computed from the definitions: what each seat is told and in how many steps, the order, the
--- leaves and the depth. Ports 1, 2 and 3 have the first hash bits 000, 16384 has 010 and 32768 has 100.
+-- Small tables worked by hand, computed from the definitions: what each seat is told and in how many steps, the order,
+-- the leaves and the depth. Ports 1, 2 and 3 have the first hash bits 000, 16384 has 010 and 32768 has 100.
 use Rattle.std.proofs.Common.{◌≡◌, ℕ, refl, [], ◌∷◌, map, length, arith}
 use Rattle.step_counts.specs.declared.settings.Settings.{Settings}
 use Rattle.step_counts.specs.StepCounts.{automatic_rows_of}
@@ -24,7 +24,7 @@ use Rattle.core_model.specs.Stores.{directory_puts}
 use Rattle.core_model.specs.Order.{placing_of}
 use Rattle.core_model.proofs.Plays.{key, played, summary}
 
-abbrev one_insert_settings : Settings
+abbrev pub one_insert_settings : Settings
 one_insert_settings = record {
   seats = 1;
   items = 2;
@@ -36,7 +36,7 @@ one_insert_settings = record {
   start_in_range = (omega arith, omega arith);
 }
 
-abbrev one_insert_setup : Setup
+abbrev pub one_insert_setup : Setup
 one_insert_setup = record {
   shape = record {
     settings = one_insert_settings;
@@ -59,11 +59,12 @@ one_insert :
       1,
       0,
     )
-unfolding class_of opening_words number_after blocks next_number half split apply change_leaves with_leaves opening_leaves directory_puts placing_of
-    prefix_of reply_in items_after overflows after_op change first_bits hash_of spread
+unfolding class_of opening_words number_after blocks next_number half split apply change_leaves with_leaves
+    opening_leaves directory_puts placing_of prefix_of reply_in items_after overflows after_op change first_bits hash_of
+    spread
 one_insert = refl
 
-abbrev third_insert_splits_settings : Settings
+abbrev pub third_insert_splits_settings : Settings
 third_insert_splits_settings = record {
   seats = 1;
   items = 2;
@@ -75,7 +76,7 @@ third_insert_splits_settings = record {
   start_in_range = (omega arith, omega arith);
 }
 
-abbrev third_insert_splits_setup : Setup
+abbrev pub third_insert_splits_setup : Setup
 third_insert_splits_setup = record {
   shape = record {
     settings = third_insert_splits_settings;
@@ -98,11 +99,12 @@ third_insert_splits :
       1,
       0,
     )
-unfolding class_of opening_words number_after blocks next_number half split apply change_leaves with_leaves opening_leaves directory_puts placing_of
-    prefix_of reply_in items_after overflows after_op change first_bits hash_of spread
+unfolding class_of opening_words number_after blocks next_number half split apply change_leaves with_leaves
+    opening_leaves directory_puts placing_of prefix_of reply_in items_after overflows after_op change first_bits hash_of
+    spread
 third_insert_splits = refl
 
-abbrev three_of_one_class_settings : Settings
+abbrev pub three_of_one_class_settings : Settings
 three_of_one_class_settings = record {
   seats = 1;
   items = 2;
@@ -114,7 +116,7 @@ three_of_one_class_settings = record {
   start_in_range = (omega arith, omega arith);
 }
 
-abbrev three_of_one_class_setup : Setup
+abbrev pub three_of_one_class_setup : Setup
 three_of_one_class_setup = record {
   shape = record {
     settings = three_of_one_class_settings;
@@ -137,11 +139,12 @@ three_of_one_class :
       2,
       0,
     )
-unfolding class_of opening_words number_after blocks next_number half split apply change_leaves with_leaves opening_leaves directory_puts placing_of
-    prefix_of reply_in items_after overflows after_op change first_bits hash_of spread
+unfolding class_of opening_words number_after blocks next_number half split apply change_leaves with_leaves
+    opening_leaves directory_puts placing_of prefix_of reply_in items_after overflows after_op change first_bits hash_of
+    spread
 three_of_one_class = refl
 
-abbrev other_seat_answers_settings : Settings
+abbrev pub other_seat_answers_settings : Settings
 other_seat_answers_settings = record {
   seats = 2;
   items = 2;
@@ -153,7 +156,7 @@ other_seat_answers_settings = record {
   start_in_range = (omega arith, omega arith);
 }
 
-abbrev other_seat_answers_setup : Setup
+abbrev pub other_seat_answers_setup : Setup
 other_seat_answers_setup = record {
   shape = record {
     settings = other_seat_answers_settings;
@@ -176,11 +179,12 @@ other_seat_answers :
       1,
       0,
     )
-unfolding class_of opening_words number_after blocks next_number half split apply change_leaves with_leaves opening_leaves directory_puts placing_of
-    prefix_of reply_in items_after overflows after_op change first_bits hash_of spread
+unfolding class_of opening_words number_after blocks next_number half split apply change_leaves with_leaves
+    opening_leaves directory_puts placing_of prefix_of reply_in items_after overflows after_op change first_bits hash_of
+    spread
 other_seat_answers = refl
 
-abbrev lookup_of_a_split_bucket_settings : Settings
+abbrev pub lookup_of_a_split_bucket_settings : Settings
 lookup_of_a_split_bucket_settings = record {
   seats = 2;
   items = 2;
@@ -192,7 +196,7 @@ lookup_of_a_split_bucket_settings = record {
   start_in_range = (omega arith, omega arith);
 }
 
-abbrev lookup_of_a_split_bucket_setup : Setup
+abbrev pub lookup_of_a_split_bucket_setup : Setup
 lookup_of_a_split_bucket_setup = record {
   shape = record {
     settings = lookup_of_a_split_bucket_settings;
@@ -206,20 +210,23 @@ lookup_of_a_split_bucket_setup = record {
 lookup_of_a_split_bucket :
     summary lookup_of_a_split_bucket_setup
     (played lookup_of_a_split_bucket_setup
-    (((1, Insert (key 1) 1) ∷ (3, Lookup (key 32768)) ∷ []) ∷ ((2, Insert (key 16384) 2) ∷ (4, Insert (key 32768) 4) ∷ []) ∷ [])
+    (((1, Insert (key 1) 1) ∷ (3, Lookup (key 32768)) ∷ []) ∷ ((2, Insert (key 16384) 2) ∷ (4, Insert (key 32768) 4)
+    ∷ []) ∷ [])
     ((0, 51) ∷ (1, 56) ∷ (0, 5) ∷ (1, 124) ∷ (0, 9) ∷ []))
     ≡ (
-      (1, New, 51, 0 ∷ 0 ∷ []) ∷ (3, Absent, 14, 1 ∷ 1 ∷ []) ∷ (2, New, 56, 1 ∷ 0 ∷ []) ∷ (4, New, 124, 1 ∷ 1 ∷ []) ∷ [],
+      (1, New, 51, 0 ∷ 0 ∷ []) ∷ (3, Absent, 14, 1 ∷ 1 ∷ []) ∷ (2, New, 56, 1 ∷ 0 ∷ []) ∷ (4, New, 124, 1 ∷ 1 ∷ [])
+          ∷ [],
       1 ∷ 2 ∷ 3 ∷ 4 ∷ [],
       (0, 1) ∷ (1, 1) ∷ [],
       1,
       0,
     )
-unfolding class_of opening_words number_after blocks next_number half split apply change_leaves with_leaves opening_leaves directory_puts placing_of
-    prefix_of reply_in items_after overflows after_op change first_bits hash_of spread
+unfolding class_of opening_words number_after blocks next_number half split apply change_leaves with_leaves
+    opening_leaves directory_puts placing_of prefix_of reply_in items_after overflows after_op change first_bits hash_of
+    spread
 lookup_of_a_split_bucket = refl
 
-abbrev lookup_after_insert_settings : Settings
+abbrev pub lookup_after_insert_settings : Settings
 lookup_after_insert_settings = record {
   seats = 2;
   items = 2;
@@ -231,7 +238,7 @@ lookup_after_insert_settings = record {
   start_in_range = (omega arith, omega arith);
 }
 
-abbrev lookup_after_insert_setup : Setup
+abbrev pub lookup_after_insert_setup : Setup
 lookup_after_insert_setup = record {
   shape = record {
     settings = lookup_after_insert_settings;
@@ -254,11 +261,12 @@ lookup_after_insert :
       1,
       0,
     )
-unfolding class_of opening_words number_after blocks next_number half split apply change_leaves with_leaves opening_leaves directory_puts placing_of
-    prefix_of reply_in items_after overflows after_op change first_bits hash_of spread
+unfolding class_of opening_words number_after blocks next_number half split apply change_leaves with_leaves
+    opening_leaves directory_puts placing_of prefix_of reply_in items_after overflows after_op change first_bits hash_of
+    spread
 lookup_after_insert = refl
 
-abbrev remove_makes_room_settings : Settings
+abbrev pub remove_makes_room_settings : Settings
 remove_makes_room_settings = record {
   seats = 1;
   items = 2;
@@ -270,7 +278,7 @@ remove_makes_room_settings = record {
   start_in_range = (omega arith, omega arith);
 }
 
-abbrev remove_makes_room_setup : Setup
+abbrev pub remove_makes_room_setup : Setup
 remove_makes_room_setup = record {
   shape = record {
     settings = remove_makes_room_settings;
@@ -284,20 +292,23 @@ remove_makes_room_setup = record {
 remove_makes_room :
     summary remove_makes_room_setup
     (played remove_makes_room_setup
-    (((1, Insert (key 1) 1) ∷ (2, Insert (key 2) 2) ∷ (3, Insert (key 3) 3) ∷ (4, Remove (key 1)) ∷ (5, Insert (key 3) 5) ∷ []) ∷ [])
+    (((1, Insert (key 1) 1) ∷ (2, Insert (key 2) 2) ∷ (3, Insert (key 3) 3) ∷ (4, Remove (key 1))
+    ∷ (5, Insert (key 3) 5) ∷ []) ∷ [])
     ((0, 297) ∷ []))
     ≡ (
-      (1, New, 45, 0 ∷ 0 ∷ []) ∷ (2, New, 45, 1 ∷ 0 ∷ []) ∷ (3, NoRoom, 117, 2 ∷ 0 ∷ []) ∷ (4, (Gone 1), 45, 3 ∷ 0 ∷ []) ∷ (5, New, 45, 4 ∷ 0 ∷ []) ∷ [],
+      (1, New, 45, 0 ∷ 0 ∷ []) ∷ (2, New, 45, 1 ∷ 0 ∷ []) ∷ (3, NoRoom, 117, 2 ∷ 0 ∷ []) ∷ (4, (Gone 1), 45, 3 ∷ 0 ∷ [])
+          ∷ (5, New, 45, 4 ∷ 0 ∷ []) ∷ [],
       1 ∷ 2 ∷ 3 ∷ 4 ∷ 5 ∷ [],
       (0, 2) ∷ (1, 2) ∷ (1, 1) ∷ [],
       2,
       0,
     )
-unfolding class_of opening_words number_after blocks next_number half split apply change_leaves with_leaves opening_leaves directory_puts placing_of
-    prefix_of reply_in items_after overflows after_op change first_bits hash_of spread
+unfolding class_of opening_words number_after blocks next_number half split apply change_leaves with_leaves
+    opening_leaves directory_puts placing_of prefix_of reply_in items_after overflows after_op change first_bits hash_of
+    spread
 remove_makes_room = refl
 
-abbrev seats_in_turn_settings : Settings
+abbrev pub seats_in_turn_settings : Settings
 seats_in_turn_settings = record {
   seats = 2;
   items = 2;
@@ -309,7 +320,7 @@ seats_in_turn_settings = record {
   start_in_range = (omega arith, omega arith);
 }
 
-abbrev seats_in_turn_setup : Setup
+abbrev pub seats_in_turn_setup : Setup
 seats_in_turn_setup = record {
   shape = record {
     settings = seats_in_turn_settings;
@@ -324,7 +335,15 @@ seats_in_turn :
     summary seats_in_turn_setup
     (played seats_in_turn_setup
     (((1, Insert (key 1) 1) ∷ []) ∷ ((2, Insert (key 2) 2) ∷ []) ∷ [])
-    ((0, 1) ∷ (1, 1) ∷ (0, 1) ∷ (1, 1) ∷ (0, 1) ∷ (1, 1) ∷ (0, 1) ∷ (1, 1) ∷ (0, 1) ∷ (1, 1) ∷ (0, 1) ∷ (1, 1) ∷ (0, 1) ∷ (1, 1) ∷ (0, 1) ∷ (1, 1) ∷ (0, 1) ∷ (1, 1) ∷ (0, 1) ∷ (1, 1) ∷ (0, 1) ∷ (1, 1) ∷ (0, 1) ∷ (1, 1) ∷ (0, 1) ∷ (1, 1) ∷ (0, 1) ∷ (1, 1) ∷ (0, 1) ∷ (1, 1) ∷ (0, 1) ∷ (1, 1) ∷ (0, 1) ∷ (1, 1) ∷ (0, 1) ∷ (1, 1) ∷ (0, 1) ∷ (1, 1) ∷ (0, 1) ∷ (1, 1) ∷ (0, 1) ∷ (1, 1) ∷ (0, 1) ∷ (1, 1) ∷ (0, 1) ∷ (1, 1) ∷ (0, 1) ∷ (1, 1) ∷ (0, 1) ∷ (1, 1) ∷ (0, 1) ∷ (1, 1) ∷ (0, 1) ∷ (1, 1) ∷ (0, 1) ∷ (1, 1) ∷ (0, 1) ∷ (1, 1) ∷ (0, 1) ∷ (1, 1) ∷ (0, 1) ∷ (1, 1) ∷ (0, 1) ∷ (1, 1) ∷ (0, 1) ∷ (1, 1) ∷ (0, 1) ∷ (1, 1) ∷ (0, 1) ∷ (1, 1) ∷ (0, 1) ∷ (1, 1) ∷ (0, 1) ∷ (1, 1) ∷ (0, 1) ∷ (1, 1) ∷ (0, 1) ∷ (1, 1) ∷ (0, 1) ∷ (1, 1) ∷ (0, 1) ∷ (1, 1) ∷ (0, 1) ∷ (1, 1) ∷ (0, 1) ∷ (1, 1) ∷ (0, 1) ∷ (1, 1) ∷ (0, 1) ∷ (1, 1) ∷ (0, 1) ∷ (1, 1) ∷ (0, 1) ∷ (1, 1) ∷ (0, 1) ∷ (1, 1) ∷ (0, 1) ∷ (1, 1) ∷ (0, 1) ∷ (1, 1) ∷ (0, 1) ∷ (1, 1) ∷ (0, 1) ∷ (1, 1) ∷ (0, 1) ∷ (1, 1) ∷ (0, 1) ∷ (1, 1) ∷ (0, 1) ∷ (1, 1) ∷ (0, 1) ∷ (1, 1) ∷ (1, 16) ∷ []))
+    ((0, 1) ∷ (1, 1) ∷ (0, 1) ∷ (1, 1) ∷ (0, 1) ∷ (1, 1) ∷ (0, 1) ∷ (1, 1) ∷ (0, 1) ∷ (1, 1) ∷ (0, 1) ∷ (1, 1) ∷ (0, 1)
+    ∷ (1, 1) ∷ (0, 1) ∷ (1, 1) ∷ (0, 1) ∷ (1, 1) ∷ (0, 1) ∷ (1, 1) ∷ (0, 1) ∷ (1, 1) ∷ (0, 1) ∷ (1, 1) ∷ (0, 1) ∷ (1, 1)
+    ∷ (0, 1) ∷ (1, 1) ∷ (0, 1) ∷ (1, 1) ∷ (0, 1) ∷ (1, 1) ∷ (0, 1) ∷ (1, 1) ∷ (0, 1) ∷ (1, 1) ∷ (0, 1) ∷ (1, 1) ∷ (0, 1)
+    ∷ (1, 1) ∷ (0, 1) ∷ (1, 1) ∷ (0, 1) ∷ (1, 1) ∷ (0, 1) ∷ (1, 1) ∷ (0, 1) ∷ (1, 1) ∷ (0, 1) ∷ (1, 1) ∷ (0, 1) ∷ (1, 1)
+    ∷ (0, 1) ∷ (1, 1) ∷ (0, 1) ∷ (1, 1) ∷ (0, 1) ∷ (1, 1) ∷ (0, 1) ∷ (1, 1) ∷ (0, 1) ∷ (1, 1) ∷ (0, 1) ∷ (1, 1) ∷ (0, 1)
+    ∷ (1, 1) ∷ (0, 1) ∷ (1, 1) ∷ (0, 1) ∷ (1, 1) ∷ (0, 1) ∷ (1, 1) ∷ (0, 1) ∷ (1, 1) ∷ (0, 1) ∷ (1, 1) ∷ (0, 1) ∷ (1, 1)
+    ∷ (0, 1) ∷ (1, 1) ∷ (0, 1) ∷ (1, 1) ∷ (0, 1) ∷ (1, 1) ∷ (0, 1) ∷ (1, 1) ∷ (0, 1) ∷ (1, 1) ∷ (0, 1) ∷ (1, 1) ∷ (0, 1)
+    ∷ (1, 1) ∷ (0, 1) ∷ (1, 1) ∷ (0, 1) ∷ (1, 1) ∷ (0, 1) ∷ (1, 1) ∷ (0, 1) ∷ (1, 1) ∷ (0, 1) ∷ (1, 1) ∷ (0, 1) ∷ (1, 1)
+    ∷ (0, 1) ∷ (1, 1) ∷ (0, 1) ∷ (1, 1) ∷ (0, 1) ∷ (1, 1) ∷ (0, 1) ∷ (1, 1) ∷ (1, 16) ∷ []))
     ≡ (
       (1, New, 56, 0 ∷ 0 ∷ []) ∷ (2, New, 72, 0 ∷ 0 ∷ []) ∷ [],
       1 ∷ 2 ∷ [],
@@ -332,11 +351,12 @@ seats_in_turn :
       1,
       0,
     )
-unfolding class_of opening_words number_after blocks next_number half split apply change_leaves with_leaves opening_leaves directory_puts placing_of
-    prefix_of reply_in items_after overflows after_op change first_bits hash_of spread
+unfolding class_of opening_words number_after blocks next_number half split apply change_leaves with_leaves
+    opening_leaves directory_puts placing_of prefix_of reply_in items_after overflows after_op change first_bits hash_of
+    spread
 seats_in_turn = refl
 
-abbrev other_seat_answers_a_stopped_one_settings : Settings
+abbrev pub other_seat_answers_a_stopped_one_settings : Settings
 other_seat_answers_a_stopped_one_settings = record {
   seats = 2;
   items = 2;
@@ -348,7 +368,7 @@ other_seat_answers_a_stopped_one_settings = record {
   start_in_range = (omega arith, omega arith);
 }
 
-abbrev other_seat_answers_a_stopped_one_setup : Setup
+abbrev pub other_seat_answers_a_stopped_one_setup : Setup
 other_seat_answers_a_stopped_one_setup = record {
   shape = record {
     settings = other_seat_answers_a_stopped_one_settings;
@@ -371,11 +391,12 @@ other_seat_answers_a_stopped_one :
       1,
       0,
     )
-unfolding class_of opening_words number_after blocks next_number half split apply change_leaves with_leaves opening_leaves directory_puts placing_of
-    prefix_of reply_in items_after overflows after_op change first_bits hash_of spread
+unfolding class_of opening_words number_after blocks next_number half split apply change_leaves with_leaves
+    opening_leaves directory_puts placing_of prefix_of reply_in items_after overflows after_op change first_bits hash_of
+    spread
 other_seat_answers_a_stopped_one = refl
 
-abbrev no_depth_to_split_settings : Settings
+abbrev pub no_depth_to_split_settings : Settings
 no_depth_to_split_settings = record {
   seats = 1;
   items = 1;
@@ -387,7 +408,7 @@ no_depth_to_split_settings = record {
   start_in_range = (omega arith, omega arith);
 }
 
-abbrev no_depth_to_split_setup : Setup
+abbrev pub no_depth_to_split_setup : Setup
 no_depth_to_split_setup = record {
   shape = record {
     settings = no_depth_to_split_settings;
@@ -410,11 +431,12 @@ no_depth_to_split :
       0,
       0,
     )
-unfolding class_of opening_words number_after blocks next_number half split apply change_leaves with_leaves opening_leaves directory_puts placing_of
-    prefix_of reply_in items_after overflows after_op change first_bits hash_of spread
+unfolding class_of opening_words number_after blocks next_number half split apply change_leaves with_leaves
+    opening_leaves directory_puts placing_of prefix_of reply_in items_after overflows after_op change first_bits hash_of
+    spread
 no_depth_to_split = refl
 
-abbrev lost_exchange_was_helped_settings : Settings
+abbrev pub lost_exchange_was_helped_settings : Settings
 lost_exchange_was_helped_settings = record {
   seats = 2;
   items = 2;
@@ -426,7 +448,7 @@ lost_exchange_was_helped_settings = record {
   start_in_range = (omega arith, omega arith);
 }
 
-abbrev lost_exchange_was_helped_setup : Setup
+abbrev pub lost_exchange_was_helped_setup : Setup
 lost_exchange_was_helped_setup = record {
   shape = record {
     settings = lost_exchange_was_helped_settings;
@@ -449,11 +471,12 @@ lost_exchange_was_helped :
       1,
       0,
     )
-unfolding class_of opening_words number_after blocks next_number half split apply change_leaves with_leaves opening_leaves directory_puts placing_of
-    prefix_of reply_in items_after overflows after_op change first_bits hash_of spread
+unfolding class_of opening_words number_after blocks next_number half split apply change_leaves with_leaves
+    opening_leaves directory_puts placing_of prefix_of reply_in items_after overflows after_op change first_bits hash_of
+    spread
 lost_exchange_was_helped = refl
 
-abbrev opening_of_three_settings : Settings
+abbrev pub opening_of_three_settings : Settings
 opening_of_three_settings = record {
   seats = 1;
   items = 2;
@@ -465,7 +488,7 @@ opening_of_three_settings = record {
   start_in_range = (omega arith, omega arith);
 }
 
-abbrev opening_of_three_setup : Setup
+abbrev pub opening_of_three_setup : Setup
 opening_of_three_setup = record {
   shape = record {
     settings = opening_of_three_settings;
@@ -479,13 +502,15 @@ opening_of_three_setup = record {
 opening_of_three :
     map {B = ℕ × ℕ × ℕ} (λ leaf. (leaf.bucket.prefix, leaf.bucket.depth, length leaf.bucket.items))
     (opening_leaves (rules_of opening_of_three_setup) 1 0
-    (record { key = key 1; value = 1 } ∷ record { key = key 16384; value = 2 } ∷ record { key = key 32768; value = 3 } ∷ []))
+    (record { key = key 1; value = 1 } ∷ record { key = key 16384; value = 2 } ∷ record { key = key 32768; value = 3 }
+    ∷ []))
     ≡ (0, 1, 2) ∷ (1, 1, 1) ∷ []
-unfolding class_of opening_words number_after blocks next_number half split apply change_leaves with_leaves opening_leaves directory_puts placing_of
-    prefix_of reply_in items_after overflows after_op change first_bits hash_of spread
+unfolding class_of opening_words number_after blocks next_number half split apply change_leaves with_leaves
+    opening_leaves directory_puts placing_of prefix_of reply_in items_after overflows after_op change first_bits hash_of
+    spread
 opening_of_three = refl
 
-abbrev words_at_opening_settings : Settings
+abbrev pub words_at_opening_settings : Settings
 words_at_opening_settings = record {
   seats = 1;
   items = 2;
@@ -497,7 +522,7 @@ words_at_opening_settings = record {
   start_in_range = (omega arith, omega arith);
 }
 
-abbrev words_at_opening_setup : Setup
+abbrev pub words_at_opening_setup : Setup
 words_at_opening_setup = record {
   shape = record {
     settings = words_at_opening_settings;
@@ -508,12 +533,17 @@ words_at_opening_setup = record {
 }
 
 -- the words of the layout's example
-words_at_opening : (played words_at_opening_setup (((1, Insert (key 1) 1) ∷ []) ∷ []) ([])).words ≡ 0 ∷ 0 ∷ 0 ∷ 0 ∷ 1 ∷ 0 ∷ 0 ∷ 0 ∷ 0 ∷ 0 ∷ 0 ∷ 0 ∷ 0 ∷ 1 ∷ 0 ∷ 0 ∷ 0 ∷ 0 ∷ 0 ∷ 0 ∷ 0 ∷ 0 ∷ 0 ∷ 0 ∷ 0 ∷ 1 ∷ 1 ∷ 0 ∷ 0 ∷ 0 ∷ 0 ∷ 0 ∷ 0 ∷ 0 ∷ 0 ∷ 0 ∷ 0 ∷ 0 ∷ 0 ∷ 0 ∷ 0 ∷ 0 ∷ 0 ∷ 0 ∷ 0 ∷ 0 ∷ 0 ∷ 0 ∷ 0 ∷ 0 ∷ 0 ∷ 0 ∷ 0 ∷ 0 ∷ 0 ∷ 0 ∷ 0 ∷ 0 ∷ 0 ∷ 0 ∷ 0 ∷ 0 ∷ 0 ∷ 0 ∷ 0 ∷ 0 ∷ 0 ∷ 0 ∷ 0 ∷ 0 ∷ 0 ∷ 0 ∷ 0 ∷ 0 ∷ 0 ∷ 0 ∷ 0 ∷ 0 ∷ 0 ∷ 0 ∷ 0 ∷ 0 ∷ 0 ∷ 0 ∷ 0 ∷ 0 ∷ 0 ∷ 0 ∷ 0 ∷ 0 ∷ 1 ∷ 0 ∷ 0 ∷ 1 ∷ 0 ∷ 0 ∷ 0 ∷ 0 ∷ []
-unfolding class_of opening_words number_after blocks next_number half split apply change_leaves with_leaves opening_leaves directory_puts placing_of
-    prefix_of reply_in items_after overflows after_op change first_bits hash_of spread
+words_at_opening : (played words_at_opening_setup (((1, Insert (key 1) 1) ∷ []) ∷ []) ([])).words ≡ 0 ∷ 0 ∷ 0 ∷ 0 ∷ 1
+    ∷ 0 ∷ 0 ∷ 0 ∷ 0 ∷ 0 ∷ 0 ∷ 0 ∷ 0 ∷ 1 ∷ 0 ∷ 0 ∷ 0 ∷ 0 ∷ 0 ∷ 0 ∷ 0 ∷ 0 ∷ 0 ∷ 0 ∷ 0 ∷ 1 ∷ 1 ∷ 0 ∷ 0 ∷ 0 ∷ 0 ∷ 0 ∷ 0 ∷ 0
+    ∷ 0 ∷ 0 ∷ 0 ∷ 0 ∷ 0 ∷ 0 ∷ 0 ∷ 0 ∷ 0 ∷ 0 ∷ 0 ∷ 0 ∷ 0 ∷ 0 ∷ 0 ∷ 0 ∷ 0 ∷ 0 ∷ 0 ∷ 0 ∷ 0 ∷ 0 ∷ 0 ∷ 0 ∷ 0 ∷ 0 ∷ 0 ∷ 0 ∷ 0
+    ∷ 0 ∷ 0 ∷ 0 ∷ 0 ∷ 0 ∷ 0 ∷ 0 ∷ 0 ∷ 0 ∷ 0 ∷ 0 ∷ 0 ∷ 0 ∷ 0 ∷ 0 ∷ 0 ∷ 0 ∷ 0 ∷ 0 ∷ 0 ∷ 0 ∷ 0 ∷ 0 ∷ 0 ∷ 0 ∷ 0 ∷ 0 ∷ 1 ∷ 0
+    ∷ 0 ∷ 1 ∷ 0 ∷ 0 ∷ 0 ∷ 0 ∷ []
+unfolding class_of opening_words number_after blocks next_number half split apply change_leaves with_leaves
+    opening_leaves directory_puts placing_of prefix_of reply_in items_after overflows after_op change first_bits hash_of
+    spread
 words_at_opening = refl
 
-abbrev words_after_insert_settings : Settings
+abbrev pub words_after_insert_settings : Settings
 words_after_insert_settings = record {
   seats = 1;
   items = 2;
@@ -525,7 +555,7 @@ words_after_insert_settings = record {
   start_in_range = (omega arith, omega arith);
 }
 
-abbrev words_after_insert_setup : Setup
+abbrev pub words_after_insert_setup : Setup
 words_after_insert_setup = record {
   shape = record {
     settings = words_after_insert_settings;
@@ -536,7 +566,13 @@ words_after_insert_setup = record {
 }
 
 -- the words of the layout's example
-words_after_insert : (played words_after_insert_setup (((1, Insert (key 1) 1) ∷ []) ∷ []) ((0, 45) ∷ [])).words ≡ 0 ∷ 1 ∷ 1 ∷ 2 ∷ 1 ∷ 0 ∷ 0 ∷ 1 ∷ 1 ∷ 0x0a0000010a000002 ∷ 0x0000000001005006 ∷ 1 ∷ 0 ∷ 1 ∷ 0 ∷ 0 ∷ 0 ∷ 0 ∷ 0 ∷ 0 ∷ 0 ∷ 0 ∷ 0 ∷ 0 ∷ 0 ∷ 1 ∷ 1 ∷ 0 ∷ 0 ∷ 0 ∷ 0 ∷ 0 ∷ 0 ∷ 0 ∷ 0 ∷ 0 ∷ 0 ∷ 0 ∷ 0 ∷ 1 ∷ 1 ∷ 0 ∷ 1 ∷ 0x0a0000010a000002 ∷ 0x0000000001005006 ∷ 1 ∷ 0 ∷ 0 ∷ 0 ∷ 1 ∷ 1 ∷ 0 ∷ 0 ∷ 0 ∷ 0 ∷ 0 ∷ 0 ∷ 0 ∷ 0 ∷ 0 ∷ 0 ∷ 0 ∷ 0 ∷ 0 ∷ 0 ∷ 0 ∷ 0 ∷ 0 ∷ 0 ∷ 0 ∷ 0 ∷ 0 ∷ 0 ∷ 0 ∷ 0 ∷ 0 ∷ 0 ∷ 0 ∷ 0 ∷ 0 ∷ 0 ∷ 0 ∷ 0 ∷ 0 ∷ 0 ∷ 0 ∷ 0 ∷ 0 ∷ 0 ∷ 0 ∷ 1 ∷ 0 ∷ 0 ∷ 1 ∷ 0 ∷ 0 ∷ 0 ∷ 0 ∷ []
-unfolding class_of opening_words number_after blocks next_number half split apply change_leaves with_leaves opening_leaves directory_puts placing_of
-    prefix_of reply_in items_after overflows after_op change first_bits hash_of spread
+words_after_insert : (played words_after_insert_setup (((1, Insert (key 1) 1) ∷ []) ∷ []) ((0, 45) ∷ [])).words ≡ 0 ∷ 1
+    ∷ 1 ∷ 2 ∷ 1 ∷ 0 ∷ 0 ∷ 1 ∷ 1 ∷ 0x0a0000010a000002 ∷ 0x0000000001005006 ∷ 1 ∷ 0 ∷ 1 ∷ 0 ∷ 0 ∷ 0 ∷ 0 ∷ 0 ∷ 0 ∷ 0 ∷ 0
+    ∷ 0 ∷ 0 ∷ 0 ∷ 1 ∷ 1 ∷ 0 ∷ 0 ∷ 0 ∷ 0 ∷ 0 ∷ 0 ∷ 0 ∷ 0 ∷ 0 ∷ 0 ∷ 0 ∷ 0 ∷ 1 ∷ 1 ∷ 0 ∷ 1 ∷ 0x0a0000010a000002
+    ∷ 0x0000000001005006 ∷ 1 ∷ 0 ∷ 0 ∷ 0 ∷ 1 ∷ 1 ∷ 0 ∷ 0 ∷ 0 ∷ 0 ∷ 0 ∷ 0 ∷ 0 ∷ 0 ∷ 0 ∷ 0 ∷ 0 ∷ 0 ∷ 0 ∷ 0 ∷ 0 ∷ 0 ∷ 0 ∷ 0
+    ∷ 0 ∷ 0 ∷ 0 ∷ 0 ∷ 0 ∷ 0 ∷ 0 ∷ 0 ∷ 0 ∷ 0 ∷ 0 ∷ 0 ∷ 0 ∷ 0 ∷ 0 ∷ 0 ∷ 0 ∷ 0 ∷ 0 ∷ 0 ∷ 0 ∷ 1 ∷ 0 ∷ 0 ∷ 1 ∷ 0 ∷ 0 ∷ 0 ∷ 0
+    ∷ []
+unfolding class_of opening_words number_after blocks next_number half split apply change_leaves with_leaves
+    opening_leaves directory_puts placing_of prefix_of reply_in items_after overflows after_op change first_bits hash_of
+    spread
 words_after_insert = refl

@@ -1,5 +1,6 @@
 -- What a seat does next, by its phase.
-use Rattle.std.specs.Prelude.{ℕ, ◌+◌, length, Some, slice_index}
+use Rattle.std.specs.Prelude.{ℕ, ◌+◌, length, Option, Some, None, slice_get, slice_index}
+use Rattle.step_counts.specs.declared.TheConstants.{BUCKET_HEAD_WORDS, COUNT_PLACE, DIRECTORY_HEAD_WORDS}
 use Rattle.step_counts.specs.declared.rows.SeatRows.{SeatRows}
 use Rattle.plain_map.specs.declared.full.FullKind.TheVariants.{OpRows, BucketRows, DirRows}
 use Rattle.word_rows.specs.declared.ops.OpRow.{OpRow}
@@ -16,11 +17,12 @@ use Rattle.core_model.specs.declared.events.Action.TheVariants as Act
 use Rattle.core_model.specs.Setup.{Setup, rules_of, next_number}
 use Rattle.core_model.specs.Phases.{Phase, SeeDone, StoreOp, Announce, FindRoot, FindDepth, FindEntry, LookWord, LookCount, LookItems, TryWord, TryRow, TryAnnouncement, TryOp, TryStore, TryExchange, DirRoot, DirDepth, DirEntries, DirAnnouncement, DirOp, DirWord, DirRow, DirStore, DirExchange, LastWord, LastRow, StoreDone, Stuck}
 use Rattle.core_model.specs.SeatStates.{Flight, Account, Stand, Idle, InFlight}
-use Rattle.core_model.specs.Stores.{Put, put_at, bucket_words, made_bucket, directory_puts}
+use Rattle.core_model.specs.Stores.{Put, bucket_words, made_bucket, directory_puts}
 
--- the store of one of these words
-abbrev pub store_of : Put → Ask
-store_of put = Store put.address put.word
+-- the store of one of these words. Past the last of them there is nothing to do
+abbrev pub store_of : Option Put → Ask
+store_of None = Nothing
+store_of (Some put) = Store put.address put.word
 
 -- the op of an update, as it is announced
 abbrev pub op_row_of : Flight → OpRow
@@ -35,10 +37,10 @@ ask_in setup seat used flight Announce = Store (Announcement seat) (next_number 
 ask_in setup seat used flight (FindRoot aim) = Load Root
 ask_in setup seat used flight (FindDepth aim root) = Load (DirectoryWord root 0)
 ask_in setup seat used flight (FindEntry aim root depth) =
-    Load (DirectoryWord root (2 + prefix_of (rules_of setup) depth (key_in flight.call)))
+    Load (DirectoryWord root (DIRECTORY_HEAD_WORDS + prefix_of (rules_of setup) depth (key_in flight.call)))
 ask_in setup seat used flight (LookWord root bucket) = Load (BucketWord bucket)
-ask_in setup seat used flight (LookCount row) = Load (BucketRowWord row 4)
-ask_in setup seat used flight (LookItems row count words) = Load (BucketRowWord row (5 + length words))
+ask_in setup seat used flight (LookCount row) = Load (BucketRowWord row COUNT_PLACE)
+ask_in setup seat used flight (LookItems row count words) = Load (BucketRowWord row (BUCKET_HEAD_WORDS + length words))
 ask_in setup seat used flight (TryWord round turn first) = Load (BucketWord round.bucket)
 ask_in setup seat used flight (TryRow round turn first row words) = Load (BucketRowWord row (length words))
 ask_in setup seat used flight (TryAnnouncement round attempt found) = Load (Announcement (length found))
@@ -50,13 +52,15 @@ ask_in setup seat used flight (TryExchange round attempt found) =
     Exchange (BucketWord round.bucket) attempt.row (next_number setup seat BucketRows used)
 ask_in setup seat used flight (DirRoot round turn first) = Load Root
 ask_in setup seat used flight (DirDepth round turn first root) = Load (DirectoryWord root 0)
-ask_in setup seat used flight (DirEntries round turn first root depth words) = Load (DirectoryWord root (2 + length words))
+ask_in setup seat used flight (DirEntries round turn first root depth words) =
+    Load (DirectoryWord root (DIRECTORY_HEAD_WORDS + length words))
 ask_in setup seat used flight (DirAnnouncement round attempt found) = Load (Announcement (length found))
 ask_in setup seat used flight (DirOp round attempt found op words) = Load (OpWord op (length words))
 ask_in setup seat used flight (DirWord round attempt found loaded bucket) = Load (BucketWord bucket)
-ask_in setup seat used flight (DirRow round attempt found loaded bucket row words) = Load (BucketRowWord row (length words))
+ask_in setup seat used flight (DirRow round attempt found loaded bucket row words) =
+    Load (BucketRowWord row (length words))
 ask_in setup seat used flight (DirStore round attempt found loaded stored) =
-    store_of (put_at (directory_puts setup seat used attempt found loaded) stored)
+    store_of (slice_get (directory_puts setup seat used attempt found loaded) stored)
 ask_in setup seat used flight (DirExchange round attempt found loaded) =
     Exchange Root attempt.root (next_number setup seat DirRows used)
 ask_in setup seat used flight (LastWord root bucket) = Load (BucketWord bucket)

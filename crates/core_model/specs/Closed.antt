@@ -10,8 +10,8 @@ use Rattle.plain_map.specs.declared.leaves.Leaf.{Leaf}
 use Rattle.plain_map.specs.PlainObject.{Sessions, pairs_of, map_after}
 use Rattle.plain_map.specs.History.{Placed, sessions_after}
 use Rattle.std.specs.FinMap.{empty}
+use Rattle.word_rows.specs.Shape.{Shape}
 use Rattle.bucket_states.specs.Items.{prefix_of}
-use Rattle.core_model.specs.Setup.{Setup}
 use Rattle.core_model.specs.Opening.{insert_of}
 use Rattle.core_model.specs.SeatStates.{Stand, Idle, InFlight, pending_of}
 use Rattle.core_model.specs.Worlds.{World}
@@ -35,27 +35,29 @@ begun_of world = flat_map (λ numbered. begun_by numbered.0 numbered.1.stand) (e
 abbrev pub closing_of : World → Closing
 closing_of world = record { words = world.words; records = records_of world; begun = begun_of world }
 
--- the buckets that the directory in use names, in the order of its places, which is that of their prefixes as bit strings
-abbrev pub closed_buckets : Setup → List ℕ → List ℕ
-closed_buckets setup words = each_once_first (directory_at setup words (root_of setup words)).entries
+-- the buckets that the directory in use names, in the order of its places, which is that of their prefixes as bit
+-- strings
+abbrev pub closed_buckets : Shape → List ℕ → List ℕ
+closed_buckets shape words = each_once_first (directory_at shape words (root_of shape words)).entries
 
 -- the leaves, in that order
-abbrev pub leaf_at : Setup → List ℕ → (bucket : ℕ) → Leaf
-leaf_at setup words bucket = record {
-  prefix = (bucket_at setup words (row_of setup words bucket)).prefix;
-  depth = (bucket_at setup words (row_of setup words bucket)).depth;
+abbrev pub leaf_at : Shape → List ℕ → (bucket : ℕ) → Leaf
+leaf_at shape words bucket = record {
+  prefix = (bucket_at shape words (row_of shape words bucket)).prefix;
+  depth = (bucket_at shape words (row_of shape words bucket)).depth;
 }
 
-abbrev pub closed_leaves : Setup → List ℕ → List Leaf
-closed_leaves setup words = map (leaf_at setup words) (closed_buckets setup words)
+abbrev pub closed_leaves : Shape → List ℕ → List Leaf
+closed_leaves shape words = map (leaf_at shape words) (closed_buckets shape words)
 
 -- the pairs, bucket by bucket
-abbrev pub closed_pairs : Setup → List ℕ → List Pair
-closed_pairs setup words = flat_map (λ bucket. (bucket_at setup words (row_of setup words bucket)).items) (closed_buckets setup words)
+abbrev pub closed_pairs : Shape → List ℕ → List Pair
+closed_pairs shape words =
+    flat_map (λ bucket. (bucket_at shape words (row_of shape words bucket)).items) (closed_buckets shape words)
 
 -- the depth of the directory
-abbrev pub closed_depth : Setup → List ℕ → ℕ
-closed_depth setup words = (directory_at setup words (root_of setup words)).depth
+abbrev pub closed_depth : Shape → List ℕ → ℕ
+closed_depth shape words = (directory_at shape words (root_of shape words)).depth
 
 -- each hash has exactly one leaf
 abbrev pub Cover : List Leaf → Type 0
@@ -71,7 +73,8 @@ sessions_with rules first = fold (λ sessions pair. map_after rules sessions (in
 
 -- how many keys that are held have this prefix
 abbrev pub keys_with_prefix : Rules → (depth prefix : ℕ) → Sessions → ℕ
-keys_with_prefix rules depth prefix sessions = count_by (λ pair. prefix_of rules depth pair.key == prefix) (pairs_of sessions)
+keys_with_prefix rules depth prefix sessions =
+    count_by (λ pair. prefix_of rules depth pair.key == prefix) (pairs_of sessions)
 
 -- after some of the first pairs, exactly so many keys have the prefix
 pub record FilledByFirst (rules : Rules) (first : List Pair) (depth prefix : ℕ) : Type 0 where
@@ -91,5 +94,6 @@ pub record FilledByCalls (rules : Rules) (first : List Pair) (order : List Place
 abbrev pub Warranted : Rules → (start : ℕ) → List Pair → List Placed → List Leaf → Type 0
 Warranted rules start first order leaves =
     All (λ leaf. start < leaf.depth →
-    FilledByFirst rules first (leaf.depth - 1) (leaf.prefix / 2) ⊎ FilledByCalls rules first order (leaf.depth - 1) (leaf.prefix / 2))
+    FilledByFirst rules first (leaf.depth - 1) (leaf.prefix / 2) ⊎ FilledByCalls rules first order (leaf.depth - 1)
+    (leaf.prefix / 2))
     leaves

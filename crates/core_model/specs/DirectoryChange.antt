@@ -1,5 +1,6 @@
 -- The directory change: each announced op whose bucket was loaded frozen without it is taken, in the order of the
--- seats. Its frozen bucket is split, the leaf of its key is split further while it must be, and the op is answered there.
+-- seats. Its frozen bucket is split, the leaf of its key is split further while it must be, and the op is answered
+-- there.
 -- Source: this project's own; that one caller takes the ops of others is the idea of helping in Fatourou, Kallimanis
 -- and Ropars, "An Efficient Wait-free Resizable Hash Table", SPAA 2018.
 use Rattle.std.specs.Prelude.{ℕ, suc, ◌-◌, ◌/◌, ◌^◌, ◌==◌, nat_lt, max, Bool, false, not, ◌&&◌, if◌then◌else◌, List, [], ◌∷◌, Option, Some, None, slice_index, find, fold, filter_map}
@@ -39,7 +40,8 @@ comes_from bucket leaf = option_map_or (λ from. from == bucket) leaf.from false
 abbrev pub with_parts : Rules → LoadedBucket → List NewLeaf → List NewLeaf
 with_parts rules loaded leaves =
     if list_any (comes_from loaded.bucket) leaves then leaves
-    else fold (λ so_far leaf. add_leaf rules leaf so_far) leaves (halves rules (record { from = Some loaded.bucket; bucket = loaded.state }))
+    else fold (λ so_far leaf. add_leaf rules leaf so_far) leaves
+    (halves rules (record { from = Some loaded.bucket; bucket = loaded.state }))
 
 -- the leaves after a seat's op, whose bucket was loaded so
 abbrev pub after_op_in : Rules → (seat : ℕ) → Op → List NewLeaf → Option LoadedBucket → List NewLeaf
@@ -50,13 +52,15 @@ after_op_in rules seat op leaves (Some loaded) =
     else leaves
 
 -- the leaves after one seat, which may have announced nothing
-abbrev pub leaves_after_seat : Rules → DirectoryState → List LoadedBucket → (seat : ℕ) → Option Op → List NewLeaf → List NewLeaf
+abbrev pub leaves_after_seat : Rules → DirectoryState → List LoadedBucket → (seat : ℕ) → Option Op → List NewLeaf →
+    List NewLeaf
 leaves_after_seat rules directory loaded seat None leaves = leaves
 leaves_after_seat rules directory loaded seat (Some op) leaves =
     after_op_in rules seat op leaves (loaded_of loaded (bucket_of rules directory (key_in op.call)))
 
 -- the leaves after these seats, the first of which has this number
-abbrev pub leaves_after : Rules → DirectoryState → List LoadedBucket → (seat : ℕ) → List (Option Op) → List NewLeaf → List NewLeaf
+abbrev pub leaves_after : Rules → DirectoryState → List LoadedBucket → (seat : ℕ) → List (Option Op) → List NewLeaf →
+    List NewLeaf
 leaves_after rules directory loaded seat [] leaves = leaves
 leaves_after rules directory loaded seat (op ∷ ops) leaves =
     leaves_after rules directory loaded (suc seat) ops (leaves_after_seat rules directory loaded seat op leaves)
@@ -74,7 +78,8 @@ depth_after directory leaves = fold (λ depth leaf. max depth leaf.bucket.depth)
 abbrev pub number_at : (depth place fresh was : ℕ) → List NewLeaf → ℕ
 number_at depth place fresh was [] = was
 number_at depth place fresh was (leaf ∷ leaves) =
-    if place / 2 ^ (depth - leaf.bucket.depth) == leaf.bucket.prefix then fresh else number_at depth place (suc fresh) was leaves
+    if place / 2 ^ (depth - leaf.bucket.depth) == leaf.bucket.prefix then fresh
+    else number_at depth place (suc fresh) was leaves
 
 -- the directory with these leaves, which are numbered from fresh on
 unfoldable pub with_leaves : (fresh : ℕ) → List NewLeaf → DirectoryState → DirectoryState
@@ -83,7 +88,8 @@ with_leaves fresh leaves directory =
     record {
       depth = depth;
       entries = first_values
-          (λ place. number_at depth place fresh (slice_index directory.entries (place / 2 ^ (depth - directory.depth))) leaves)
+          (λ place. number_at depth place fresh
+          (slice_index directory.entries (place / 2 ^ (depth - directory.depth))) leaves)
           (2 ^ depth);
     }
 

@@ -6,7 +6,6 @@ use Rattle.step_counts.specs.StepCounts.{bucket_row_words}
 use Rattle.step_counts.specs.declared.rows.SeatRows.{SeatRows}
 use Rattle.plain_map.specs.declared.rules.Rules.{Rules}
 use Rattle.plain_map.specs.declared.calls.Reply.{Reply}
-use Rattle.plain_map.specs.declared.calls.Reply.TheVariants.{Absent}
 use Rattle.plain_map.specs.declared.full.FullKind.TheVariants.{BucketRows}
 use Rattle.plain_map.specs.Calls.{key_in}
 use Rattle.word_rows.specs.OpWords.{op_of_words}
@@ -38,9 +37,14 @@ op_in_words seat words = record { seat = seat; number = (op_of_words words).numb
 abbrev pub is_applied : (seat : ℕ) → Flight → BucketState → Bool
 is_applied seat flight bucket = nat_le flight.number (slice_index bucket.applied seat)
 
+-- the call is answered so, by the row with this number. Where a call is applied there always is a reply
+abbrev pub answered_with : (row : ℕ) → Option Reply → Phase
+answered_with row None = Stuck
+answered_with row (Some reply) = StoreDone reply row
+
 -- the reply is that of the seat in this bucket, whose row has this number
 abbrev pub answered_by : (seat : ℕ) → BucketState → (row : ℕ) → Phase
-answered_by seat bucket row = StoreDone (unwrap_or (slice_index_or bucket.replies seat None) Absent) row
+answered_by seat bucket row = answered_with row (slice_index_or bucket.replies seat None)
 
 -- all done words are seen
 abbrev pub after_seeing : Flight → Phase
@@ -50,7 +54,8 @@ after_seeing flight = if is_update flight.call then StoreOp 0 else FindRoot ForL
 abbrev pub after_find : Aim → (root bucket : ℕ) → Phase
 after_find ForLookup root bucket = LookWord root bucket
 after_find ForFirstRound root bucket = TryWord (record { turn = 1; first = root; root = root; bucket = bucket }) 1 None
-after_find (ForSecondRound first) root bucket = TryWord (record { turn = 2; first = first; root = root; bucket = bucket }) 1 None
+after_find (ForSecondRound first) root bucket =
+    TryWord (record { turn = 2; first = first; root = root; bucket = bucket }) 1 None
 after_find ForLastLook root bucket = LastWord root bucket
 
 -- so many words of the items of a row are loaded by a lookup
@@ -70,17 +75,24 @@ after_row seat flight round attempt =
 abbrev pub after_row_words : Setup → (seat : ℕ) → Flight → Round → (turn first row : ℕ) → List ℕ → Phase
 after_row_words setup seat flight round turn first row words =
     if nat_lt (length words) (bucket_row_words (settings_of setup)) then TryRow round turn first row words
-    else after_row seat flight round (record { turn = turn; first = first; row = row; state = bucket_in_words setup words })
+    else after_row seat flight round (record {
+      turn = turn;
+      first = first;
+      row = row;
+      state = bucket_in_words setup words;
+    })
 
 -- the ops of so many seats are found
 abbrev pub after_found : Setup → Round → BucketTry → List (Option Op) → Phase
 after_found setup round attempt found =
-    if nat_lt (length found) (seats_of setup) then TryAnnouncement round attempt found else TryStore round attempt found 0
+    if nat_lt (length found) (seats_of setup) then TryAnnouncement round attempt found
+    else TryStore round attempt found 0
 
--- the new row is the bucket's
+-- the new row is the bucket's. In it the call is applied, or it is frozen
 abbrev pub after_exchange : (seat : ℕ) → Flight → Round → BucketState → (row : ℕ) → Phase
 after_exchange seat flight round made row =
-    if is_applied seat flight made then answered_by seat made row else DirRoot round 1 None
+    if is_applied seat flight made then answered_by seat made row
+    else (if made.frozen then DirRoot round 1 None else Stuck)
 
 -- the round is left without the reply
 abbrev pub after_round : Round → Phase
@@ -112,13 +124,15 @@ after_loaded setup round attempt found loaded =
 -- the ops of so many seats are found by a directory try
 abbrev pub after_dir_found : Setup → Round → DirectoryTry → List (Option Op) → Phase
 after_dir_found setup round attempt found =
-    if nat_lt (length found) (seats_of setup) then DirAnnouncement round attempt found else after_loaded setup round attempt found []
+    if nat_lt (length found) (seats_of setup) then DirAnnouncement round attempt found
+    else after_loaded setup round attempt found []
 
 -- so many words of the row of one of these buckets are loaded
 abbrev pub after_loaded_words :
     Setup → Round → DirectoryTry → List (Option Op) → List LoadedBucket → (bucket row : ℕ) → List ℕ → Phase
 after_loaded_words setup round attempt found loaded bucket row words =
-    if nat_lt (length words) (bucket_row_words (settings_of setup)) then DirRow round attempt found loaded bucket row words
+    if nat_lt (length words) (bucket_row_words (settings_of setup))
+    then DirRow round attempt found loaded bucket row words
     else after_loaded setup round attempt found
     (more loaded (record { bucket = bucket; row = row; state = bucket_in_words setup words }))
 
@@ -143,20 +157,23 @@ after_lost_root round attempt = if attempt.turn == 1 then DirRoot round 2 (Some 
 abbrev pub after_last_words : Setup → (seat : ℕ) → Flight → (row : ℕ) → List ℕ → Phase
 after_last_words setup seat flight row words =
     if nat_lt (length words) (bucket_row_words (settings_of setup)) then LastRow row words
-    else (if is_applied seat flight (bucket_in_words setup words) then answered_by seat (bucket_in_words setup words) row else Stuck)
+    else (if is_applied seat flight (bucket_in_words setup words)
+    then answered_by seat (bucket_in_words setup words) row else Stuck)
 
 -- the phase after the word that was found. used is what the seat had published before
 abbrev pub phase_after : Setup → (seat : ℕ) → SeatRows → Flight → Phase → (word : ℕ) → Phase
 phase_after setup seat used flight SeeDone word =
     if nat_lt (length flight.seen + 1) (seats_of setup) then SeeDone else after_seeing flight
-phase_after setup seat used flight (StoreOp stored) word = if nat_lt (stored + 1) OP_WORDS then StoreOp (stored + 1) else Announce
+phase_after setup seat used flight (StoreOp stored) word =
+    if nat_lt (stored + 1) OP_WORDS then StoreOp (stored + 1) else Announce
 phase_after setup seat used flight Announce word = FindRoot ForFirstRound
 phase_after setup seat used flight (FindRoot aim) word = FindDepth aim word
 phase_after setup seat used flight (FindDepth aim root) word = FindEntry aim root word
 phase_after setup seat used flight (FindEntry aim root depth) word = after_find aim root word
 phase_after setup seat used flight (LookWord root bucket) word = LookCount word
 phase_after setup seat used flight (LookCount row) word = after_items setup flight row word []
-phase_after setup seat used flight (LookItems row count words) word = after_items setup flight row count (more words word)
+phase_after setup seat used flight (LookItems row count words) word =
+    after_items setup flight row count (more words word)
 phase_after setup seat used flight (TryWord round turn first) word = TryRow round turn (unwrap_or first word) word []
 phase_after setup seat used flight (TryRow round turn first row words) word =
     after_row_words setup seat flight round turn first row (more words word)
@@ -173,7 +190,8 @@ phase_after setup seat used flight (TryExchange round attempt found) word =
     then after_exchange seat flight round (made_bucket setup attempt found) (next_number setup seat BucketRows used)
     else TryWord round (attempt.turn + 1) (Some attempt.first)
 phase_after setup seat used flight (DirRoot round turn first) word = DirDepth round turn (unwrap_or first word) word
-phase_after setup seat used flight (DirDepth round turn first root) word = after_entries setup flight round turn first root word []
+phase_after setup seat used flight (DirDepth round turn first root) word =
+    after_entries setup flight round turn first root word []
 phase_after setup seat used flight (DirEntries round turn first root depth words) word =
     after_entries setup flight round turn first root depth (more words word)
 phase_after setup seat used flight (DirAnnouncement round attempt found) word =
@@ -181,14 +199,16 @@ phase_after setup seat used flight (DirAnnouncement round attempt found) word =
 phase_after setup seat used flight (DirOp round attempt found op words) word =
     if nat_lt (length words + 1) OP_WORDS then DirOp round attempt found op (more words word)
     else after_dir_found setup round attempt (more found (Some (op_in_words (length found) (more words word))))
-phase_after setup seat used flight (DirWord round attempt found loaded bucket) word = DirRow round attempt found loaded bucket word []
+phase_after setup seat used flight (DirWord round attempt found loaded bucket) word =
+    DirRow round attempt found loaded bucket word []
 phase_after setup seat used flight (DirRow round attempt found loaded bucket row words) word =
     after_loaded_words setup round attempt found loaded bucket row (more words word)
 phase_after setup seat used flight (DirStore round attempt found loaded stored) word =
     after_puts round attempt found loaded (length (directory_puts setup seat used attempt found loaded)) (stored + 1)
 phase_after setup seat used flight (DirExchange round attempt found loaded) word =
     if word == attempt.root
-    then answered_by_leaf (rules_of setup) seat flight (next_number setup seat BucketRows used) (made_leaves setup attempt found loaded)
+    then answered_by_leaf (rules_of setup) seat flight (next_number setup seat BucketRows used)
+    (made_leaves setup attempt found loaded)
     else after_lost_root round attempt
 phase_after setup seat used flight (LastWord root bucket) word = LastRow word []
 phase_after setup seat used flight (LastRow row words) word = after_last_words setup seat flight row (more words word)

@@ -28,12 +28,16 @@ leaf_of rules key leaves = find (λ leaf. is_in rules key leaf.bucket) leaves
 
 -- both parts
 abbrev pub halves : Rules → NewLeaf → List NewLeaf
-halves rules leaf = record leaf { bucket = half rules 0 leaf.bucket } ∷ record leaf { bucket = half rules 1 leaf.bucket } ∷ []
+halves rules leaf = record leaf { bucket = half rules 0 leaf.bucket } ∷ record leaf {
+  bucket =
+      half rules 1 leaf.bucket;
+} ∷ []
 
 -- the leaves with these in place of the leaf of the key
 abbrev pub at_leaf : Rules → Key → (NewLeaf → List NewLeaf) → List NewLeaf → List NewLeaf
 at_leaf rules key f [] = []
-at_leaf rules key f (leaf ∷ leaves) = if is_in rules key leaf.bucket then f leaf ++ leaves else leaf ∷ at_leaf rules key f leaves
+at_leaf rules key f (leaf ∷ leaves) =
+    if is_in rules key leaf.bucket then f leaf ++ leaves else leaf ∷ at_leaf rules key f leaves
 
 -- the small step Split: the leaf of the key becomes its two parts
 unfoldable pub split : Rules → Key → List NewLeaf → List NewLeaf
@@ -47,7 +51,8 @@ apply rules seat op leaves =
 -- the call inserts a new key, and the leaf of its key has no place and can be split
 abbrev pub must_split : Rules → Call → List NewLeaf → Bool
 must_split rules call leaves =
-    list_any (λ leaf. is_in rules (key_in call) leaf.bucket && overflows rules leaf.bucket.depth leaf.bucket.items call) leaves
+    list_any (λ leaf. is_in rules (key_in call) leaf.bucket
+    && overflows rules leaf.bucket.depth leaf.bucket.items call) leaves
 
 -- the leaf of the call's key is split as long as it must be, and at most so often
 abbrev pub split_for : Rules → Call → (most : ℕ) → List NewLeaf → List NewLeaf

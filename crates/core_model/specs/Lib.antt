@@ -9,6 +9,9 @@ pub mod Stores
 pub mod Asks
 pub mod Goes
 pub mod Worlds
+pub mod Steps
+pub mod Fits
+pub mod Program
 pub mod Reading
 pub mod Order
 pub mod Closed
@@ -16,6 +19,11 @@ pub mod Shown
 pub mod Helping
 pub mod Promises
 pub mod Helped
+pub mod Rows
+pub mod Tries
+pub mod Needs
+pub mod Schedules
 pub mod Histories
+pub mod Turns
 pub mod DirectoryLaws
 pub mod OpeningLaws

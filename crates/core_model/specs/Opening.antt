@@ -14,7 +14,8 @@ use Rattle.core_model.specs.DirectoryChange.{with_leaves}
 
 -- the empty leaf of this prefix
 abbrev pub empty_leaf : (seats depth prefix : ℕ) → NewLeaf
-empty_leaf seats depth prefix = record { from = None; bucket = record (empty_state seats) { prefix = prefix; depth = depth } }
+empty_leaf seats depth prefix =
+    record { from = None; bucket = record (empty_state seats) { prefix = prefix; depth = depth } }
 
 -- the empty leaves of a depth
 abbrev pub empty_leaves : (seats depth : ℕ) → List NewLeaf
@@ -28,7 +29,12 @@ insert_of pair = Insert pair.key pair.value
 abbrev pub put_in : Rules → Pair → List NewLeaf → List NewLeaf
 put_in rules pair leaves =
     at_leaf rules pair.key
-    (λ leaf. record leaf { bucket = record leaf.bucket { items = items_after rules leaf.bucket.items (insert_of pair) } } ∷ [])
+    (λ leaf. record leaf {
+      bucket = record leaf.bucket {
+        items = items_after rules leaf.bucket.items
+            (insert_of pair);
+      };
+    } ∷ [])
     leaves
 
 -- the leaves after one more pair

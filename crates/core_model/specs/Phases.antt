@@ -1,5 +1,7 @@
--- Where a seat stands in its call. A phase keeps what the words that were loaded said, as far as it is still needed: the
--- words of the row at hand, the numbers of rows and buckets, the ops that were found and the buckets that were loaded.
+-- Where a seat stands in its call. A phase keeps what the words that were loaded said, as far as it is still needed:
+-- the words of the row at hand, the numbers of rows and buckets, the ops that were found and the buckets that were
+-- loaded. Some numbers are kept for the proofs alone, and no step depends on them: what is called first (of a round, of
+-- a try, in an aim or in a phase), and the root of a round and of the phases LookWord and LastWord.
 -- Source: this project's own. Announcing, helping and the order of loads are after Fatourou, Kallimanis and Ropars,
 -- "An Efficient Wait-free Resizable Hash Table", SPAA 2018, as the idea alone.
 use Rattle.std.specs.Prelude.{ℕ, List, Option}
@@ -16,7 +18,7 @@ use Rattle.core_model.specs.DirectoryChange.{LoadedBucket}
 pub record BucketTry : Type 0 where
   -- which one, 1 or 2; the look after two lost exchanges is 3
   pub turn : ℕ
-  -- the row that the first try of the round loaded
+  -- the row that the first try of the round loaded (for the proofs alone)
   pub first : ℕ
   -- the row that this try loaded, and what it says
   pub row : ℕ
@@ -26,7 +28,7 @@ pub record BucketTry : Type 0 where
 pub record DirectoryTry : Type 0 where
   -- which one, 1 or 2
   pub turn : ℕ
-  -- the directory row that the first directory try of the round loaded
+  -- the directory row that the first directory try of the round loaded (for the proofs alone)
   pub first : ℕ
   -- the directory row that this try loaded, and what it says
   pub root : ℕ
@@ -65,12 +67,14 @@ pub data Phase : Type 0 where
   DirAnnouncement : (round : Round) (attempt : DirectoryTry) (found : List (Option Op)) → Phase
   DirOp : (round : Round) (attempt : DirectoryTry) (found : List (Option Op)) (op : ℕ) (words : List ℕ) → Phase
   -- the bucket of the next announced op: its word and its row
-  DirWord : (round : Round) (attempt : DirectoryTry) (found : List (Option Op)) (loaded : List LoadedBucket) (bucket : ℕ) → Phase
+  DirWord : (round : Round) (attempt : DirectoryTry) (found : List (Option Op)) (loaded : List LoadedBucket)
+      (bucket : ℕ) → Phase
   DirRow :
       (round : Round) (attempt : DirectoryTry) (found : List (Option Op)) (loaded : List LoadedBucket) (bucket row : ℕ)
       (words : List ℕ) → Phase
   -- the new leaves and the new directory row, and the exchange of the root
-  DirStore : (round : Round) (attempt : DirectoryTry) (found : List (Option Op)) (loaded : List LoadedBucket) (stored : ℕ) → Phase
+  DirStore : (round : Round) (attempt : DirectoryTry) (found : List (Option Op)) (loaded : List LoadedBucket)
+      (stored : ℕ) → Phase
   DirExchange : (round : Round) (attempt : DirectoryTry) (found : List (Option Op)) (loaded : List LoadedBucket) → Phase
   -- the last look of an update: the bucket word and its row
   LastWord : (root bucket : ℕ) → Phase

@@ -50,7 +50,13 @@ seen_counts seen = record { counts = seen ++ replicate (MOST_SEATS - length seen
 
 -- a call as it begins: the seat's next
 abbrev pub begun : Account → (packet : ℕ) → Call → Flight
-begun account packet call = record { packet = packet; call = call; number = length account.records + 1; seen = []; steps = 0 }
+begun account packet call = record {
+  packet = packet;
+  call = call;
+  number = length account.records + 1;
+  seen = [];
+  steps = 0;
+}
 
 -- the record of an answered call. The store of the done word is the last of its steps
 abbrev pub record_of : (seat : ℕ) → Flight → Reply → (place : ℕ) → Record

@@ -8,6 +8,7 @@ use Rattle.plain_map.specs.declared.keys.Key.{Key}
 use Rattle.plain_map.specs.declared.keys.Pair.{Pair}
 use Rattle.plain_map.specs.declared.rules.Rules.{Rules}
 use Rattle.plain_map.specs.PlainObject.{class_of}
+use Rattle.plain_map.specs.Updates.{value_limit}
 use Rattle.word_rows.specs.Shape.{Shape, IsShape, AreBelow, of_kind, first_number}
 use Rattle.bucket_states.specs.Parts.{HasDistinctKeys}
 
@@ -26,7 +27,11 @@ seats_of setup = setup.shape.settings.seats
 
 -- the room of a bucket, the greatest depth and the hashing
 abbrev pub rules_of : Setup → Rules
-rules_of setup = record { items = setup.shape.settings.items; depth = setup.shape.settings.depth; hashing = setup.hashing }
+rules_of setup = record {
+  items = setup.shape.settings.items;
+  depth = setup.shape.settings.depth;
+  hashing = setup.hashing;
+}
 
 -- the number that the seat uses next, where it has published so much
 unfoldable pub next_number : Setup → (seat : ℕ) → FullKind → (used : SeatRows) → ℕ
@@ -40,7 +45,7 @@ pub record IsKey (key : Key) : Type 0 where
 -- a pair that can be kept
 pub record IsPair (pair : Pair) : Type 0 where
   pub key : IsKey pair.key
-  pub value : pair.value < 2 ^ 61
+  pub value : pair.value < value_limit
 
 -- how many of these pairs are in the class of the key
 abbrev pub classmates : Rules → Key → List Pair → ℕ
@@ -49,7 +54,8 @@ classmates rules key pairs = count_by (λ other. class_of rules other.key == cla
 -- each pair finds fewer earlier ones in its class than a bucket has room for
 abbrev pub HaveRoom : Rules → List Pair → Type 0
 HaveRoom rules first =
-    (front back : List Pair) (pair : Pair) → first ≡ front ++ pair ∷ back → classmates rules pair.key front < rules.items
+    (front back : List Pair) (pair : Pair) → first ≡ front ++ pair ∷ back →
+    classmates rules pair.key front < rules.items
 
 -- the pair at this place is the first that finds no room
 pub record IsFirstWithoutRoom (rules : Rules) (first : List Pair) (place : ℕ) : Type 0 where

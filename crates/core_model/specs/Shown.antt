@@ -1,9 +1,10 @@
--- What it means that a shared table shows a run: its words are those of the run, and its views hold the states of the seats.
+-- What it means that a shared table shows a run: its words are those of the run, and its views hold the states of the
+-- seats.
 use Rattle.std.specs.Prelude.{◌≡◌, ℕ, ◌<◌, ◌==◌, List, ◌++◌, All, count_by, sum_by}
 use Rattle.core_model.specs.declared.events.Event.{Event}
 use Rattle.core_model.specs.Setup.{Setup, seats_of}
 use Rattle.core_model.specs.SeatStates.{SeatState}
-use Rattle.core_model.specs.Worlds.{IsRun, world_after, seat_in}
+use Rattle.core_model.specs.Worlds.{IsRun, world_after, seat_in, events_of}
 
 -- one seat as a view holds it: with what the table was opened with, the seat's state, and the beginning of the run that
 -- it knows
@@ -17,13 +18,14 @@ pub record Holding : Type 0 where
 abbrev pub Bundle : Type 0
 Bundle = List Holding
 
--- the holding is that of a seat of this run
+-- the holding is that of a seat of this run, and knows all of the seat's own events
 pub record IsOfRun (setup : Setup) (events : List Event) (holding : Holding) : Type 0 where
   pub opened : holding.setup ≡ setup
   pub seat : holding.seat < seats_of setup
   pub state : holding.state ≡ seat_in (world_after setup events) holding.seat
   pub later : List Event
   pub known : events ≡ holding.known ++ later
+  pub own : events_of holding.seat later ≡ 0
 
 -- how many holdings of the seat there are
 abbrev pub times_in : (seat : ℕ) → List Bundle → ℕ

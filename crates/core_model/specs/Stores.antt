@@ -1,11 +1,11 @@
 -- The words that a seat stores, with their addresses.
-use Rattle.std.specs.Prelude.{ℕ, suc, List, [], ◌∷◌, ◌++◌, Option, Some, slice_set, slice_index_or, fold}
+use Rattle.std.specs.Prelude.{ℕ, suc, List, [], ◌∷◌, ◌++◌, Option, Some, slice_set, fold}
 use Rattle.std.specs.Option.{option_map, option_and_then}
 use Rattle.step_counts.specs.declared.rows.SeatRows.{SeatRows}
 use Rattle.plain_map.specs.declared.full.FullKind.TheVariants.{BucketRows, BucketWords, DirRows}
 use Rattle.word_rows.specs.Shape.{Shape}
 use Rattle.word_rows.specs.declared.addresses.Address.{Address}
-use Rattle.word_rows.specs.declared.addresses.Address.TheVariants.{Root, BucketWord, BucketRowWord, DirectoryWord}
+use Rattle.word_rows.specs.declared.addresses.Address.TheVariants.{BucketWord, BucketRowWord, DirectoryWord}
 use Rattle.word_rows.specs.Places.{place}
 use Rattle.word_rows.specs.BucketWords.{words_of_bucket}
 use Rattle.word_rows.specs.DirectoryWords.{words_of_directory}
@@ -34,7 +34,8 @@ bucket_words setup base bucket = words_of_bucket (settings_of setup) (row_of_sta
 
 -- the words of the row of a directory
 abbrev pub directory_words : (base : Option ℕ) → DirectoryState → List ℕ
-directory_words base directory = words_of_directory (record { depth = directory.depth; base = base; entries = directory.entries })
+directory_words base directory =
+    words_of_directory (record { depth = directory.depth; base = base; entries = directory.entries })
 
 -- the row of the bucket that a leaf comes from
 abbrev pub base_of_leaf : List LoadedBucket → NewLeaf → Option ℕ
@@ -56,18 +57,17 @@ made_bucket setup attempt found = change (rules_of setup) found attempt.state
 abbrev pub made_leaves : Setup → DirectoryTry → List (Option Op) → List LoadedBucket → List NewLeaf
 made_leaves setup attempt found loaded = change_leaves (rules_of setup) attempt.directory loaded found
 
-abbrev pub made_directory : Setup → (seat : ℕ) → SeatRows → DirectoryTry → List (Option Op) → List LoadedBucket → DirectoryState
+abbrev pub made_directory : Setup → (seat : ℕ) → SeatRows → DirectoryTry → List (Option Op) → List LoadedBucket →
+    DirectoryState
 made_directory setup seat used attempt found loaded =
     with_leaves (next_number setup seat BucketWords used) (made_leaves setup attempt found loaded) attempt.directory
 
 -- all that a directory try stores: its leaves, and then its directory row
-unfoldable pub directory_puts : Setup → (seat : ℕ) → SeatRows → DirectoryTry → List (Option Op) → List LoadedBucket → List Put
+unfoldable pub directory_puts : Setup → (seat : ℕ) → SeatRows → DirectoryTry → List (Option Op) → List LoadedBucket →
+    List Put
 directory_puts setup seat used attempt found loaded =
-    leaf_puts setup (base_of_leaf loaded) (next_number setup seat BucketWords used) (next_number setup seat BucketRows used)
+    leaf_puts setup (base_of_leaf loaded) (next_number setup seat BucketWords used)
+    (next_number setup seat BucketRows used)
     (made_leaves setup attempt found loaded)
     ++ row_puts (DirectoryWord (next_number setup seat DirRows used)) 0
     (directory_words (Some attempt.root) (made_directory setup seat used attempt found loaded))
-
--- one of these stores, by its place in the list
-abbrev pub put_at : List Put → ℕ → Put
-put_at puts i = slice_index_or puts i (record { address = Root; word = 0 })

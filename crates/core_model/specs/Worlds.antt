@@ -1,13 +1,13 @@
 -- The words and the seats of a table after any list of events. An event is one step of one seat: one load, store or
 -- compare-and-exchange of one word. All interleavings of the seats are such lists.
-use Rattle.std.specs.Prelude.{ℕ, ◌^◌, ◌<◌, ◌==◌, nat_lt, if◌then◌else◌, List, [], ◌∷◌, ◌++◌, Option, Some, None, IsSome, IsNone, IfSome, replicate, slice_index, slice_index_or, slice_set, fold}
+use Rattle.std.specs.Prelude.{ℕ, ◌^◌, ◌<◌, ◌==◌, nat_lt, if◌then◌else◌, List, [], ◌∷◌, ◌++◌, Option, Some, None, IsSome, IsNone, IfSome, replicate, slice_index, slice_index_or, slice_set, fold, count_by}
 use Rattle.step_counts.specs.StepCounts.{need_of}
 use Rattle.plain_map.specs.declared.calls.Call.{Call}
 use Rattle.plain_map.specs.declared.full.Full.{Full}
 use Rattle.plain_map.specs.Calls.{key_in}
 use Rattle.plain_map.specs.Room.{left_of, refusal}
 use Rattle.plain_map.specs.Serving.{IsAskable, CanCount}
-use Rattle.word_rows.specs.Shape.{sizes_of}
+use Rattle.word_rows.specs.Shape.{Shape, sizes_of}
 use Rattle.word_rows.specs.declared.addresses.Address.{Address}
 use Rattle.word_rows.specs.declared.addresses.Address.TheVariants.{DirectoryWord}
 use Rattle.word_rows.specs.Places.{place, word_count}
@@ -27,8 +27,8 @@ pub record World : Type 0 where
   pub seats : List SeatState
 
 -- the word at an address
-abbrev pub word_at : Setup → List ℕ → Address → ℕ
-word_at setup words address = slice_index words (place setup.shape address)
+abbrev pub word_at : Shape → List ℕ → Address → ℕ
+word_at shape words address = slice_index words (place shape address)
 
 -- the leaves that the table begins with
 abbrev pub first_leaves : Setup → List NewLeaf
@@ -40,7 +40,8 @@ unfoldable pub opening_words : Setup → List ℕ
 opening_words setup =
     with_puts setup.shape (replicate (word_count setup.shape) 0)
     (leaf_puts setup (λ _. None) 0 0 (first_leaves setup)
-    ++ row_puts (DirectoryWord 0) 0 (directory_words None (opening_directory setup.shape.settings.start (first_leaves setup))))
+    ++ row_puts (DirectoryWord 0) 0
+    (directory_words None (opening_directory setup.shape.settings.start (first_leaves setup))))
 
 -- the world at the opening
 abbrev pub opening_world : Setup → World
@@ -49,9 +50,9 @@ opening_world setup = record { words = opening_words setup; seats = replicate (s
 -- the word that is found: by a load and by an exchange what the word holds. A store finds nothing, which is told as 0
 abbrev pub found_by : Setup → Ask → List ℕ → ℕ
 found_by setup Nothing words = 0
-found_by setup (Load from) words = word_at setup words from
+found_by setup (Load from) words = word_at setup.shape words from
 found_by setup (Store to word) words = 0
-found_by setup (Exchange at old new) words = word_at setup words at
+found_by setup (Exchange at old new) words = word_at setup.shape words at
 
 -- the words then: an exchange happens exactly where the word holds what was expected
 abbrev pub words_after : Setup → Ask → List ℕ → List ℕ
@@ -59,7 +60,7 @@ words_after setup Nothing words = words
 words_after setup (Load from) words = words
 words_after setup (Store to word) words = slice_set words (place setup.shape to) word
 words_after setup (Exchange at old new) words =
-    if word_at setup words at == old then slice_set words (place setup.shape at) new else words
+    if word_at setup.shape words at == old then slice_set words (place setup.shape at) new else words
 
 -- a seat in flight takes its next step
 abbrev pub step_of : Setup → World → (seat : ℕ) → Account → Flight → Phase → World
@@ -72,12 +73,14 @@ step_of setup world seat account flight phase =
 
 -- why a call of a seat with this account would be refused, if it would
 abbrev pub refusal_of : Setup → (seat : ℕ) → Account → Call → Option Full
-refusal_of setup seat account call = refusal (left_of (sizes_of setup.shape seat) account.used) (need_of (settings_of setup)) call
+refusal_of setup seat account call =
+    refusal (left_of (sizes_of setup.shape seat) account.used) (need_of (settings_of setup)) call
 
 -- a call that is refused changes nothing; another begins, and takes its first step
 abbrev pub begin_or_refuse : Setup → World → (seat : ℕ) → Account → (packet : ℕ) → Call → Option Full → World
 begin_or_refuse setup world seat account packet call (Some full) = world
-begin_or_refuse setup world seat account packet call None = step_of setup world seat account (begun account packet call) SeeDone
+begin_or_refuse setup world seat account packet call None =
+    step_of setup world seat account (begun account packet call) SeeDone
 
 -- an idle seat begins the call that comes with the event, and a seat in flight goes on
 abbrev pub act : Setup → World → (seat : ℕ) → Account → Stand → Option (ℕ × Call) → World
@@ -127,3 +130,7 @@ AreEvents setup world (event ∷ events) = IsEvent setup world event × AreEvent
 pub record IsRun (setup : Setup) (events : List Event) : Type 0 where
   pub opened : IsSetup setup
   pub follow : AreEvents setup (opening_world setup) events
+
+-- how many of these events are the seat's
+abbrev pub events_of : (seat : ℕ) → List Event → ℕ
+events_of seat events = count_by (λ event. event.seat == seat) events

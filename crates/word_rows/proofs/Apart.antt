@@ -18,11 +18,20 @@ place_within shape (Announcement s) h = omega arith
 place_within shape (Done s) h = omega arith
 place_within shape (BucketWord s) h = omega arith
 place_within shape (OpWord r i) h = omega (arith, row_within r (OP_WORDS) i (count_of shape OpRows) h.0 h.1)
-place_within shape (BucketRowWord r i) h = omega (arith, row_within r (bucket_row_words shape.settings) i (count_of shape BucketRows) h.0 h.1)
-place_within shape (DirectoryWord r i) h = omega (arith, row_within r (directory_row_words shape.settings) i (count_of shape DirRows) h.0 h.1)
+place_within shape (BucketRowWord r i) h = omega (
+  arith,
+  row_within r (bucket_row_words shape.settings) i
+      (count_of shape BucketRows) h.0 h.1,
+)
+place_within shape (DirectoryWord r i) h = omega (
+  arith,
+  row_within r (directory_row_words shape.settings) i
+      (count_of shape DirRows) h.0 h.1,
+)
 
 -- two addresses that have one place are one
-pub place_apart : (shape : Shape) (a b : Address) → IsAddress shape a → IsAddress shape b → place shape a ≡ place shape b → a ≡ b
+pub place_apart : (shape : Shape) (a b : Address) → IsAddress shape a → IsAddress shape b →
+    place shape a ≡ place shape b → a ≡ b
 place_apart shape Root Root h k e = refl
 place_apart shape Root (Announcement t) h k e = absurd (omega arith)
 place_apart shape Root (Done t) h k e = absurd (omega arith)
@@ -59,24 +68,30 @@ place_apart shape (OpWord r i) (OpWord q j) h k e =
     let p : r * (OP_WORDS) + i ≡ q * (OP_WORDS) + j = omega arith in
     let both = same_from_place r i q j (OP_WORDS) h.1 k.1 p in
     ap (λ x. OpWord x i) both.0 ∙ ap (λ x. OpWord q x) both.1
-place_apart shape (OpWord r i) (BucketRowWord q j) h k e = absurd (omega (arith, row_within r (OP_WORDS) i (count_of shape OpRows) h.0 h.1))
-place_apart shape (OpWord r i) (DirectoryWord q j) h k e = absurd (omega (arith, row_within r (OP_WORDS) i (count_of shape OpRows) h.0 h.1))
+place_apart shape (OpWord r i) (BucketRowWord q j) h k e =
+    absurd (omega (arith, row_within r (OP_WORDS) i (count_of shape OpRows) h.0 h.1))
+place_apart shape (OpWord r i) (DirectoryWord q j) h k e =
+    absurd (omega (arith, row_within r (OP_WORDS) i (count_of shape OpRows) h.0 h.1))
 place_apart shape (BucketRowWord r i) Root h k e = absurd (omega arith)
 place_apart shape (BucketRowWord r i) (Announcement t) h k e = absurd (omega arith)
 place_apart shape (BucketRowWord r i) (Done t) h k e = absurd (omega arith)
 place_apart shape (BucketRowWord r i) (BucketWord t) h k e = absurd (omega arith)
-place_apart shape (BucketRowWord r i) (OpWord q j) h k e = absurd (omega (arith, row_within q (OP_WORDS) j (count_of shape OpRows) k.0 k.1))
+place_apart shape (BucketRowWord r i) (OpWord q j) h k e =
+    absurd (omega (arith, row_within q (OP_WORDS) j (count_of shape OpRows) k.0 k.1))
 place_apart shape (BucketRowWord r i) (BucketRowWord q j) h k e =
     let p : r * (bucket_row_words shape.settings) + i ≡ q * (bucket_row_words shape.settings) + j = omega arith in
     let both = same_from_place r i q j (bucket_row_words shape.settings) h.1 k.1 p in
     ap (λ x. BucketRowWord x i) both.0 ∙ ap (λ x. BucketRowWord q x) both.1
-place_apart shape (BucketRowWord r i) (DirectoryWord q j) h k e = absurd (omega (arith, row_within r (bucket_row_words shape.settings) i (count_of shape BucketRows) h.0 h.1))
+place_apart shape (BucketRowWord r i) (DirectoryWord q j) h k e =
+    absurd (omega (arith, row_within r (bucket_row_words shape.settings) i (count_of shape BucketRows) h.0 h.1))
 place_apart shape (DirectoryWord r i) Root h k e = absurd (omega arith)
 place_apart shape (DirectoryWord r i) (Announcement t) h k e = absurd (omega arith)
 place_apart shape (DirectoryWord r i) (Done t) h k e = absurd (omega arith)
 place_apart shape (DirectoryWord r i) (BucketWord t) h k e = absurd (omega arith)
-place_apart shape (DirectoryWord r i) (OpWord q j) h k e = absurd (omega (arith, row_within q (OP_WORDS) j (count_of shape OpRows) k.0 k.1))
-place_apart shape (DirectoryWord r i) (BucketRowWord q j) h k e = absurd (omega (arith, row_within q (bucket_row_words shape.settings) j (count_of shape BucketRows) k.0 k.1))
+place_apart shape (DirectoryWord r i) (OpWord q j) h k e =
+    absurd (omega (arith, row_within q (OP_WORDS) j (count_of shape OpRows) k.0 k.1))
+place_apart shape (DirectoryWord r i) (BucketRowWord q j) h k e =
+    absurd (omega (arith, row_within q (bucket_row_words shape.settings) j (count_of shape BucketRows) k.0 k.1))
 place_apart shape (DirectoryWord r i) (DirectoryWord q j) h k e =
     let p : r * (directory_row_words shape.settings) + i ≡ q * (directory_row_words shape.settings) + j = omega arith in
     let both = same_from_place r i q j (directory_row_words shape.settings) h.1 k.1 p in

@@ -4,13 +4,17 @@ use Rattle.step_counts.specs.declared.TheConstants.{OP_WORDS}
 use Rattle.plain_map.specs.declared.calls.Call.{Call}
 use Rattle.plain_map.specs.declared.calls.Call.TheVariants.{Insert, Remove, Lookup}
 use Rattle.word_rows.specs.declared.ops.OpRow.{OpRow}
-use Rattle.word_rows.specs.OpWords.{IsOp, IsRowCall, words_of_op, op_of_words}
+use Rattle.plain_map.specs.Updates.{IsUpdate}
+use Rattle.word_rows.specs.OpWords.{IsOp, words_of_op, op_of_words}
 
 -- an op's words are that many, and spell it
-call_read : (number : ℕ) (call : Call) → IsRowCall call → (length (words_of_op (record { number = number; call = call })) ≡ OP_WORDS) × (op_of_words (words_of_op (record { number = number; call = call })) ≡ record { number = number; call = call })
+call_read : (number : ℕ) (call : Call) → IsUpdate call →
+    (length (words_of_op (record { number = number; call = call })) ≡ OP_WORDS)
+    × (op_of_words (words_of_op (record { number = number; call = call })) ≡ record { number = number; call = call })
 call_read number (Insert key value) h = (refl, refl)
 call_read number (Remove key) h = (refl, refl)
 call_read number (Lookup key) h = absurd h
 
+-- an op that is spelled has the words of one, and is read
 pub op_read : (row : OpRow) → IsOp row → (length (words_of_op row) ≡ OP_WORDS) × (op_of_words (words_of_op row) ≡ row)
 op_read row h = call_read row.number row.call h.update

@@ -17,7 +17,8 @@ use Rattle.word_rows.specs.Shape.{Shape, IsShape, AreBelow, Owns, of_kind, by_ki
 use Rattle.word_rows.specs.Places.{word_count}
 
 -- the sum of a prefix and of the element after it are within the sum of a longer prefix
-take_more_le : (f : SeatRows → ℕ) (xs : List SeatRows) (s t : ℕ) → s < t → t ≤ length xs → sum_by f (take s xs) + f (get_or xs s no_rows) ≤ sum_by f (take t xs)
+take_more_le : (f : SeatRows → ℕ) (xs : List SeatRows) (s t : ℕ) → s < t → t ≤ length xs →
+    sum_by f (take s xs) + f (get_or xs s no_rows) ≤ sum_by f (take t xs)
 take_more_le f xs s t h k =
     let within : s < length (take t xs) = omega (arith, length-take t xs) in
     let prefix : take s (take t xs) ≡ take s xs = take-take s t xs (omega arith) in
@@ -25,27 +26,32 @@ take_more_le f xs s t h k =
     omega (arith, sum_by_more_le f (take t xs) s no_rows within, ap (sum_by f) prefix, ap f element)
 
 -- a later seat's range begins after an earlier seat's ends
-pub ranges_follow : (shape : Shape) (kind : FullKind) (s t : ℕ) → s < t → t ≤ length shape.ranges → first_number shape s kind + of_kind kind (sizes_of shape s) ≤ first_number shape t kind
+pub ranges_follow : (shape : Shape) (kind : FullKind) (s t : ℕ) → s < t → t ≤ length shape.ranges →
+    first_number shape s kind + of_kind kind (sizes_of shape s) ≤ first_number shape t kind
 unfolding number_after
 ranges_follow shape kind s t h k = omega (arith, take_more_le (of_kind kind) shape.ranges s t h k)
 
 -- a seat's range ends where all numbers do, at the latest
-pub range_within : (shape : Shape) (kind : FullKind) (s : ℕ) → s < length shape.ranges → first_number shape s kind + of_kind kind (sizes_of shape s) ≤ count_of shape kind
+pub range_within : (shape : Shape) (kind : FullKind) (s : ℕ) → s < length shape.ranges →
+    first_number shape s kind + of_kind kind (sizes_of shape s) ≤ count_of shape kind
 unfolding number_after
 range_within shape kind s h = omega (arith, sum_by_more_le (of_kind kind) shape.ranges s no_rows h)
 
 -- and begins after the opening
-pub range_after_opening : (shape : Shape) (kind : FullKind) (s : ℕ) → of_kind kind (opening_rows shape.settings) ≤ first_number shape s kind
+pub range_after_opening : (shape : Shape) (kind : FullKind) (s : ℕ) →
+    of_kind kind (opening_rows shape.settings) ≤ first_number shape s kind
 unfolding number_after
 range_after_opening shape kind s = omega arith
 
 -- the opening's numbers are among those that there are
-pub opening_within : (shape : Shape) (kind : FullKind) → of_kind kind (opening_rows shape.settings) ≤ count_of shape kind
+pub opening_within : (shape : Shape) (kind : FullKind) →
+    of_kind kind (opening_rows shape.settings) ≤ count_of shape kind
 unfolding number_after
 opening_within shape kind = omega arith
 
 -- a number belongs to one seat
-pub one_owner : (shape : Shape) (kind : FullKind) (number s t : ℕ) → s < shape.settings.seats → t < shape.settings.seats → IsShape shape → Owns shape s kind number → Owns shape t kind number → s ≡ t
+pub one_owner : (shape : Shape) (kind : FullKind) (number s t : ℕ) → s < shape.settings.seats →
+    t < shape.settings.seats → IsShape shape → Owns shape s kind number → Owns shape t kind number → s ≡ t
 one_owner shape kind number s t hs ht h a b = elim (cases_lt s t) [
   | inl before ↦ absurd (omega (arith, ranges_follow shape kind s t before (omega arith)))
   | inr not_before ↦ elim (cases_lt t s) [
@@ -54,13 +60,17 @@ one_owner shape kind number s t hs ht h a b = elim (cases_lt s t) [
   ]
 ]
 
-pub in_range : (shape : Shape) (kind : FullKind) (number seat : ℕ) → seat < shape.settings.seats → IsShape shape → Owns shape seat kind number → (of_kind kind (opening_rows shape.settings) ≤ number) × (number < count_of shape kind)
+-- a seat's number is none of the opening's, and is one of those that there are
+pub in_range : (shape : Shape) (kind : FullKind) (number seat : ℕ) → seat < shape.settings.seats → IsShape shape →
+    Owns shape seat kind number → (of_kind kind (opening_rows shape.settings) ≤ number) × (number < count_of shape kind)
 in_range shape kind number seat hs h own =
     let inside : seat < length shape.ranges = omega arith in
     (omega (arith, range_after_opening shape kind seat), omega (arith, range_within shape kind seat inside))
 
 -- fewer numbers come after fewer ranges
-pub prefix_few : (settings : Settings) (ranges : List SeatRows) (k : ℕ) → AreBelow (2 ^ 36) (by_kind (number_after settings ranges)) → AreBelow (2 ^ 36) (by_kind (number_after settings (take k ranges)))
+pub prefix_few : (settings : Settings) (ranges : List SeatRows) (k : ℕ) →
+    AreBelow (2 ^ 36) (by_kind (number_after settings ranges)) →
+    AreBelow (2 ^ 36) (by_kind (number_after settings (take k ranges)))
 unfolding number_after
 prefix_few settings ranges k h = record {
   op_rows = omega (arith, h.op_rows, sum_by-take-le (of_kind OpRows) ranges k);
@@ -70,25 +80,43 @@ prefix_few settings ranges k h = record {
 }
 
 -- small ranges of at most 8 seats are few numbers
-sum_few : (f : SeatRows → ℕ) (ranges : List SeatRows) → length ranges ≤ 8 → All (λ rows. f rows ≤ 2 ^ 32) ranges → sum_by f ranges ≤ 8 * 2 ^ 32
+sum_few : (f : SeatRows → ℕ) (ranges : List SeatRows) → length ranges ≤ 8 → All (λ rows. f rows ≤ 2 ^ 32) ranges →
+    sum_by f ranges ≤ 8 * 2 ^ 32
 sum_few f ranges few small =
     let most : sum_by f ranges ≤ length ranges * 2 ^ 32 = sum_by-le f (2 ^ 32) ranges small in
     omega (arith, most, mul-le-mul_right (2 ^ 32) few)
 
+-- a directory has at most 4,096 places
 places_few : (settings : Settings) → 2 ^ settings.depth ≤ 2 ^ 12
 places_few settings = let inside : settings.depth ≤ 12 = omega arith in pow_mono inside
 
-pub ranges_few : (settings : Settings) (ranges : List SeatRows) → length ranges ≡ settings.seats → All (AreBelow (2 ^ 32)) ranges → AreBelow (2 ^ 36) (by_kind (number_after settings ranges))
+-- small ranges end at small numbers
+pub ranges_few : (settings : Settings) (ranges : List SeatRows) → length ranges ≡ settings.seats →
+    All (AreBelow (2 ^ 32)) ranges → AreBelow (2 ^ 36) (by_kind (number_after settings ranges))
 unfolding number_after
 ranges_few settings ranges each small =
     let few : length ranges ≤ 8 = omega arith in
     record {
       op_rows = omega (arith, sum_few (of_kind OpRows) ranges few (λ k d h. omega (arith, (small k d h).op_rows)));
-      bucket_rows = omega (arith, places_few settings, sum_few (of_kind BucketRows) ranges few (λ k d h. omega (arith, (small k d h).bucket_rows)));
-      bucket_words = omega (arith, places_few settings, sum_few (of_kind BucketWords) ranges few (λ k d h. omega (arith, (small k d h).bucket_words)));
-      directory_rows = omega (arith, sum_few (of_kind DirRows) ranges few (λ k d h. omega (arith, (small k d h).directory_rows)));
+      bucket_rows = omega (
+        arith,
+        places_few settings,
+        sum_few (of_kind BucketRows) ranges few (λ k d h. omega (arith, (small k d h).bucket_rows)),
+      );
+      bucket_words = omega (
+        arith,
+        places_few settings,
+        sum_few (of_kind BucketWords) ranges few
+            (λ k d h. omega (arith, (small k d h).bucket_words)),
+      );
+      directory_rows = omega (
+        arith,
+        sum_few (of_kind DirRows) ranges few
+            (λ k d h. omega (arith, (small k d h).directory_rows)),
+      );
     }
 
+-- a table's words have small numbers
 pub words_few : (shape : Shape) → IsShape shape → word_count shape < 2 ^ 52
 words_few shape h =
     let row : bucket_row_words shape.settings ≤ 2 ^ 10 = omega arith in
@@ -98,10 +126,14 @@ words_few shape h =
     omega (arith, h.few.op_rows, h.few.bucket_words, mul-le-mul rows row, mul-le-mul directories directory)
 
 -- a layout's shape is the settings and ranges that it was made from
-pub made_shape : (settings : Settings) (ranges kept : List SeatRows) → kept ≡ ranges → length ranges ≡ settings.seats → All (AreBelow (2 ^ 32)) ranges → IsShape (record { settings = settings; ranges = kept })
+pub made_shape : (settings : Settings) (ranges kept : List SeatRows) → kept ≡ ranges →
+    length ranges ≡ settings.seats → All (AreBelow (2 ^ 32)) ranges →
+    IsShape (record { settings = settings; ranges = kept })
 made_shape settings ranges kept same each small =
-    subst (λ rows. IsShape (record { settings = settings; ranges = rows })) (sym same) (record { each_seat = each; few = ranges_few settings ranges each small })
+    subst (λ rows. IsShape (record { settings = settings; ranges = rows })) (sym same)
+    (record { each_seat = each; few = ranges_few settings ranges each small })
 
 -- the front of a joined list
 pub front_of : (n : ℕ) (xs ys zs : List SeatRows) → xs ≡ ys → length ys ≡ n → take n (xs ++ zs) ≡ ys
-front_of n xs ys zs same long = let length_is : length xs ≡ n = ap length same ∙ long in rw (← length_is) (rw take-append_seam same)
+front_of n xs ys zs same long = let length_is : length xs ≡ n = ap length same ∙ long in
+    rw (← length_is) (rw take-append_seam same)

@@ -2,26 +2,27 @@
 use Rattle.std.specs.Prelude.{◌≡◌, ℕ, ◌+◌, ◌*◌, ◌^◌, ◌<◌, ◌≤◌, ◌==◌, ◌↔◌, Bool, true, false, List, [], ◌∷◌, ◌++◌, length, take, drop, replicate, slice_get, slice_index, slice_index_or, Option, None}
 use Rattle.std.specs.Option.{option_map_or}
 use Rattle.std.specs.List.{All}
-use Rattle.step_counts.specs.declared.TheConstants.{ITEM_WORDS}
+use Rattle.step_counts.specs.declared.TheConstants.{BUCKET_HEAD_WORDS, COUNT_PLACE, ITEM_WORDS, SEAT_WORDS}
 use Rattle.step_counts.specs.declared.settings.Settings.{Settings}
 use Rattle.plain_map.specs.declared.calls.Reply.{Reply}
 use Rattle.plain_map.specs.declared.keys.Pair.{Pair}
 use Rattle.plain_map.specs.Rows.{BucketContent}
+use Rattle.plain_map.specs.Updates.{IsUpdateReply, value_limit}
 use Rattle.word_rows.specs.BaseWords.{IsBase, word_of_base, base_of_word}
 use Rattle.word_rows.specs.Blocks.{blocks, block, first_values}
 use Rattle.word_rows.specs.KeyWords.{words_of_pair, pair_of_words}
-use Rattle.word_rows.specs.ReplyWords.{IsRowReply, word_of_reply, reply_of_word}
+use Rattle.word_rows.specs.ReplyWords.{word_of_reply, reply_of_word}
 
 -- a seat's applied number, and the reply that there is exactly where the number is not 0
 pub record IsAnswered (number : ℕ) (reply : Option Reply) : Type 0 where
   pub few : number < 2 ^ 32
-  pub answer : IsRowReply reply
+  pub answer : IsUpdateReply reply
   pub paired : (number ≡ 0) ↔ (reply ≡ None)
 
 -- items that can be spelled in this much room
 pub record AreItems (room : ℕ) (items : List Pair) : Type 0 where
   pub fit : length items ≤ room
-  pub values : All (λ item. item.value < 2 ^ 61) items
+  pub values : All (λ item. item.value < value_limit) items
 
 -- numbers and replies of this many seats
 pub record AreAnswered (seats : ℕ) (applied : List ℕ) (replies : List (Option Reply)) : Type 0 where
@@ -73,17 +74,19 @@ items_of_words count words = first_values (λ i. pair_of_words (block ITEM_WORDS
 
 -- the numbers and the replies
 abbrev pub applied_of_words : (seats : ℕ) → List ℕ → List ℕ
-applied_of_words seats words = first_values (λ seat. slice_index words (seat * 2)) seats
+applied_of_words seats words = first_values (λ seat. slice_index words (seat * SEAT_WORDS)) seats
 
+-- and the replies
 abbrev pub replies_of_words : (seats : ℕ) → List ℕ → List (Option Reply)
-replies_of_words seats words = first_values (λ seat. reply_of_word (slice_index words (seat * 2 + 1))) seats
+replies_of_words seats words = first_values (λ seat. reply_of_word (slice_index words (seat * SEAT_WORDS + 1))) seats
 
 -- the parts of a bucket row's words after its head
 abbrev pub item_part : Settings → List ℕ → List ℕ
-item_part settings words = take (ITEM_WORDS * settings.items) (drop 5 words)
+item_part settings words = take (ITEM_WORDS * settings.items) (drop BUCKET_HEAD_WORDS words)
 
+-- and of the seats
 abbrev pub seat_part : Settings → List ℕ → List ℕ
-seat_part settings words = drop (5 + ITEM_WORDS * settings.items) words
+seat_part settings words = drop (BUCKET_HEAD_WORDS + ITEM_WORDS * settings.items) words
 
 -- the bucket row that these words spell, where they spell one
 abbrev pub bucket_of_words : Settings → List ℕ → BucketContent
@@ -92,7 +95,7 @@ bucket_of_words settings words = record {
   depth = slice_index words 1;
   base = base_of_word (slice_index words 2);
   frozen = slice_index words 3 == 1;
-  items = items_of_words (slice_index words 4) (item_part settings words);
+  items = items_of_words (slice_index words COUNT_PLACE) (item_part settings words);
   applied = applied_of_words settings.seats (seat_part settings words);
   replies = replies_of_words settings.seats (seat_part settings words);
 }

@@ -3,10 +3,7 @@ use Rattle.std.specs.Prelude.{ℕ, List, [], ◌∷◌, ◌++◌, take, slice_in
 use Rattle.plain_map.specs.declared.keys.Key.{Key}
 use Rattle.plain_map.specs.declared.keys.Pair.{Pair}
 use Rattle.plain_map.specs.declared.keys.TheConstants.{KEY_WORDS}
-
--- the words of a key
-abbrev pub words_of_key : Key → List ℕ
-words_of_key key = key.k0 ∷ key.k1 ∷ []
+use Rattle.plain_map.specs.Keys.{words_of_key}
 
 -- the key that these words spell
 abbrev pub key_of_words : List ℕ → Key

@@ -43,7 +43,15 @@ write memory (DirectoryWord row i) word = record memory { directory = put_at mem
 
 -- every word is 0
 abbrev pub blank : Memory
-blank = record { root = 0; announced = λ _. 0; done = λ _. 0; bucket = λ _. 0; op = λ _ _. 0; bucket_row = λ _ _. 0; directory = λ _ _. 0 }
+blank = record {
+  root = 0;
+  announced = λ _. 0;
+  done = λ _. 0;
+  bucket = λ _. 0;
+  op = λ _ _. 0;
+  bucket_row = λ _ _. 0;
+  directory = λ _ _. 0;
+}
 
 -- the list of words is this memory, one part after the other
 pub record Shows (shape : Shape) (words : List ℕ) (memory : Memory) : Type 0 where

@@ -13,7 +13,8 @@ StoresAreRead =
 -- a store of a word of the list is the store at its address
 abbrev pub StoresAreShown : Type 0
 StoresAreShown =
-    (shape : Shape) (words : List ℕ) (memory : Memory) (a : Address) (word : ℕ) → IsAddress shape a → Shows shape words memory →
+    (shape : Shape) (words : List ℕ) (memory : Memory) (a : Address) (word : ℕ) → IsAddress shape a →
+    Shows shape words memory →
     Shows shape (slice_set words (place shape a) word) (write memory a word)
 
 -- a load of a word of the list is the load at its address
@@ -35,4 +36,5 @@ LoadsGoOn =
 -- a row that is stored word by word: with one more word the front that is held is one longer
 abbrev pub StoresGoOn : Type 0
 StoresGoOn =
-    (f : ℕ → ℕ) (words : List ℕ) (k : ℕ) → k < length words → Holds f (take k words) → Holds (put f k (slice_index words k)) (take (k + 1) words)
+    (f : ℕ → ℕ) (words : List ℕ) (k : ℕ) → k < length words → Holds f (take k words) →
+    Holds (put f k (slice_index words k)) (take (k + 1) words)

@@ -5,19 +5,15 @@ use Rattle.plain_map.specs.declared.calls.Call.TheVariants.{Insert, Remove, Look
 use Rattle.word_rows.specs.declared.ops.OpRow.{OpRow}
 use Rattle.word_rows.specs.declared.ops.TheConstants.{INSERT, REMOVE}
 use Rattle.plain_map.specs.declared.keys.TheConstants.{KEY_WORDS}
-use Rattle.word_rows.specs.KeyWords.{words_of_key, key_of_words}
-
--- an update, with a value that can be kept
-abbrev pub IsRowCall : Call → Type 0
-IsRowCall (Insert key value) = value < 2 ^ 61
-IsRowCall (Remove key) = Unit {0}
-IsRowCall (Lookup key) = ⊥
+use Rattle.plain_map.specs.Keys.{words_of_key}
+use Rattle.plain_map.specs.Updates.{IsUpdate}
+use Rattle.word_rows.specs.KeyWords.{key_of_words}
 
 -- an op that can be spelled
 pub record IsOp (row : OpRow) : Type 0 where
   pub numbered : 1 ≤ row.number
   pub few : row.number < 2 ^ 32
-  pub update : IsRowCall row.call
+  pub update : IsUpdate row.call
 
 -- kind, key and value; a remove has value 0
 abbrev pub words_of_call : Call → List ℕ

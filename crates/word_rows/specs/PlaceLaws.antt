@@ -6,7 +6,8 @@ use Rattle.word_rows.specs.Places.{Address, IsAddress, place, word_count}
 
 -- distinct addresses have distinct words
 abbrev pub PlacesAreApart : Type 0
-PlacesAreApart = (shape : Shape) (a b : Address) → IsAddress shape a → IsAddress shape b → place shape a ≡ place shape b → a ≡ b
+PlacesAreApart = (shape : Shape) (a b : Address) → IsAddress shape a → IsAddress shape b →
+    place shape a ≡ place shape b → a ≡ b
 
 -- each address has one of the table's words
 abbrev pub PlacesAreWithin : Type 0
@@ -21,7 +22,8 @@ RangesAreApart =
 -- a seat's number is none of the opening's, and is one of those that there are
 abbrev pub RangesAreWithin : Type 0
 RangesAreWithin =
-    (shape : Shape) (kind : FullKind) (number seat : ℕ) → seat < shape.settings.seats → IsShape shape → Owns shape seat kind number →
+    (shape : Shape) (kind : FullKind) (number seat : ℕ) → seat < shape.settings.seats → IsShape shape →
+    Owns shape seat kind number →
     (of_kind kind (opening_rows shape.settings) ≤ number) × (number < count_of shape kind)
 
 -- word numbers are small

@@ -21,12 +21,15 @@ IsAddress shape (DirectoryWord row i) = (row < count_of shape DirRows) × (i < d
 abbrev pub bucket_words_start : Shape → ℕ
 bucket_words_start shape = 1 + 2 * shape.settings.seats
 
+-- of the op rows
 abbrev pub op_rows_start : Shape → ℕ
 op_rows_start shape = bucket_words_start shape + count_of shape BucketWords
 
+-- of the bucket rows
 abbrev pub bucket_rows_start : Shape → ℕ
 bucket_rows_start shape = op_rows_start shape + count_of shape OpRows * OP_WORDS
 
+-- of the directory rows
 abbrev pub directory_rows_start : Shape → ℕ
 directory_rows_start shape = bucket_rows_start shape + count_of shape BucketRows * bucket_row_words shape.settings
 

@@ -1,18 +1,8 @@
 -- How the reply to an update is spelled: in one word, its kind and 8 times the value that it carries.
-use Rattle.std.specs.Prelude.{ℕ, ◌+◌, ◌*◌, ◌/◌, ◌%◌, ◌^◌, ◌<◌, ◌==◌, if◌then◌else◌, Option, Some, None}
+use Rattle.std.specs.Prelude.{ℕ, ◌+◌, ◌*◌, ◌/◌, ◌%◌, ◌==◌, if◌then◌else◌, Option, Some, None}
 use Rattle.plain_map.specs.declared.calls.Reply.{Reply}
 use Rattle.plain_map.specs.declared.calls.Reply.TheVariants.{New, Old, NoRoom, Gone, Found, Absent}
 use Rattle.word_rows.specs.declared.replies.TheConstants.{NEW, OLD, NO_ROOM, GONE, ABSENT}
-
--- a reply that a row may hold: one to an update, whose value is below 2 ^ 61; or none
-abbrev pub IsRowReply : Option Reply → Type 0
-IsRowReply None = Unit {0}
-IsRowReply (Some New) = Unit {0}
-IsRowReply (Some (Old value)) = value < 2 ^ 61
-IsRowReply (Some NoRoom) = Unit {0}
-IsRowReply (Some (Gone value)) = value < 2 ^ 61
-IsRowReply (Some (Found value)) = ⊥
-IsRowReply (Some Absent) = Unit {0}
 
 -- the word of a reply, 0 for none
 abbrev pub word_of_reply : Option Reply → ℕ

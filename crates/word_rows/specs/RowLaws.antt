@@ -1,6 +1,6 @@
 -- A row has one spelling, and words spell one row.
 use Rattle.std.specs.Prelude.{◌≡◌, ◌*◌, length, take, drop, slice_index}
-use Rattle.step_counts.specs.declared.TheConstants.{ITEM_WORDS, OP_WORDS}
+use Rattle.step_counts.specs.declared.TheConstants.{BUCKET_HEAD_WORDS, COUNT_PLACE, ITEM_WORDS, OP_WORDS}
 use Rattle.step_counts.specs.declared.settings.Settings.{Settings}
 use Rattle.step_counts.specs.StepCounts.{bucket_row_words}
 use Rattle.plain_map.specs.Rows.{BucketContent, DirectoryContent}
@@ -17,7 +17,8 @@ OpsAreRead = (row : OpRow) → IsOp row → (length (words_of_op row) ≡ OP_WOR
 abbrev pub BucketsAreRead : Type 0
 BucketsAreRead =
     (settings : Settings) (row : BucketContent) → IsBucket settings row →
-    (length (words_of_bucket settings row) ≡ bucket_row_words settings) × (bucket_of_words settings (words_of_bucket settings row) ≡ row)
+    (length (words_of_bucket settings row) ≡ bucket_row_words settings)
+    × (bucket_of_words settings (words_of_bucket settings row) ≡ row)
 
 -- the words of a directory row spell it alone
 abbrev pub DirectoriesAreRead : Type 0
@@ -27,5 +28,6 @@ DirectoriesAreRead = (row : DirectoryContent) → directory_of_words (words_of_d
 abbrev pub ItemsAreRead : Type 0
 ItemsAreRead =
     (settings : Settings) (row : BucketContent) → IsBucket settings row →
-    (slice_index (words_of_bucket settings row) 4 ≡ length row.items)
-    × (items_of_words (length row.items) (take (length row.items * ITEM_WORDS) (drop 5 (words_of_bucket settings row))) ≡ row.items)
+    (slice_index (words_of_bucket settings row) COUNT_PLACE ≡ length row.items)
+    × (items_of_words (length row.items) (take (length row.items * ITEM_WORDS)
+    (drop BUCKET_HEAD_WORDS (words_of_bucket settings row))) ≡ row.items)

@@ -21,11 +21,21 @@ of_kind DirRows rows = rows.directory_rows
 
 -- four numbers, by what each is
 abbrev pub by_kind : (FullKind → ℕ) → SeatRows
-by_kind f = record { op_rows = f OpRows; bucket_rows = f BucketRows; bucket_words = f BucketWords; directory_rows = f DirRows }
+by_kind f = record {
+  op_rows = f OpRows;
+  bucket_rows = f BucketRows;
+  bucket_words = f BucketWords;
+  directory_rows = f DirRows;
+}
 
 -- the opening has a bucket word and a bucket row for each place of a directory, and one directory row
 abbrev pub opening_rows : Settings → SeatRows
-opening_rows settings = record { op_rows = 0; bucket_rows = 2 ^ settings.depth; bucket_words = 2 ^ settings.depth; directory_rows = 1 }
+opening_rows settings = record {
+  op_rows = 0;
+  bucket_rows = 2 ^ settings.depth;
+  bucket_words = 2 ^ settings.depth;
+  directory_rows = 1;
+}
 
 -- how many numbers a seat's ranges have
 abbrev pub sizes_of : Shape → (seat : ℕ) → SeatRows

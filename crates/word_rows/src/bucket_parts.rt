@@ -19,8 +19,8 @@ ghost use Rattle.word_rows.specs.BucketPlaces.{HeadStands, ItemsStand, SeatStand
 use crate::bases::base_of;
 use crate::keys::{read_pair, write_pair};
 use crate::replies::{reply_of, reply_word};
-use plain_map::{BucketRow, KEY_WORDS, Pair, Reply};
-use step_counts::{ITEM_WORDS, Settings};
+use plain_map::{BucketRow, KEY_WORDS, Pair, Reply, VALUE_LIMIT};
+use step_counts::{BUCKET_HEAD_WORDS, COUNT_PLACE, ITEM_WORDS, SEAT_WORDS, Settings};
 
 /// Writes the items, and zeros where there is room for more.
 pub(crate) fn write_items(items: &[Pair], room: usize, out: &mut [u64])
@@ -37,18 +37,18 @@ pub(crate) fn write_items(items: &[Pair], room: usize, out: &mut [u64])
 /// Writes each seat's applied number and reply.
 pub(crate) fn write_seats(applied: &[u32], replies: &[Option<Reply>], seats: usize, out: &mut [u64])
     requires answered { AreAnswered seats applied.now replies.now }
-    requires long { length out.old ≡ seats * 2 }
+    requires long { length out.old ≡ seats * SEAT_WORDS }
     ensures { out.new ≡ seat_words seats applied.now replies.now }
 {
     for seat in 0..seats {
-        out[seat * 2] = applied[seat] as u64;
-        out[seat * 2 + 1] = reply_word(replies[seat]);
+        out[seat * SEAT_WORDS] = applied[seat] as u64;
+        out[seat * SEAT_WORDS + 1] = reply_word(replies[seat]);
     }
 }
 
 /// Reads all of a bucket row but its items and what it knows of the seats.
 pub(crate) fn read_head(settings: &Settings, words: &[u64], into: &mut BucketRow) -> bool
-    requires { 5 ≤ length words.now }
+    requires { BUCKET_HEAD_WORDS ≤ length words.now }
     ensures stands { IsTrue result ↔ HeadStands settings.now words.now }
     ensures read { OnTrue result (into.new ≡ record into.old {
       prefix = slice_index words.now 0;
@@ -60,7 +60,10 @@ pub(crate) fn read_head(settings: &Settings, words: &[u64], into: &mut BucketRow
     ensures applied { into.new.applied ≡ into.old.applied }
     ensures replies { into.new.replies ≡ into.old.replies }
 {
-    if words[1] > settings.depth as u64 || words[3] > 1 || words[4] > settings.items as u64 {
+    if words[1] > settings.depth as u64
+        || words[3] > 1
+        || words[COUNT_PLACE] > settings.items as u64
+    {
         return false;
     }
     if words[0] >= 1 << words[1] {
@@ -84,7 +87,7 @@ pub(crate) fn read_items(words: &[u64], count: usize, items: &mut Vec<Pair>) -> 
     items.clear();
     for i in 0..count {
         let pair = read_pair(&words[i * ITEM_WORDS..(i + 1) * ITEM_WORDS]);
-        if pair.value >= 1 << 61 {
+        if pair.value >= VALUE_LIMIT {
             return false;
         }
         items.push_reserved(pair);
@@ -106,7 +109,7 @@ pub(crate) fn read_seats(
     applied: &mut Vec<u32>,
     replies: &mut Vec<Option<Reply>>,
 ) -> bool
-    requires long { length words.now ≡ seats * 2 }
+    requires long { length words.now ≡ seats * SEAT_WORDS }
     requires room_of_numbers { seats ≤ vec_capacity applied.old }
     requires room_of_replies { seats ≤ vec_capacity replies.old }
     ensures stands { IsTrue result ↔ SeatsStand seats words.now }
@@ -118,7 +121,10 @@ pub(crate) fn read_seats(
     applied.clear();
     replies.clear();
     for seat in 0..seats {
-        let Some((number, reply)) = read_seat(words[seat * 2], words[seat * 2 + 1]) else {
+        let Some((number, reply)) = read_seat(
+            words[seat * SEAT_WORDS],
+            words[seat * SEAT_WORDS + 1],
+        ) else {
             return false;
         };
         applied.push_reserved(number);

@@ -10,7 +10,7 @@ use crate::Layout;
 use crate::bases::base_word;
 use crate::bucket_parts::{read_head, read_items, read_seats, write_items, write_seats};
 use plain_map::BucketRow;
-use step_counts::{ITEM_WORDS, Settings};
+use step_counts::{BUCKET_HEAD_WORDS, COUNT_PLACE, ITEM_WORDS, Settings};
 
 impl Layout {
     ghost use Rattle.word_rows.specs.LayoutView.{shape_of};
@@ -23,10 +23,10 @@ impl Layout {
     {
         let room = self.settings().items as usize;
         let seats = self.settings().seats as usize;
-        let items_end = 5 + ITEM_WORDS * room;
+        let items_end = BUCKET_HEAD_WORDS + ITEM_WORDS * room;
         write_seats(&row.applied, &row.replies, seats, &mut out[items_end..]);
-        write_items(&row.items, room, &mut out[5..items_end]);
-        out[4] = row.items.len() as u64;
+        write_items(&row.items, room, &mut out[BUCKET_HEAD_WORDS..items_end]);
+        out[COUNT_PLACE] = row.items.len() as u64;
         out[3] = row.frozen as u64;
         out[2] = base_word(row.base);
         out[1] = row.depth as u64;
@@ -36,7 +36,8 @@ impl Layout {
     /// Reads a bucket row, and answers whether the words spell one. If not, `into` holds some row.
     ///
     /// They spell none where the prefix does not fit the depth, the depth is above the greatest, the mark is above 1,
-    /// the count is above the room, a value is 2^61 or more, a word after the last item is not 0, an applied number
+    /// the count is above the room, a value is `VALUE_LIMIT` or more, a word after the last item is not 0, an applied
+    /// number
     /// does not fit, a reply word spells no reply, or one of a number and its reply is there without the other.
     pub fn read_bucket(&self, words: &[u64], into: &mut BucketRow) -> bool
         requires whole { length words.now ≡ bucket_row_words (shape_of self.now).settings }
@@ -57,11 +58,15 @@ fn read_parts(settings: &Settings, words: &[u64], into: &mut BucketRow) -> bool
     ensures read { OnTrue result (SpellsBucket settings.now (bucket_content into.new) words.now) }
     ensures room { HasBucketRoom settings.now.seats settings.now.items into.new }
 {
-    let items_end = 5 + ITEM_WORDS * settings.items as usize;
+    let items_end = BUCKET_HEAD_WORDS + ITEM_WORDS * settings.items as usize;
     if !read_head(settings, words, into) {
         return false;
     }
-    if !read_items(&words[5..items_end], words[4] as usize, &mut into.items) {
+    if !read_items(
+        &words[BUCKET_HEAD_WORDS..items_end],
+        words[COUNT_PLACE] as usize,
+        &mut into.items,
+    ) {
         return false;
     }
     read_seats(

@@ -5,7 +5,7 @@ ghost use Rattle.std.specs.Prelude.{◌≡◌, ◌^◌, ◌≤◌};
 use crate::Layout;
 use crate::bases::{base_of, base_word};
 use plain_map::DirectoryRow;
-use step_counts::MOST_DEPTH;
+use step_counts::{DIRECTORY_HEAD_WORDS, MOST_DEPTH};
 
 impl Layout {
     ghost use Rattle.std.specs.Prelude.{◌≡◌, ◌↔◌, IsTrue, length};
@@ -25,7 +25,7 @@ impl Layout {
         requires whole { length out.old ≡ length (words_of_directory (directory_content row.now)) }
         ensures { out.new ≡ words_of_directory (directory_content row.now) }
     {
-        out[2..].copy_from_slice(&row.entries);
+        out[DIRECTORY_HEAD_WORDS..].copy_from_slice(&row.entries);
         out[1] = base_word(row.base);
         out[0] = row.depth as u64;
     }
@@ -36,20 +36,23 @@ impl Layout {
     pub fn read_directory(&self, words: &[u64], into: &mut DirectoryRow) -> bool
         requires { HasDirectoryRoom (shape_of self.now).settings.depth into.old }
         ensures spelled { IsTrue result ↔ SpellSomeDirectory (shape_of self.now).settings words.now }
-        ensures read { OnTrue result (SpellsDirectory (shape_of self.now).settings (directory_content into.new) words.now) }
+        ensures read { OnTrue result (SpellsDirectory (shape_of self.now).settings
+            (directory_content into.new) words.now) }
         ensures room { HasDirectoryRoom (shape_of self.now).settings.depth into.new }
     {
-        if words.len() < 2 || words[0] > self.settings().depth as u64 {
+        if words.len() < DIRECTORY_HEAD_WORDS || words[0] > self.settings().depth as u64 {
             return false;
         }
         let depth = words[0] as u32;
-        if words.len() != 2 + entries_at(depth) {
+        if words.len() != DIRECTORY_HEAD_WORDS + entries_at(depth) {
             return false;
         }
         into.depth = depth;
         into.base = base_of(words[1]);
         into.entries.clear();
-        into.entries.extend_from_slice(&words[2..]).unwrap();
+        into.entries
+            .extend_from_slice(&words[DIRECTORY_HEAD_WORDS..])
+            .unwrap();
         true
     }
 }

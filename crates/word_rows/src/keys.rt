@@ -1,7 +1,8 @@
 //! Keys and items as words.
 
 ghost use Rattle.std.specs.Prelude.{◌≡◌, length};
-ghost use Rattle.word_rows.specs.KeyWords.{words_of_key, words_of_pair};
+ghost use Rattle.plain_map.specs.Keys.{words_of_key};
+ghost use Rattle.word_rows.specs.KeyWords.{words_of_pair};
 
 use plain_map::{KEY_WORDS, Key, Pair};
 use step_counts::ITEM_WORDS;

@@ -4,11 +4,11 @@
 //! op rows, bucket rows, directory rows. Of the bucket words, the bucket rows and the directory rows the opening has
 //! the first, and of all four kinds each seat has a range of its own, in the order of the seats.
 
-ghost use Rattle.std.specs.Prelude.{◌≡◌, take};
-ghost use Rattle.std.specs.Prelude.{◌^◌};
+ghost use Rattle.std.specs.Prelude.{◌≡◌, ◌+◌, ◌*◌, ◌^◌, ◌<◌, ◌↔◌, IsTrue, take};
 ghost use Rattle.word_rows.specs.Shape.{AreBelow, IsShape, by_kind, count_of, number_after};
 
-use step_counts::{OP_WORDS, SeatRows, Settings, bucket_row_words};
+use crate::Address;
+use step_counts::{DIRECTORY_HEAD_WORDS, OP_WORDS, SeatRows, Settings, bucket_row_words};
 
 /// The word numbers of one table.
 #[derive(Clone, Copy, Debug)]
@@ -18,11 +18,14 @@ pub struct Layout {
     ranges: [SeatRows; 8],
     counts: SeatRows,
     pub ghost shaped: { IsShape (record { settings = settings; ranges = take settings.seats ranges }) },
-    ghost counted: { counts ≡ by_kind (count_of (record { settings = settings; ranges = take settings.seats ranges })) },
+    ghost counted: { counts ≡ by_kind (count_of (record {
+      settings = settings;
+      ranges = take settings.seats ranges;
+    })) },
 }
 
 impl Layout {
-    ghost use Rattle.std.specs.Prelude.{◌<◌, length};
+    ghost use Rattle.std.specs.Prelude.{length};
     ghost use Rattle.std.specs.List.{All};
     ghost use Rattle.step_counts.specs.StepCounts.{directory_row_words};
     ghost use Rattle.word_rows.specs.Shape.{first_of, sizes_of};
@@ -78,6 +81,57 @@ impl Layout {
         ensures { result ≡ word_count (shape_of self.now) }
     {
         self.directory_rows_start() + self.counts.directory_rows * self.directory_row_length()
+    }
+
+    /// How many numbers of each kind the table has.
+    pub fn counts(&self) -> SeatRows
+        ensures value { result ≡ by_kind (count_of (shape_of self.now)) }
+        ensures few { AreBelow (2 ^ 36) result }
+    {
+        self.counts
+    }
+
+    /// Whether the table has a word at this address.
+    pub fn has(&self, address: &Address) -> bool
+        ensures { IsTrue result ↔ IsAddress (shape_of self.now) address.now }
+    {
+        let seats = u64::from(self.settings.seats);
+        match *address {
+            Address::Root => true,
+            Address::Announcement(seat) | Address::Done(seat) => seat < seats,
+            Address::BucketWord(bucket) => bucket < self.counts.bucket_words,
+            Address::OpWord(row, i) => row < self.counts.op_rows && i < OP_WORDS as u64,
+            Address::BucketRowWord(row, i) => row < self.counts.bucket_rows
+                && i < bucket_row_words(&self.settings),
+            Address::DirectoryWord(row, i) => row < self.counts.directory_rows
+                && i < self.directory_row_length(),
+        }
+    }
+
+    /// The number of the word at an address, also where the table has no such word.
+    pub fn place(&self, address: &Address) -> u128
+        ensures value { result ≡ place (shape_of self.now) address.now }
+        ensures few { result < 2 ^ 80 }
+        ensures within { IsAddress (shape_of self.now) address.now → result < 2 ^ 52 }
+    {
+        let seats = u128::from(self.settings.seats);
+        match *address {
+            Address::Root => 0,
+            Address::Announcement(seat) => 1 + u128::from(seat),
+            Address::Done(seat) => 1 + seats + u128::from(seat),
+            Address::BucketWord(bucket) => {
+                u128::from(self.bucket_words_start()) + u128::from(bucket)
+            }
+            Address::OpWord(row, i) => place_in_rows(self.op_rows_start(), row, OP_WORDS as u64, i),
+            Address::BucketRowWord(row, i) => {
+                let width = bucket_row_words(&self.settings);
+                place_in_rows(self.bucket_rows_start(), row, width, i)
+            }
+            Address::DirectoryWord(row, i) => {
+                let width = self.directory_row_length();
+                place_in_rows(self.directory_rows_start(), row, width, i)
+            }
+        }
     }
 
     /// The root word, which holds the number of the directory row in use.
@@ -151,6 +205,7 @@ impl Layout {
     {
         self.ranges[seat as usize]
     }
+
     // The first bucket word.
     fn bucket_words_start(&self) -> u64
         ensures { result ≡ bucket_words_start (shape_of self.now) }
@@ -187,8 +242,17 @@ impl Layout {
         ensures value { result ≡ directory_row_words (shape_of self.now).settings }
         ensures few { result < 2 ^ 13 }
     {
-        2 + (1u64 << self.settings.depth)
+        DIRECTORY_HEAD_WORDS as u64 + (1u64 << self.settings.depth)
     }
+}
+
+// The number of word `i` of a row, where rows of this width begin at `start`.
+fn place_in_rows(start: u64, row: u64, width: u64, i: u64) -> u128
+    requires { width < 2 ^ 13 }
+    ensures value { result ≡ start + (row * width + i) }
+    ensures few { result < 2 ^ 79 }
+{
+    u128::from(start) + (u128::from(row) * u128::from(width) + u128::from(i))
 }
 
 // The numbers after those of the opening and of these ranges.

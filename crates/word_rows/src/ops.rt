@@ -5,7 +5,7 @@ ghost use Rattle.word_rows.specs.KeyWords.{words_of_pair};
 ghost use Rattle.word_rows.specs.OpWords.{IsOp, SpellsOp, words_of_op};
 
 use crate::keys::{read_pair, write_pair};
-use plain_map::{Call, Pair};
+use plain_map::{Call, Pair, VALUE_LIMIT};
 use step_counts::OP_WORDS;
 
 /// The kind of an insert.
@@ -46,7 +46,7 @@ fn write_call(number: u32, kind: u64, pair: &Pair, out: &mut [u64; OP_WORDS])
 /// The op that these words spell.
 ///
 /// `None` comes exactly where they are the spelling of none: the number is 0 or does not fit, the kind is another,
-/// an insert's value is 2^61 or more, or a remove has a value.
+/// an insert's value is `VALUE_LIMIT` or more, or a remove has a value.
 pub fn read_op(words: &[u64; OP_WORDS]) -> Option<OpRow>
     ensures read { IfSome result (λ row. SpellsOp row words.now) }
     ensures none { IfNone result ((row : OpRow) → ¬ SpellsOp row words.now) }
@@ -54,7 +54,7 @@ pub fn read_op(words: &[u64; OP_WORDS]) -> Option<OpRow>
     let number = u32::try_from(words[0]).ok()?;
     let Pair { key, value } = read_pair(&words[2..]);
     let call = match words[1] {
-        INSERT if value < 1 << 61 => Call::Insert(key, value),
+        INSERT if value < VALUE_LIMIT => Call::Insert(key, value),
         REMOVE if value == 0 => Call::Remove(key),
         _ => return None,
     };

@@ -1,9 +1,10 @@
 //! The replies to updates as words.
 //!
-//! A word holds the kind in its low three bits and the value above them, so that a value is below 2^61.
+//! A word holds the kind in its low three bits and the value above them, so that a value is below `VALUE_LIMIT`.
 
 ghost use Rattle.std.specs.Prelude.{◌≡◌};
-ghost use Rattle.word_rows.specs.ReplyWords.{IsRowReply, reply_of_word, word_of_reply};
+ghost use Rattle.plain_map.specs.Updates.{IsUpdateReply};
+ghost use Rattle.word_rows.specs.ReplyWords.{reply_of_word, word_of_reply};
 
 use plain_map::Reply;
 
@@ -20,7 +21,7 @@ pub const ABSENT: u64 = 5;
 
 /// The word of a reply.
 pub fn reply_word(reply: Option<Reply>) -> u64
-    requires { IsRowReply reply }
+    requires { IsUpdateReply reply }
     ensures { result ≡ word_of_reply reply }
 {
     match reply {
@@ -37,7 +38,7 @@ pub fn reply_word(reply: Option<Reply>) -> u64
 /// The reply that a word spells, where it spells one.
 pub fn reply_of(word: u64) -> Option<Reply>
     ensures value { result ≡ reply_of_word word }
-    ensures row { IsRowReply result }
+    ensures row { IsUpdateReply result }
 {
     let value = word / 8;
     match word % 8 {

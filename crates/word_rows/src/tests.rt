@@ -7,7 +7,7 @@ ghost use Rattle.word_rows.specs.BucketWords.{IsBucket};
 ghost use Rattle.word_rows.specs.DirectoryWords.{SpellsDirectory};
 ghost use Rattle.word_rows.specs.LayoutView.{shape_of};
 
-use crate::{Layout, OpRow, read_op, write_op};
+use crate::{Address, Layout, OpRow, read_op, reply_of, reply_word, write_op};
 use plain_map::{BucketRow, Call, DirectoryRow, Key, Pair, Reply};
 use std::test::Fail;
 use step_counts::{SeatRows, Settings};
@@ -62,7 +62,8 @@ fn is_bucket(layout: &Layout, words: &[u64; 13], row: &mut BucketRow) -> bool
 fn is_directory(layout: &Layout, words: &[u64], row: &mut DirectoryRow) -> bool
     requires depth { (shape_of layout.now).settings.depth ≡ 1 }
     requires room { HasDirectoryRoom 1 row.old }
-    ensures read { OnTrue result (SpellsDirectory (shape_of layout.now).settings (directory_content row.new) words.now) }
+    ensures read { OnTrue result (SpellsDirectory (shape_of layout.now).settings
+        (directory_content row.new) words.now) }
     ensures room { HasDirectoryRoom 1 row.new }
 {
     layout.read_directory(words, row)
@@ -100,6 +101,27 @@ fn words_of_a_small_table(rt: HostRuntime) -> Result<(), Fail> {
         directory_rows: 1,
     };
     assert_eq!(rt; layout.first(0), first);
+    let counts = SeatRows {
+        op_rows: 1,
+        bucket_rows: 6,
+        bucket_words: 4,
+        directory_rows: 2,
+    };
+    assert_eq!(rt; layout.counts(), counts);
+    for (address, place, is_there) in [
+        (Address::Root, 0, true),
+        (Address::Done(0), 2, true),
+        (Address::Announcement(1), 2, false),
+        (Address::BucketWord(3), 6, true),
+        (Address::OpWord(0, 4), 11, true),
+        (Address::OpWord(0, 5), 12, false),
+        (Address::BucketRowWord(5, 12), 89, true),
+        (Address::DirectoryWord(1, 3), 97, true),
+        (Address::DirectoryWord(2, 0), 98, false),
+    ] {
+        assert_eq!(rt; layout.place(&address), place, "{address:?}");
+        assert_eq!(rt; layout.has(&address), is_there, "{address:?}");
+    }
     Ok(())
 }
 
@@ -140,6 +162,26 @@ fn ops_that_are_words(rt: HostRuntime) {
         [1, 2, K0, K1, 1],
     ] {
         assert_eq!(rt; read_op(&words), None, "{words:?}");
+    }
+}
+
+// Each reply to an update has its word, in numbers, and no other word is one.
+#[test]
+fn replies_that_are_words(rt: HostRuntime) {
+    for (reply, word) in [
+        (None, 0),
+        (Some(Reply::New), 1),
+        (Some(Reply::Old(7)), 58),
+        (Some(Reply::NoRoom), 3),
+        (Some(Reply::Gone((1 << 61) - 1)), 0xffff_ffff_ffff_fffc),
+        (Some(Reply::Absent), 5),
+    ] {
+        let read = reply_of(word);
+        assert_eq!(rt; read, reply, "{word}");
+        assert_eq!(rt; reply_word(read), word, "{reply:?}");
+    }
+    for word in [6, 7, 8, 14] {
+        assert_eq!(rt; reply_of(word), None, "{word}");
     }
 }
 

@@ -9,8 +9,8 @@ use Rattle.word_rows.specs.BucketWords.{items_of_words}
 use Rattle.word_rows.proofs.PartLemmas.{item_read, first_values_next}
 use Rattle.word_rows.proofs.bucket_parts.read_items.Goals as goal
 
-pub returns-then-pair-clause-stands : goal.returns-then-pair-clause-stands
-returns-then-pair-clause-stands c =
+pub returns-then-pair-ge-VALUE_LIMIT-clause-stands : goal.returns-then-pair-ge-VALUE_LIMIT-clause-stands
+returns-then-pair-ge-VALUE_LIMIT-clause-stands c =
     let i = c.loop-i.i in
     let both = item_read c.args.words.now i _ c.read_pair-pair.result (omega arith) c.read_pair-pair.ensures in
     ((λ h. cc), λ stands. absurd (omega (arith, stands.values i c.loop-i-test.true, both.1)))
@@ -22,7 +22,9 @@ loop-i-preserved c =
     let pair = c.read_pair-pair.result in
     let both = item_read words i _ c.read_pair-pair.result (omega arith) c.read_pair-pair.ensures in
     record {
-      read = c.push_reserved.ensures.items ∙ ap (λ xs. xs ++ pair ∷ []) c.loop-i.invariant.read ∙ ap (λ p. items_of_words i words ++ p ∷ []) both.0 ∙ sym (first_values_next (λ k. pair_of_words (block ITEM_WORDS k words)) i);
+      read = c.push_reserved.ensures.items ∙ ap (λ xs. xs ++ pair ∷ []) c.loop-i.invariant.read
+          ∙ ap (λ p. items_of_words i words ++ p ∷ []) both.0
+          ∙ sym (first_values_next (λ k. pair_of_words (block ITEM_WORDS k words)) i);
       counted = omega (arith, c.push_reserved.ensures.len);
       values = below_more _ _ c.loop-i.invariant.values (omega (arith, both.1));
       room = c.push_reserved.ensures.capacity ∙ c.loop-i.invariant.room;

@@ -15,9 +15,11 @@ loop-seat-preserved c =
     record {
       stands = below_more _ _ c.loop-seat.invariant.stands (told.stands.0 refl);
       numbers = c.push_reserved.ensures.items ∙ ap (λ xs. xs ++ number ∷ []) c.loop-seat.invariant.numbers
-          ∙ ap (λ n. applied_of_words seat words ++ n ∷ []) told.read.0 ∙ sym (first_values_next (λ s. get_or words (s * 2) 0) seat);
+          ∙ ap (λ n. applied_of_words seat words ++ n ∷ []) told.read.0
+          ∙ sym (first_values_next (λ s. get_or words (s * 2) 0) seat);
       replies = c.push_reserved-in-loop-seat.ensures.items ∙ ap (λ xs. xs ++ reply ∷ []) c.loop-seat.invariant.replies
-          ∙ ap (λ r. replies_of_words seat words ++ r ∷ []) told.read.1 ∙ sym (first_values_next (λ s. reply_of_word (get_or words (s * 2 + 1) 0)) seat);
+          ∙ ap (λ r. replies_of_words seat words ++ r ∷ []) told.read.1
+          ∙ sym (first_values_next (λ s. reply_of_word (get_or words (s * 2 + 1) 0)) seat);
       numbers_counted = omega (arith, c.push_reserved.ensures.len);
       replies_counted = omega (arith, c.push_reserved-in-loop-seat.ensures.len);
       numbers_room = c.push_reserved.ensures.capacity ∙ c.loop-seat.invariant.numbers_room;

@@ -14,7 +14,8 @@ loop-i-init c = record { long = refl; written = sym (blocks_zero (item_place c.a
 pub loop-i-preserved : goal.loop-i-preserved
 loop-i-preserved c =
     let i = c.loop-i.i in
-    let both = item_written c.args.items.now c.loop-i.out c.write_pair.new.out i _ _ c.loop-i.invariant.written (omega arith) c.write_pair.ensures (omega arith) (omega arith) in
+    let both = item_written c.args.items.now c.loop-i.out c.write_pair.new.out i _ _ c.loop-i.invariant.written
+    (omega arith) c.write_pair.ensures (omega arith) (omega arith) in
     record { long = both.0 ∙ c.loop-i.invariant.long; written = both.1 }
 
 pub returns : goal.returns
@@ -25,5 +26,7 @@ returns c =
     let all : c.loop-i.i ≡ length items = omega arith in
     let before : take a out ≡ blocks (item_place items) (length items) =
     subst (λ n. take (n * ITEM_WORDS) out ≡ blocks (item_place items) n) all c.loop-i.invariant.written in
-    let rest : length (take (length out - a) (drop a out)) ≡ length out - a = omega (arith, length-take (length out - a) (drop a out), length-drop a out) in
-    items_written items c.args.room out c.fill.new.self before (omega arith) (omega arith) (c.fill.ensures.after (λ y e. e) ∙ ap (λ n. replicate n 0) rest)
+    let rest : length (take (length out - a) (drop a out)) ≡ length out - a =
+    omega (arith, length-take (length out - a) (drop a out), length-drop a out) in
+    items_written items c.args.room out c.fill.new.self before (omega arith) (omega arith)
+    (c.fill.ensures.after (λ y e. e) ∙ ap (λ n. replicate n 0) rest)

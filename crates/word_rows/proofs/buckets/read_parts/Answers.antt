@@ -19,8 +19,11 @@ from_true false P said = λ yes. absurd (cc)
 pub returns-then-not-read_items-clause-spelled : goal.returns-then-not-read_items-clause-spelled
 returns-then-not-read_items-clause-spelled c =
     let settings = c.args.settings.now in
-    let words = c.args.words.now in
-    (λ h. cc, λ some. c.if-not-read_items.ensures.stands.1 (item_part_stands settings words (bucket_stands settings some.0 words some.1)))
+    let words = c.args.words.now in (
+      λ h. cc,
+      λ some. c.if-not-read_items.ensures.stands.1
+          (item_part_stands settings words (bucket_stands settings some.0 words some.1)),
+    )
 
 pub returns-clause-spelled : goal.returns-clause-spelled
 returns-clause-spelled c =
@@ -29,9 +32,11 @@ returns-clause-spelled c =
       λ yes. (
         bucket_of_words settings words,
         bucket_spelled settings words c.requires.whole (λ i. omega (arith, c.type_inv.words i))
-            (parts_stand settings words (c.if-not-read_head.ensures.stands.0 refl) (c.if-not-read_items.ensures.stands.0 refl) (c.read_seats.ensures.stands.0 yes)),
+            (parts_stand settings words (c.if-not-read_head.ensures.stands.0 refl)
+            (c.if-not-read_items.ensures.stands.0 refl) (c.read_seats.ensures.stands.0 yes)),
       ),
-      λ some. c.read_seats.ensures.stands.1 (seat_part_stands settings words (bucket_stands settings some.0 words some.1)),
+      λ some. c.read_seats.ensures.stands.1 (seat_part_stands settings words
+          (bucket_stands settings some.0 words some.1)),
     )
 
 pub returns-clause-read : goal.returns-clause-read
@@ -40,8 +45,10 @@ returns-clause-read c = on_true c.read_seats.result _ (λ yes.
     let words = c.args.words.now in
     let head = c.if-not-read_head.ensures.read in
     parts_read settings words _ c.requires.whole (λ i. omega (arith, c.type_inv.words i))
-    (parts_stand settings words (c.if-not-read_head.ensures.stands.0 refl) (c.if-not-read_items.ensures.stands.0 refl) (c.read_seats.ensures.stands.0 yes))
-    (ap (λ (r : BucketRow). r.prefix) head) (ap (λ (r : BucketRow). r.depth) head) (ap (λ (r : BucketRow). r.base) head) (ap (λ (r : BucketRow). r.frozen) head)
+    (parts_stand settings words (c.if-not-read_head.ensures.stands.0 refl)
+    (c.if-not-read_items.ensures.stands.0 refl) (c.read_seats.ensures.stands.0 yes))
+    (ap (λ (r : BucketRow). r.prefix) head) (ap (λ (r : BucketRow). r.depth) head)
+    (ap (λ (r : BucketRow). r.base) head) (ap (λ (r : BucketRow). r.frozen) head)
     c.if-not-read_items.ensures.read
     (from_true c.read_seats.result _ c.read_seats.ensures.numbers yes)
     (from_true c.read_seats.result _ c.read_seats.ensures.replies yes))

@@ -13,7 +13,10 @@ invariant_of-result c =
     let settings = c.args.settings.now in
     let rows = c.args.rows.now in
     record {
-      shaped = made_shape settings rows _ (front_of settings.seats c.copy_from_slice.new.self rows _ c.copy_from_slice.ensures.after c.requires.each_seat) c.requires.each_seat c.requires.small;
+      shaped = made_shape settings rows _ (front_of settings.seats c.copy_from_slice.new.self rows _
+          c.copy_from_slice.ensures.after c.requires.each_seat) c.requires.each_seat c.requires.small;
       counted = c.rows_after-counts.ensures
-          ∙ ap (λ (kept : List SeatRows). by_kind (number_after settings kept)) (sym (front_of settings.seats c.copy_from_slice.new.self rows _ c.copy_from_slice.ensures.after c.requires.each_seat));
+          ∙ ap (λ (kept : List SeatRows). by_kind (number_after settings kept))
+          (sym (front_of settings.seats c.copy_from_slice.new.self rows _ c.copy_from_slice.ensures.after
+          c.requires.each_seat));
     }
