@@ -1,0 +1,49 @@
+//! What holds in every run of every table.
+
+ghost use Rattle.core_model.specs.Promises.{StepsAreBounded, UpdatesAreShort, LookupsAreShort, UpdatesEnd, LookupsEnd, LeavesComeInTwos, LeavesComeOnce, RowsSuffice};
+ghost use Rattle.core_model.specs.Needs.{FewArePublished, BatchRowsSuffice};
+ghost use Rattle.core_bounds.specs.Numbers.{SpentIsUsed, RecordsAreNumbered, FlightsAreNumbered};
+ghost use Rattle.core_bounds.specs.Splits.{SplitsAreFew};
+
+/// Every answered call has its steps: an update at most the bound, a lookup exactly those of the items of its row. A
+/// call in flight has fewer than it may have, and ends, whatever the other seats do.
+pub fn step_laws()
+    ensures bounded { StepsAreBounded }
+    ensures updates_short { UpdatesAreShort }
+    ensures lookups_short { LookupsAreShort }
+    ensures updates_end { UpdatesEnd }
+    ensures lookups_end { LookupsEnd }
+{}
+
+/// A seat's records are numbered from 1 on, its call in flight has the next number, and an idle seat has published
+/// what it had after its last answer.
+pub fn number_laws()
+    ensures spent { SpentIsUsed }
+    ensures records { RecordsAreNumbered }
+    ensures flights { FlightsAreNumbered }
+{}
+
+/// Every exchange of the root brings at least two new buckets, and no prefix becomes a bucket twice.
+pub fn leaf_laws()
+    ensures twos { LeavesComeInTwos }
+    ensures once { LeavesComeOnce }
+{}
+
+/// The automatic rows suffice.
+pub fn row_laws()
+    ensures suffice { RowsSuffice }
+{}
+
+/// Few rows are published: the root is exchanged once at most for each prefix that can be split, and all seats together
+/// publish two buckets at most for each; a seat publishes a bucket row for each update that it began, and two more for
+/// each such prefix. So the rows of a batch suffice.
+pub fn batch_laws()
+    ensures few { FewArePublished }
+    ensures suffice { BatchRowsSuffice }
+{}
+
+/// The splits after the opening and the frozen buckets in use are together at most as many as the prefixes that can be
+/// split.
+pub fn split_laws()
+    ensures few { SplitsAreFew }
+{}

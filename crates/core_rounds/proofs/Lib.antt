@@ -1,0 +1,17 @@
+pub mod Begin
+pub mod BucketStep
+pub mod Publish
+pub mod Puts
+pub mod DirStep
+pub mod Grown
+pub mod PublishRoot
+pub mod Won
+pub mod Runs
+pub mod Layers
+pub mod FromLaws
+pub mod Changes
+pub mod Stored
+pub mod Opened
+pub mod Within
+pub mod OpRows
+pub mod Tried
