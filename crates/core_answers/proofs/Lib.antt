@@ -1,0 +1,12 @@
+pub mod Tale
+pub mod Grows
+pub mod Facts
+pub mod ChangeFacts
+pub mod RowPublished
+pub mod Grown
+pub mod VersionPublished
+pub mod Phases
+pub mod Moments
+pub mod Steps
+pub mod AllRuns
+pub mod Answered

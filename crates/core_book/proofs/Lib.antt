@@ -1,0 +1,5 @@
+pub mod FromWords
+pub mod Leadings
+pub mod LoadStates
+pub mod Told
+pub mod Covers

@@ -1,0 +1,10 @@
+pub mod Calls
+pub mod VersionSteps
+pub mod AtEnd
+pub mod Promised
+pub mod Depths
+pub mod Warranted
+pub mod Lookups
+pub mod CallKeys
+pub mod Reopened
+pub mod Reopens

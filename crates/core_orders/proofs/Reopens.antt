@@ -1,0 +1,147 @@
+-- The closed pairs of each run can open the next table.
+use Rattle.std.proofs.Common.{◌≡◌, ℕ, ◌<◌, ◌≤◌, List, [], ◌∷◌, ◌++◌, map, get_or, None, Some, inl, inr, refl, sym, ◌∙◌, subst, arith}
+use Rattle.std.specs.Prelude.{All, IsPermutation, fold}
+use Rattle.std.specs.FinMap.{empty, get-empty}
+use Rattle.plain_map.specs.declared.keys.Key.{Key}
+use Rattle.plain_map.specs.declared.keys.Pair.{Pair}
+use Rattle.plain_map.specs.declared.rules.Rules.{Rules}
+use Rattle.plain_map.specs.Keys.{key_cmp}
+use Rattle.plain_map.specs.Calls.{key_in}
+use Rattle.plain_map.specs.Updates.{value_limit}
+use Rattle.plain_map.specs.PlainObject.{Sessions, pairs_of, map_after, class_of, class_size}
+use Rattle.plain_map.specs.History.{Placed, answered, pending, call_in, sessions_after}
+use Rattle.bucket_states.specs.Parts.{HasDistinctKeys}
+use Rattle.bucket_states.proofs.PartLemmas.{class_size-few}
+use Rattle.core_model.specs.declared.events.Event.{Event}
+use Rattle.core_model.specs.Setup.{Setup, IsKey, IsPair, HaveRoom, rules_of}
+use Rattle.core_model.specs.Opening.{insert_of}
+use Rattle.core_model.specs.Worlds.{World, IsRun, world_after}
+use Rattle.core_model.specs.Order.{order_of, effects_of, took_effect}
+use Rattle.core_model.specs.Closed.{closing_of, records_of, begun_of, closed_pairs, sessions_with}
+use Rattle.core_model.specs.Histories.{sessions_of_order, PairsReopen}
+use Rattle.core_history.proofs.Ghost.{Common, Local, lead, last}
+use Rattle.core_history.proofs.RowLemmas.{in_range}
+use Rattle.core_rounds.proofs.Runs.{Follows}
+use Rattle.core_placing.proofs.Lists.{In, in_both, in_map, in_filter}
+use Rattle.core_reading.proofs.ClosedPairs.{value_in}
+use Rattle.core_reading.proofs.HeldPairs.{pairs_are_held}
+use Rattle.core_answers.proofs.Tale.{Tale}
+use Rattle.core_answers.proofs.AllRuns.{Tells, all_tell}
+use Rattle.core_orders.proofs.Calls.{in_at, at_in}
+use Rattle.core_orders.proofs.CallKeys.{AreGood, KeysAreGood, all_good, records_good, begun_good, keys_after}
+use Rattle.core_orders.proofs.AtEnd.{end_holds, pairs_are_of_order}
+use Rattle.core_orders.proofs.Promised.{order_is_whole}
+use Rattle.core_orders.proofs.Reopened.{was_in, keys_apart, have_room, reopened}
+
+-- after pairs with such keys each key that is held is one
+keys_with : (rules : Rules) (pairs : List Pair) (m : Sessions) → ((p : Pair) → In p pairs → IsKey p.key) →
+    KeysAreGood m → KeysAreGood (fold (λ s pair. map_after rules s (insert_of pair)) m pairs)
+keys_with rules [] m all good = good
+keys_with rules (p ∷ pairs) m all good = keys_with rules pairs (map_after rules m (insert_of p))
+    (λ q i. all q (inr i)) (keys_after rules m (insert_of p) good (all p (inl refl)))
+
+-- and after calls with such keys
+keys_of_order : (rules : Rules) (order : List Placed) (m : Sessions) →
+    ((x : Placed) → In x order → IsKey (key_in (call_in x))) → KeysAreGood m →
+    KeysAreGood (sessions_after rules m order)
+keys_of_order rules [] m all good = good
+keys_of_order rules (x ∷ order) m all good = keys_of_order rules order (map_after rules m (call_in x))
+    (λ q i. all q (inr i)) (keys_after rules m (call_in x) good (all x (inl refl)))
+
+module _ (setup : Setup) (events : List Event) (run : IsRun setup events) where
+  -- what the run leaves
+  abbrev w : World
+  w = world_after setup events
+
+  -- all seats have such keys
+  good : AreGood w.seats
+  good = all_good setup events run.follow
+
+  -- so have all calls of the order
+  order_good : (x : Placed) → In x (order_of setup.shape (closing_of w)) → IsKey (key_in (call_in x))
+  order_good x m =
+      let records = map answered (records_of w) in
+      let effects = map pending (effects_of setup.shape (closing_of w)) in
+      elim (in_both x records effects (was_in (records ++ effects) (order_of setup.shape (closing_of w)) x
+      (order_is_whole setup events run) m)) [
+        | inl i ↦ let r = in_map answered (records_of w) x i in
+            subst (λ z. IsKey (key_in (call_in z))) (sym r.2) (records_good w good r.0 r.1)
+        | inr i ↦ let u = in_map pending (effects_of setup.shape (closing_of w)) x i in
+            subst (λ z. IsKey (key_in (call_in z))) (sym u.2) (begun_good w good u.0
+            (in_filter (took_effect setup.shape w.words) (begun_of w) u.0 u.1).0)
+      ]
+
+  -- and what is held
+  held_good : KeysAreGood (sessions_of_order setup events)
+  held_good = keys_of_order (rules_of setup) (order_of setup.shape (closing_of w))
+      (sessions_with (rules_of setup) setup.first) order_good
+      (keys_with (rules_of setup) setup.first empty first_good (λ q v e. none_some (sym (get-empty key_cmp q) ∙ e)))
+    where
+      first_good : (p : Pair) → In p setup.first → IsKey p.key
+      first_good p m = let at = at_in setup.first p p m in
+          subst (λ (z : Pair). IsKey z.key) (sym at.2) (run.opened.pairs at.0 p at.1).key
+
+      none_some : {v : ℕ} {A : Type 0} → None ≡ Some v → A
+      none_some e = cc
+
+  module _ (c : Common) (locals : ℕ → Local) (f : Follows setup w c locals) (t : Tale)
+      (y : Tells setup w c locals t) where
+    -- what is held
+    abbrev held : Sessions
+    held = sessions_of_order setup events
+
+    -- the closed pairs
+    abbrev pairs : List Pair
+    pairs = closed_pairs setup.shape w.words
+
+    -- they are those that are held
+    moved : IsPermutation (pairs_of held) pairs
+    moved = pairs_are_of_order setup w c locals f t y
+
+    -- no class has more keys than a bucket has room for
+    few : (key : Key) → class_size (rules_of setup) held (class_of (rules_of setup) key) ≤ (rules_of setup).items
+    few key =
+        let b = lead setup c c.dir_top key in
+        let there = f.shared.leads.there c.dir_top key (omega arith) in
+        let sound = f.shared.rows.sound b (c.top b) there (omega arith) in
+        omega (
+          arith,
+          sound.good.few,
+          class_size-few (rules_of setup) (c.pre b) (c.deep b) (last c b).items held
+              (end_holds setup w c locals f t y key) key (in_range setup)
+              (omega (arith, sound.good.within, sound.depth_is))
+              (f.shared.leads.for_it c.dir_top key (omega arith)),
+        )
+
+    -- each pair can be kept
+    kept : (pair : Pair) → In pair pairs → IsPair pair
+    kept pair m =
+        let held_at = (pairs_are_held held).there pair (was_in (pairs_of held) pairs pair moved m) in
+        let b = lead setup c c.dir_top pair.key in
+        let there = f.shared.leads.there c.dir_top pair.key (omega arith) in
+        let sound = f.shared.rows.sound b (c.top b) there (omega arith) in
+        let part = end_holds setup w c locals f t y pair.key in
+        let in_items = value_in (last c b).items pair.key pair.value
+        (part.same pair.key (f.shared.leads.for_it c.dir_top pair.key (omega arith)) ∙ held_at) in
+        let at = at_in (last c b).items pair pair in_items in
+        record {
+          key = held_good pair.key pair.value held_at;
+          value = subst (λ (z : Pair). z.value < value_limit) (sym at.2) (sound.small.values at.0 pair at.1);
+        }
+
+    -- so they can open the next table
+    opens_next : (All IsPair pairs) × HasDistinctKeys pairs × HaveRoom (rules_of setup) pairs
+        × (sessions_with (rules_of setup) pairs ≡ held)
+    opens_next =
+        let room = have_room held pairs moved (rules_of setup) few in (
+          (λ k d h. kept (get_or pairs k d) (in_at pairs k d h)),
+          keys_apart held pairs moved,
+          room,
+          reopened (rules_of setup) held pairs moved room,
+        )
+
+-- after every run
+pub pairs_reopen : PairsReopen
+pairs_reopen setup events run =
+    let a = all_tell setup events run in
+    opens_next setup events run a.common a.locals a.follows a.extra a.holds
