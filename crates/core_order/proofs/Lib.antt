@@ -1,4 +1,3 @@
-mod ShapeLemmas
 mod WordLemmas
 mod LoopLemmas
 mod LineLemmas

@@ -14,7 +14,7 @@ use Rattle.core_model.specs.Order.{Closing, is_call, calls_of, new_in_rows, upda
 -- the call of one seat's update
 abbrev pub update_of : Setup → Closing → List ℕ → (seat : ℕ) → List Placed
 update_of setup closing rows seat =
-    option_map_or (λ number. option_to_list (find (is_call seat number) (calls_of closing))) (new_in_rows setup closing.words rows seat) []
+    option_map_or (λ number. option_to_list (find (is_call seat number) (calls_of closing))) (new_in_rows setup.shape closing.words rows seat) []
 
 -- those of the seats below this one
 unfoldable pub updates_below : Setup → Closing → List ℕ → (seat : ℕ) → List Placed
@@ -44,7 +44,7 @@ updates_below-more setup closing rows seat done done_then piece is more were =
     ∙ sym (ap (flat_map f) (range_more seat) ∙ flat_map-append f (range_with_len 0 seat) (seat ∷ []))
 
 -- those of all seats
-pub updates_below-all : (setup : Setup) (closing : Closing) (rows : List ℕ) → updates_below setup closing rows (seats_of setup) ≡ updates_in_rows setup closing rows
+pub updates_below-all : (setup : Setup) (closing : Closing) (rows : List ℕ) → updates_below setup closing rows (seats_of setup) ≡ updates_in_rows setup.shape closing rows
 unfolding updates_below
 updates_below-all setup closing rows = refl
 

@@ -1,19 +1,9 @@
--- The words of rows, and what a world must be for its closing to be told.
-use Rattle.std.specs.Prelude.{ℕ, ◌^◌, ◌≤◌, List, length}
+-- What a world must be for its closing to be told.
+use Rattle.std.specs.Prelude.{◌^◌, ◌≤◌, length}
 use Rattle.std.specs.List.{All}
-use Rattle.step_counts.specs.StepCounts.{bucket_row_words}
 use Rattle.plain_map.specs.declared.records.TheConstants.{MOST_SEATS}
-use Rattle.word_rows.specs.declared.addresses.Address.TheVariants.{BucketRowWord}
-use Rattle.word_rows.specs.Places.{place}
-use Rattle.core_model.specs.Setup.{Setup, settings_of}
 use Rattle.core_model.specs.SeatStates.{Stand, Idle, InFlight}
 use Rattle.core_model.specs.Worlds.{World}
-use Rattle.core_model.specs.Reading.{words_from}
-
--- the words of a bucket row
-abbrev pub bucket_row_part : Setup → List ℕ → (row : ℕ) → List ℕ
-bucket_row_part setup words row =
-    words_from words (place setup.shape (BucketRowWord row 0)) (bucket_row_words (settings_of setup))
 
 -- a seat in flight saw no more done words than there can be seats
 abbrev pub SawFew : Stand → Type 0

@@ -14,7 +14,7 @@ ghost use Rattle.core_model.specs.Reading.{applied_at, bucket_at};
 ghost use Rattle.core_model.specs.Order.{effects_of};
 ghost use Rattle.core_model.specs.Closed.{closed_buckets, closed_depth, closed_leaves, closed_pairs, leaf_at};
 ghost use Rattle.core_values.specs.Views.{as_setup};
-ghost use Rattle.core_order.specs.Parts.{bucket_row_part};
+ghost use Rattle.core_model.specs.Reading.{bucket_spelling};
 ghost use Rattle.core_order.specs.Views.{as_closed_leaf, as_closing};
 
 use crate::placed::is_update;
@@ -27,18 +27,18 @@ use crate::{
 use core_values::PlainSetup;
 use plain_map::{Key, Pair, Pending};
 use std::alloc::{AllocError, Global};
-use step_counts::ITEM_WORDS;
+use step_counts::{BUCKET_HEAD_WORDS, ITEM_WORDS};
 
 /// The depth of the directory in use.
 pub fn closed_depth(setup: &PlainSetup, words: &[u64]) -> u64
-    ensures { result ≡ closed_depth (as_setup setup.now) words.now }
+    ensures { result ≡ closed_depth (as_setup setup.now).shape words.now }
 {
     directory_depth(setup, words, root_of(setup, words))
 }
 
 // The buckets that the directory in use names, in the order of its places.
 fn closed_buckets(alloc: Global, setup: &PlainSetup, words: &[u64]) -> Result<Vec<u64>, AllocError>
-    ensures { IfOk result (λ buckets. buckets.items ≡ closed_buckets (as_setup setup.now) words.now) }
+    ensures { IfOk result (λ buckets. buckets.items ≡ closed_buckets (as_setup setup.now).shape words.now) }
 {
     let named = directory_entries(setup, words, root_of(setup, words));
     each_once_first(alloc, named)
@@ -50,7 +50,7 @@ pub fn closed_leaves(
     setup: &PlainSetup,
     words: &[u64],
 ) -> Result<Vec<ClosedLeaf>, AllocError>
-    ensures { IfOk result (λ leaves. map as_closed_leaf leaves.items ≡ closed_leaves (as_setup setup.now) words.now) }
+    ensures { IfOk result (λ leaves. map as_closed_leaf leaves.items ≡ closed_leaves (as_setup setup.now).shape words.now) }
 {
     let buckets = closed_buckets(alloc, setup, words)?;
     let mut leaves = Vec::new(alloc);
@@ -62,7 +62,7 @@ pub fn closed_leaves(
 
 // What the row in use of a bucket says of its place.
 fn leaf_at(setup: &PlainSetup, words: &[u64], bucket: u64) -> ClosedLeaf
-    ensures { as_closed_leaf result ≡ leaf_at (as_setup setup.now) words.now bucket }
+    ensures { as_closed_leaf result ≡ leaf_at (as_setup setup.now).shape words.now bucket }
 {
     let row = row_of(setup, words, bucket);
     ClosedLeaf {
@@ -77,7 +77,7 @@ pub fn closed_pairs(
     setup: &PlainSetup,
     words: &[u64],
 ) -> Result<Vec<Pair>, AllocError>
-    ensures { IfOk result (λ pairs. pairs.items ≡ closed_pairs (as_setup setup.now) words.now) }
+    ensures { IfOk result (λ pairs. pairs.items ≡ closed_pairs (as_setup setup.now).shape words.now) }
 {
     let buckets = closed_buckets(alloc, setup, words)?;
     let mut pairs = Vec::new(alloc);
@@ -95,7 +95,7 @@ pub fn row_items(
     words: &[u64],
     row: u64,
 ) -> Result<Vec<Pair>, AllocError>
-    ensures { IfOk result (λ items. items.items ≡ (bucket_at (as_setup setup.now) words.now row).items) }
+    ensures { IfOk result (λ items. items.items ≡ (bucket_at (as_setup setup.now).shape words.now row).items) }
 {
     let mut items = Vec::new(alloc);
     for i in 0..bucket_row_word(setup, words, row, 4) {
@@ -107,7 +107,7 @@ pub fn row_items(
 // The item at the i-th place.
 fn item_at(setup: &PlainSetup, words: &[u64], row: u64, i: u64) -> Pair
     ensures { result ≡ pair_of_words
-        (block ITEM_WORDS i (item_part (settings_of (as_setup setup.now)) (bucket_row_part (as_setup setup.now) words.now row))) }
+        (block ITEM_WORDS i (item_part (settings_of (as_setup setup.now)) (bucket_spelling (as_setup setup.now).shape words.now row))) }
 {
     Pair {
         key: Key {
@@ -122,12 +122,17 @@ fn item_at(setup: &PlainSetup, words: &[u64], row: u64, i: u64) -> Pair
 fn item_word(setup: &PlainSetup, words: &[u64], row: u64, i: u64, j: u64) -> u64
     requires { j < ITEM_WORDS }
     ensures { result ≡ slice_index
-        (block ITEM_WORDS i (item_part (settings_of (as_setup setup.now)) (bucket_row_part (as_setup setup.now) words.now row))) j }
+        (block ITEM_WORDS i (item_part (settings_of (as_setup setup.now)) (bucket_spelling (as_setup setup.now).shape words.now row))) j }
 {
     if i >= u64::from(setup.layout.settings().items) {
         return 0;
     }
-    bucket_row_word(setup, words, row, 5 + (i * ITEM_WORDS as u64 + j))
+    bucket_row_word(
+        setup,
+        words,
+        row,
+        BUCKET_HEAD_WORDS as u64 + (i * ITEM_WORDS as u64 + j),
+    )
 }
 
 /// The pending updates that took effect: those whose number is the applied number of their seat in a published row.
@@ -136,7 +141,7 @@ pub fn effects(
     setup: &PlainSetup,
     closing: &PlainClosing,
 ) -> Result<Vec<Pending>, AllocError>
-    ensures { IfOk result (λ effects. effects.items ≡ effects_of (as_setup setup.now) (as_closing closing.now)) }
+    ensures { IfOk result (λ effects. effects.items ≡ effects_of (as_setup setup.now).shape (as_closing closing.now)) }
 {
     let rows = bucket_rows(alloc, setup, &closing.words)?;
     took_effect(alloc, setup, &closing.words, &rows, &closing.begun)
@@ -151,7 +156,7 @@ fn took_effect(
     begun: &[Pending],
 ) -> Result<Vec<Pending>, AllocError>
     ensures { IfOk result (λ effects. effects.items
-        ≡ filter (λ p. is_update p.call && list_any (λ row. applied_at (as_setup setup.now) words.now row p.seat == p.number) rows.now) begun.now) }
+        ≡ filter (λ p. is_update p.call && list_any (λ row. applied_at (as_setup setup.now).shape words.now row p.seat == p.number) rows.now) begun.now) }
 {
     let mut effects = Vec::new(alloc);
     for pending in begun {
@@ -165,7 +170,7 @@ fn took_effect(
 // Whether the call's number is the applied number of its seat in one of these rows.
 fn was_applied(setup: &PlainSetup, words: &[u64], rows: &[u64], pending: &Pending) -> bool
     ensures { result ≡ list_any
-        (λ row. applied_at (as_setup setup.now) words.now row pending.now.seat == pending.now.number) rows.now }
+        (λ row. applied_at (as_setup setup.now).shape words.now row pending.now.seat == pending.now.number) rows.now }
 {
     for row in rows {
         if applied_at(setup, words, *row, pending.seat) == u64::from(pending.number) {

@@ -34,7 +34,7 @@ use std::alloc::{AllocError, Global};
 
 /// The number of the seat's update that is new in a row, beside the row that it was made from.
 pub fn new_number(setup: &PlainSetup, words: &[u64], seat: u32, row: u64) -> Option<u64>
-    ensures { result ≡ new_number (as_setup setup.now) words.now seat row }
+    ensures { result ≡ new_number (as_setup setup.now).shape words.now seat row }
 {
     let Some(base) = row_base(setup, words, row) else {
         return None;
@@ -54,7 +54,7 @@ pub fn first_rows(
     words: &[u64],
     row: u64,
 ) -> Result<Vec<u64>, AllocError>
-    ensures { IfOk result (λ rows. rows.items ≡ first_rows (as_setup setup.now) words.now row) }
+    ensures { IfOk result (λ rows. rows.items ≡ first_rows (as_setup setup.now).shape words.now row) }
 {
     let leaves = leaves_new_in(alloc, setup, words, row)?;
     let mut rows = Vec::new(alloc);
@@ -68,7 +68,7 @@ pub fn first_rows(
 
 /// The number of the seat's update that is new in one of these rows: in the first such.
 pub fn new_in_rows(setup: &PlainSetup, words: &[u64], rows: &[u64], seat: u32) -> Option<u64>
-    ensures { result ≡ new_in_rows (as_setup setup.now) words.now rows.now seat }
+    ensures { result ≡ new_in_rows (as_setup setup.now).shape words.now rows.now seat }
 {
     for row in rows {
         if let Some(number) = new_number(setup, words, seat, *row) {
@@ -86,7 +86,7 @@ pub fn updates_in_rows(
     rows: &[u64],
 ) -> Result<Vec<PlainPlaced>, AllocError>
     ensures { IfOk result (λ calls. map as_placed calls.items
-        ≡ updates_in_rows (as_setup setup.now) (as_closing closing.now) rows.now) }
+        ≡ updates_in_rows (as_setup setup.now).shape (as_closing closing.now) rows.now) }
 {
     let mut updates = Vec::new(alloc);
     for seat in 0..setup.seats() {
@@ -106,7 +106,7 @@ fn update_in_rows(
 ) -> Option<PlainPlaced>
     ensures { option_to_list (option_map as_placed result)
         ≡ option_map_or (λ number. option_to_list (find (is_call seat number) (calls_of (as_closing closing.now))))
-        (new_in_rows (as_setup setup.now) (as_closing closing.now).words rows.now seat) [] }
+        (new_in_rows (as_setup setup.now).shape (as_closing closing.now).words rows.now seat) [] }
 {
     let Some(number) = new_in_rows(setup, &closing.words, rows, seat) else {
         return None;
@@ -122,7 +122,7 @@ pub fn calls_in(
     piece: &PlainPiece,
 ) -> Result<Vec<PlainPlaced>, AllocError>
     ensures { IfOk result (λ calls. map as_placed calls.items
-        ≡ calls_in (as_setup setup.now) (as_closing closing.now) (as_piece piece.now)) }
+        ≡ calls_in (as_setup setup.now).shape (as_closing closing.now) (as_piece piece.now)) }
 {
     match piece {
         PlainPiece::ByBucketRow(row) => updates_in_rows(alloc, setup, closing, &[*row]),
@@ -140,7 +140,7 @@ pub fn calls_in(
 
 /// Whether a directory row is another than the first.
 pub fn is_later(setup: &PlainSetup, words: &[u64], row: u64) -> bool
-    ensures { result ≡ is_later (as_setup setup.now) words.now row }
+    ensures { result ≡ is_later (as_setup setup.now).shape words.now row }
 {
     directory_base(setup, words, row).is_some()
 }
@@ -151,7 +151,7 @@ pub fn pieces_of(
     setup: &PlainSetup,
     closing: &PlainClosing,
 ) -> Result<Vec<PlainPiece>, AllocError>
-    ensures { IfOk result (λ pieces. map as_piece pieces.items ≡ pieces_of (as_setup setup.now) (as_closing closing.now)) }
+    ensures { IfOk result (λ pieces. map as_piece pieces.items ≡ pieces_of (as_setup setup.now).shape (as_closing closing.now)) }
 {
     let mut pieces = exchanged_rows(alloc, setup, &closing.words)?;
     pieces.extend_from_slice(&later_rows(alloc, setup, &closing.words)?)?;
@@ -166,7 +166,7 @@ fn exchanged_rows(
     words: &[u64],
 ) -> Result<Vec<PlainPiece>, AllocError>
     ensures { IfOk result (λ pieces. map as_piece pieces.items
-        ≡ map ByBucketRow (filter (is_exchanged (as_setup setup.now) words.now) (bucket_rows (as_setup setup.now) words.now))) }
+        ≡ map ByBucketRow (filter (is_exchanged (as_setup setup.now).shape words.now) (bucket_rows (as_setup setup.now).shape words.now))) }
 {
     let rows = bucket_rows(alloc, setup, words)?;
     let mut pieces = Vec::new(alloc);
@@ -185,7 +185,7 @@ fn later_rows(
     words: &[u64],
 ) -> Result<Vec<PlainPiece>, AllocError>
     ensures { IfOk result (λ pieces. map as_piece pieces.items
-        ≡ map ByDirectoryRow (filter (is_later (as_setup setup.now) words.now) (directory_rows (as_setup setup.now) words.now))) }
+        ≡ map ByDirectoryRow (filter (is_later (as_setup setup.now).shape words.now) (directory_rows (as_setup setup.now).shape words.now))) }
 {
     let rows = directory_rows(alloc, setup, words)?;
     let mut pieces = Vec::new(alloc);

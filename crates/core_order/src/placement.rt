@@ -39,7 +39,7 @@ pub fn start_of(
     setup: &PlainSetup,
     closing: &PlainClosing,
 ) -> Result<PlainPlacing, AllocError>
-    ensures { IfOk result (λ placing. as_placing placing ≡ start_of (as_setup setup.now) (as_closing closing.now)) }
+    ensures { IfOk result (λ placing. as_placing placing ≡ start_of (as_setup setup.now).shape (as_closing closing.now)) }
 {
     let rows = opening_rows(alloc, setup, &closing.words)?;
     let directories = opening_directories(alloc, setup, &closing.words)?;
@@ -55,8 +55,8 @@ pub fn start_of(
 // The published bucket rows that were made from none.
 fn opening_rows(alloc: Global, setup: &PlainSetup, words: &[u64]) -> Result<Vec<u64>, AllocError>
     ensures { IfOk result (λ rows. rows.items
-        ≡ filter (λ row. option_map_or (λ _. false) (bucket_row (as_setup setup.now) words.now row).base true)
-        (bucket_rows (as_setup setup.now) words.now)) }
+        ≡ filter (λ row. option_map_or (λ _. false) (bucket_row (as_setup setup.now).shape words.now row).base true)
+        (bucket_rows (as_setup setup.now).shape words.now)) }
 {
     let published = bucket_rows(alloc, setup, words)?;
     let mut rows = Vec::new(alloc);
@@ -75,7 +75,7 @@ fn opening_directories(
     words: &[u64],
 ) -> Result<Vec<u64>, AllocError>
     ensures { IfOk result (λ rows. rows.items
-        ≡ filter (λ row. not (is_later (as_setup setup.now) words.now row)) (directory_rows (as_setup setup.now) words.now)) }
+        ≡ filter (λ row. not (is_later (as_setup setup.now).shape words.now row)) (directory_rows (as_setup setup.now).shape words.now)) }
 {
     let published = directory_rows(alloc, setup, words)?;
     let mut rows = Vec::new(alloc);
@@ -106,7 +106,7 @@ fn are_done(
     rows: &[u64],
 ) -> bool
     ensures { result ≡ list_all
-        (λ first. is_done (as_closing closing.now) (as_placing placing.now) (bucket_row (as_setup setup.now) (as_closing closing.now).words first).base)
+        (λ first. is_done (as_closing closing.now) (as_placing placing.now) (bucket_row (as_setup setup.now).shape (as_closing closing.now).words first).base)
         rows.now }
 {
     for row in rows {
@@ -126,7 +126,7 @@ pub fn has_base(
     piece: &PlainPiece,
 ) -> Result<bool, AllocError>
     ensures { IfOk result (λ has. has
-        ≡ has_base (as_setup setup.now) (as_closing closing.now) (as_placing placing.now) (as_piece piece.now)) }
+        ≡ has_base (as_setup setup.now).shape (as_closing closing.now) (as_placing placing.now) (as_piece piece.now)) }
 {
     match piece {
         PlainPiece::ByBucketRow(row) => Ok(is_done(
@@ -153,7 +153,7 @@ fn has_directory(
     row: u64,
 ) -> bool
     ensures { result ≡ option_map_or (is_among (as_placing placing.now).directories)
-        (directory_row (as_setup setup.now) (as_closing closing.now).words row).base true }
+        (directory_row (as_setup setup.now).shape (as_closing closing.now).words row).base true }
 {
     match directory_base(setup, &closing.words, row) {
         Some(base) => placing.directories.contains(&base),
@@ -170,7 +170,7 @@ pub fn is_ready(
     piece: &PlainPiece,
 ) -> Result<bool, AllocError>
     ensures { IfOk result (λ ready. ready
-        ≡ is_ready (as_setup setup.now) (as_closing closing.now) (as_placing placing.now) (as_piece piece.now)) }
+        ≡ is_ready (as_setup setup.now).shape (as_closing closing.now) (as_placing placing.now) (as_piece piece.now)) }
 {
     if !has_base(alloc, setup, closing, placing, piece)? {
         return Ok(false);
@@ -199,7 +199,7 @@ fn has_rank(
     piece: &PlainPiece,
 ) -> Result<bool, AllocError>
     ensures { IfOk result (λ has. has
-        ≡ has_rank (as_setup setup.now) (as_closing closing.now) (as_placing placing.now) rank (as_piece piece.now)) }
+        ≡ has_rank (as_setup setup.now).shape (as_closing closing.now) (as_placing placing.now) rank (as_piece piece.now)) }
 {
     if !is_ready(alloc, setup, closing, placing, piece)? {
         return Ok(false);
@@ -217,7 +217,7 @@ fn first_of_rank(
     rank: u64,
 ) -> Result<Option<usize>, AllocError>
     ensures { IfOk result (λ at. at
-        ≡ position (has_rank (as_setup setup.now) (as_closing closing.now) (as_placing placing.now) rank) (as_placing placing.now).left) }
+        ≡ position (has_rank (as_setup setup.now).shape (as_closing closing.now) (as_placing placing.now) rank) (as_placing placing.now).left) }
 {
     for (at, piece) in placing.left.iter().enumerate() {
         if has_rank(alloc, setup, closing, placing, rank, piece)? {
@@ -234,7 +234,7 @@ pub fn choice(
     closing: &PlainClosing,
     placing: &PlainPlacing,
 ) -> Result<Option<usize>, AllocError>
-    ensures { IfOk result (λ at. at ≡ choice (as_setup setup.now) (as_closing closing.now) (as_placing placing.now)) }
+    ensures { IfOk result (λ at. at ≡ choice (as_setup setup.now).shape (as_closing closing.now) (as_placing placing.now)) }
 {
     for rank in 0..u64::from(setup.seats()) + 1 {
         if let Some(at) = first_of_rank(alloc, setup, closing, placing, rank)? {
@@ -251,7 +251,7 @@ fn rows_with(
     closing: &PlainClosing,
     piece: &PlainPiece,
 ) -> Result<Vec<u64>, AllocError>
-    ensures { IfOk result (λ rows. rows.items ≡ rows_with (as_setup setup.now) (as_closing closing.now) (as_piece piece.now)) }
+    ensures { IfOk result (λ rows. rows.items ≡ rows_with (as_setup setup.now).shape (as_closing closing.now) (as_piece piece.now)) }
 {
     match piece {
         PlainPiece::ByBucketRow(row) => one_number(alloc, *row),
@@ -288,7 +288,7 @@ pub fn place_piece(
     at: usize,
 ) -> Result<(), AllocError>
     ensures { OnOk result (as_placing placing.new
-        ≡ place_piece (as_setup setup.now) (as_closing closing.now) (as_placing placing.old) at (slice_get (as_placing placing.old).left at)) }
+        ≡ place_piece (as_setup setup.now).shape (as_closing closing.now) (as_placing placing.old) at (slice_get (as_placing placing.old).left at)) }
 {
     if at >= placing.left.len() {
         return Ok(());
@@ -312,7 +312,7 @@ pub fn place_all(
     most: usize,
 ) -> Result<(), AllocError>
     ensures { OnOk result (as_placing placing.new
-        ≡ place_all (as_setup setup.now) (as_closing closing.now) most (as_placing placing.old)) }
+        ≡ place_all (as_setup setup.now).shape (as_closing closing.now) most (as_placing placing.old)) }
 {
     for _ in 0..most {
         let Some(at) = choice(alloc, setup, closing, placing)? else {
@@ -330,7 +330,7 @@ pub fn placing(
     setup: &PlainSetup,
     closing: &PlainClosing,
 ) -> Result<PlainPlacing, AllocError>
-    ensures { IfOk result (λ placing. as_placing placing ≡ placing_of (as_setup setup.now) (as_closing closing.now)) }
+    ensures { IfOk result (λ placing. as_placing placing ≡ placing_of (as_setup setup.now).shape (as_closing closing.now)) }
 {
     let mut placing = start_of(alloc, setup, closing)?;
     let most = placing.left.len();
@@ -344,7 +344,7 @@ pub fn order(
     setup: &PlainSetup,
     closing: &PlainClosing,
 ) -> Result<Vec<PlainPlaced>, AllocError>
-    ensures { IfOk result (λ order. map as_placed order.items ≡ order_of (as_setup setup.now) (as_closing closing.now)) }
+    ensures { IfOk result (λ order. map as_placed order.items ≡ order_of (as_setup setup.now).shape (as_closing closing.now)) }
 {
     let PlainPlacing {
         rows: _,

@@ -56,7 +56,7 @@ pub fn bucket_line(
     words: &[u64],
     row: Option<u64>,
 ) -> Result<Vec<u64>, AllocError>
-    ensures { IfOk result (λ line. line.items ≡ bucket_line (as_setup setup.now) words.now row) }
+    ensures { IfOk result (λ line. line.items ≡ bucket_line (as_setup setup.now).shape words.now row) }
 {
     let mut line = Vec::new(alloc);
     let mut next = row;
@@ -77,7 +77,7 @@ pub fn directory_line(
     words: &[u64],
     row: Option<u64>,
 ) -> Result<Vec<u64>, AllocError>
-    ensures { IfOk result (λ line. line.items ≡ directory_line (as_setup setup.now) words.now row) }
+    ensures { IfOk result (λ line. line.items ≡ directory_line (as_setup setup.now).shape words.now row) }
 {
     let mut line = Vec::new(alloc);
     let mut next = row;
@@ -97,7 +97,7 @@ pub fn directory_rows(
     setup: &PlainSetup,
     words: &[u64],
 ) -> Result<Vec<u64>, AllocError>
-    ensures { IfOk result (λ rows. rows.items ≡ directory_rows (as_setup setup.now) words.now) }
+    ensures { IfOk result (λ rows. rows.items ≡ directory_rows (as_setup setup.now).shape words.now) }
 {
     directory_line(alloc, setup, words, Some(root_of(setup, words)))
 }
@@ -108,7 +108,7 @@ pub fn named_buckets(
     setup: &PlainSetup,
     words: &[u64],
 ) -> Result<Vec<u64>, AllocError>
-    ensures { IfOk result (λ buckets. buckets.items ≡ named_buckets (as_setup setup.now) words.now) }
+    ensures { IfOk result (λ buckets. buckets.items ≡ named_buckets (as_setup setup.now).shape words.now) }
 {
     let rows = directory_rows(alloc, setup, words)?;
     let mut named = Vec::new(alloc);
@@ -120,7 +120,7 @@ pub fn named_buckets(
 
 /// The published bucket rows: of each of these buckets the row in use and all that it comes from.
 pub fn bucket_rows(alloc: Global, setup: &PlainSetup, words: &[u64]) -> Result<Vec<u64>, AllocError>
-    ensures { IfOk result (λ rows. rows.items ≡ bucket_rows (as_setup setup.now) words.now) }
+    ensures { IfOk result (λ rows. rows.items ≡ bucket_rows (as_setup setup.now).shape words.now) }
 {
     let buckets = named_buckets(alloc, setup, words)?;
     let mut rows = Vec::new(alloc);
@@ -133,7 +133,7 @@ pub fn bucket_rows(alloc: Global, setup: &PlainSetup, words: &[u64]) -> Result<V
 
 /// Whether a bucket row was published by an exchange of a bucket word.
 pub fn is_exchanged(setup: &PlainSetup, words: &[u64], row: u64) -> bool
-    ensures { result ≡ is_exchanged (as_setup setup.now) words.now row }
+    ensures { result ≡ is_exchanged (as_setup setup.now).shape words.now row }
 {
     match row_base(setup, words, row) {
         Some(base) => row_depth(setup, words, base) == row_depth(setup, words, row),
@@ -148,7 +148,7 @@ pub fn first_row(
     words: &[u64],
     bucket: u64,
 ) -> Result<Option<u64>, AllocError>
-    ensures { IfOk result (λ row. row ≡ first_row (as_setup setup.now) words.now bucket) }
+    ensures { IfOk result (λ row. row ≡ first_row (as_setup setup.now).shape words.now bucket) }
 {
     let line = bucket_line(alloc, setup, words, Some(row_of(setup, words, bucket)))?;
     for row in &line {
@@ -166,7 +166,7 @@ pub fn leaves_new_in(
     words: &[u64],
     row: u64,
 ) -> Result<Vec<u64>, AllocError>
-    ensures { IfOk result (λ leaves. leaves.items ≡ leaves_new_in (as_setup setup.now) words.now row) }
+    ensures { IfOk result (λ leaves. leaves.items ≡ leaves_new_in (as_setup setup.now).shape words.now row) }
 {
     match directory_base(setup, words, row) {
         Some(base) => leaves_beside(alloc, setup, words, row, base),
@@ -182,7 +182,7 @@ fn leaves_beside(
     row: u64,
     base: u64,
 ) -> Result<Vec<u64>, AllocError>
-    ensures { IfOk result (λ leaves. leaves.items ≡ leaves_beside (as_setup setup.now) words.now row (Some base)) }
+    ensures { IfOk result (λ leaves. leaves.items ≡ leaves_beside (as_setup setup.now).shape words.now row (Some base)) }
 {
     let named = each_once(alloc, directory_entries(setup, words, row))?;
     let mut leaves = Vec::new(alloc);

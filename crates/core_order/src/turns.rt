@@ -40,7 +40,7 @@ pub fn are_placed(order: &[PlainPlaced], many: u32, seat: u32) -> bool
 
 /// Whether all earlier calls of its seat, and all calls that it had seen, are placed.
 pub fn is_next(setup: &PlainSetup, order: &[PlainPlaced], placed: &PlainPlaced) -> bool
-    ensures { result ≡ is_next (as_setup setup.now) (map as_placed order.now) (as_placed placed.now) }
+    ensures { result ≡ is_next (as_setup setup.now).shape (map as_placed order.now) (as_placed placed.now) }
 {
     are_placed(order, placed.number().saturating_sub(1), placed.seat())
         && saw_placed(setup, order, placed)
@@ -62,7 +62,7 @@ fn saw_placed(setup: &PlainSetup, order: &[PlainPlaced], placed: &PlainPlaced) -
 
 /// Whether each of these calls may come next.
 pub(crate) fn are_next(setup: &PlainSetup, order: &[PlainPlaced], calls: &[PlainPlaced]) -> bool
-    ensures { result ≡ list_all (is_next (as_setup setup.now) (map as_placed order.now)) (map as_placed calls.now) }
+    ensures { result ≡ list_all (is_next (as_setup setup.now).shape (map as_placed order.now)) (map as_placed calls.now) }
 {
     for placed in calls {
         if !is_next(setup, order, placed) {

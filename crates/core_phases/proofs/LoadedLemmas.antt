@@ -12,15 +12,15 @@ use Rattle.core_model.specs.DirectoryChange.{LoadedBucket}
 use Rattle.core_model.specs.declared.rounds.Round.{Round}
 use Rattle.core_model.specs.Phases.{DirectoryTry, DirRow}
 use Rattle.core_model.specs.Goes.{more, bucket_in_words, after_loaded, after_loaded_words}
-use Rattle.core_values.specs.declared.values.PlainLoaded.{PlainLoaded}
+use Rattle.dir_states.specs.declared.values.Loaded.{Loaded}
 use Rattle.core_values.specs.Views.{as_loaded}
 
 -- the buckets that were loaded, with one more
-pub loaded_more : (loaded : List PlainLoaded) (one : PlainLoaded) → map as_loaded (loaded ++ one ∷ []) ≡ map as_loaded loaded ++ as_loaded one ∷ []
+pub loaded_more : (loaded : List Loaded) (one : Loaded) → map as_loaded (loaded ++ one ∷ []) ≡ map as_loaded loaded ++ as_loaded one ∷ []
 loaded_more loaded one = map-append as_loaded loaded (one ∷ [])
 
 -- the phase after one more bucket, by the words of its row
-pub words_loaded : (setup : Setup) (round : Round) (attempt : DirectoryTry) (found : List (Option Op)) (loaded all : List PlainLoaded)
+pub words_loaded : (setup : Setup) (round : Round) (attempt : DirectoryTry) (found : List (Option Op)) (loaded all : List Loaded)
     (bucket row : ℕ) (words : List ℕ) (state : Bucket)
     → bucket_row_words (settings_of setup) ≤ length words
     → state_of state ≡ bucket_in_words setup words

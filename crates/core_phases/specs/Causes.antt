@@ -13,7 +13,7 @@ use Rattle.core_model.specs.Phases.{BucketTry, Phase, SeeDone, TryRow, TryOp, Tr
 use Rattle.core_model.specs.SeatStates.{Account, Flight}
 use Rattle.core_model.specs.Goes.{more}
 use Rattle.core_values.specs.Rows.{IsOfTable}
-use Rattle.core_leaves.specs.Changes.{IsChange}
+use Rattle.core_model.specs.Fits.{IsChange}
 
 -- the loaded words are not a whole row yet, or spell a bucket
 abbrev pub IsRowSoFar : Setup → List ℕ → Type 0

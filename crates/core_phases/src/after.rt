@@ -13,8 +13,9 @@ use crate::StepFault;
 use crate::answers::with_answer;
 use crate::counts::counts_go_on;
 use crate::phases::phase_after;
-use core_leaves::change_leaves;
-use core_values::{PlainAccount, PlainFlight, PlainPhase, PlainSeat, PlainSetup, PlainStand};
+use core_values::{
+    PlainAccount, PlainFlight, PlainPhase, PlainSeat, PlainSetup, PlainStand, change_of,
+};
 use std::alloc::{AllocError, Global};
 use step_counts::SeatRows;
 
@@ -164,8 +165,8 @@ fn used_after(
             if word != attempt.root {
                 return Ok(Some(*used));
             }
-            match change_leaves(alloc, setup, attempt, found, loaded)? {
-                Some(leaves) => Ok(Some(with_directory(used, leaves.len() as u64))),
+            match change_of(alloc, setup, attempt, found, loaded, 0)? {
+                Some(change) => Ok(Some(with_directory(used, change.leaves().len() as u64))),
                 None => Ok(None),
             }
         }

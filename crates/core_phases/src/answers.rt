@@ -22,15 +22,17 @@ pub(crate) fn is_applied(seat: u32, flight: &PlainFlight, bucket: &Bucket) -> bo
     }
 }
 
-/// The reply of the seat is that in the bucket, whose row has this number.
+/// The reply of the seat is that in the bucket, whose row has this number. Where a call is applied there always is one.
 pub(crate) fn answered_by(seat: u32, bucket: &Bucket, row: u64) -> PlainPhase
     ensures { as_phase result ≡ answered_by seat (state_of bucket.now) row }
 {
-    let reply = match bucket.replies.get(seat as usize) {
-        Some(Some(reply)) => *reply,
-        _ => Reply::Absent,
-    };
-    PlainPhase::StoreDone { reply, place: row }
+    match bucket.replies.get(seat as usize) {
+        Some(Some(reply)) => PlainPhase::StoreDone {
+            reply: *reply,
+            place: row,
+        },
+        _ => PlainPhase::Stuck,
+    }
 }
 
 /// The account after one more answer.

@@ -245,12 +245,14 @@ pub(crate) fn after_exchange(
     let row = setup.next_number(seat, FullKind::BucketRows, used);
     if is_applied(seat, flight, &made) {
         Ok(Some(answered_by(seat, &made, row)))
-    } else {
+    } else if made.frozen {
         Ok(Some(PlainPhase::DirRoot {
             round,
             turn: 1,
             first: None,
         }))
+    } else {
+        Ok(Some(PlainPhase::Stuck))
     }
 }
 

@@ -23,18 +23,18 @@ ghost use Rattle.core_model.specs.Leaves.{is_in};
 ghost use Rattle.core_model.specs.Setup.{next_number, rules_of, seats_of};
 ghost use Rattle.core_model.specs.Stores.{directory_puts, made_leaves};
 ghost use Rattle.core_values.specs.Views.{as_directory_try, as_flight, as_leaf, as_loaded, as_phase, as_setup};
-ghost use Rattle.core_leaves.specs.Changes.{IsChange};
+ghost use Rattle.core_model.specs.Fits.{IsChange};
 ghost use Rattle.core_phases.specs.Causes.{IsOpSoFar, IsRowSoFar};
 
 use crate::answers::answered_by;
 use crate::rows::{row_length, whole_bucket, whole_op};
 use bucket_states::{Bucket, Op};
-use core_leaves::{change_leaves, directory_puts};
 use core_model::{Aim, Round};
 use core_values::{
-    PlainDirectory, PlainDirectoryTry, PlainFlight, PlainLeaf, PlainLoaded, PlainPhase, PlainSetup,
-    bucket_of, next_bucket, prefix_at,
+    PlainDirectory, PlainDirectoryTry, PlainFlight, PlainPhase, PlainSetup, bucket_of, change_of,
+    directory_puts, next_bucket, prefix_at,
 };
+use dir_states::{Loaded, NewLeaf};
 use plain_map::{FullKind, Key, Rules};
 use std::alloc::{AllocError, Global};
 use step_counts::{OP_WORDS, SeatRows};
@@ -124,7 +124,7 @@ fn after_loaded(
     round: Round,
     attempt: PlainDirectoryTry,
     found: Vec<Option<Op>>,
-    loaded: Vec<PlainLoaded>,
+    loaded: Vec<Loaded>,
 ) -> PlainPhase
     ensures { as_phase result
         ≡ after_loaded (as_setup setup.now) round (as_directory_try attempt) found.items (map as_loaded loaded.items) }
@@ -243,7 +243,7 @@ pub(crate) fn after_loaded_words(
     round: Round,
     attempt: PlainDirectoryTry,
     found: Vec<Option<Op>>,
-    loaded: Vec<PlainLoaded>,
+    loaded: Vec<Loaded>,
     bucket: u64,
     row: u64,
     words: Vec<u64>,
@@ -268,13 +268,13 @@ pub(crate) fn after_loaded_words(
     let Some(state) = whole_bucket(alloc, setup, &words)? else {
         return Ok(None);
     };
-    let loaded = with_loaded(loaded, PlainLoaded { bucket, row, state })?;
+    let loaded = with_loaded(loaded, Loaded { bucket, row, state })?;
     Ok(Some(after_loaded(setup, round, attempt, found, loaded)))
 }
 
 // One more bucket is loaded.
 #[tactic(auto, using(crate::proofs::LoadedLemmas::loaded_more))]
-fn with_loaded(loaded: Vec<PlainLoaded>, one: PlainLoaded) -> Result<Vec<PlainLoaded>, AllocError>
+fn with_loaded(loaded: Vec<Loaded>, one: Loaded) -> Result<Vec<Loaded>, AllocError>
     ensures { IfOk result (λ all. map as_loaded all.items ≡ more (map as_loaded loaded.items) (as_loaded one)) }
 {
     let mut loaded = loaded;
@@ -293,7 +293,7 @@ pub(crate) fn after_store(
     round: Round,
     attempt: PlainDirectoryTry,
     found: Vec<Option<Op>>,
-    loaded: Vec<PlainLoaded>,
+    loaded: Vec<Loaded>,
     stored: u64,
 ) -> Result<Option<PlainPhase>, AllocError>
     requires seat { seat < seats_of (as_setup setup.now) }
@@ -339,7 +339,7 @@ pub(crate) fn after_exchange(
     round: Round,
     attempt: PlainDirectoryTry,
     found: Vec<Option<Op>>,
-    loaded: Vec<PlainLoaded>,
+    loaded: Vec<Loaded>,
     word: u64,
 ) -> Result<Option<PlainPhase>, AllocError>
     requires seat { seat < seats_of (as_setup setup.now) }
@@ -356,11 +356,12 @@ pub(crate) fn after_exchange(
     if word != attempt.root {
         return Ok(Some(after_lost_root(round, &attempt)));
     }
-    let Some(leaves) = change_leaves(alloc, setup, &attempt, &found, &loaded)? else {
+    let Some(change) = change_of(alloc, setup, &attempt, &found, &loaded, 0)? else {
         return Ok(None);
     };
     let row = setup.next_number(seat, FullKind::BucketRows, used);
-    Ok(Some(answered_by_leaf(&setup.rules(), seat, flight, row, &leaves)))
+    let leaves = change.leaves();
+    Ok(Some(answered_by_leaf(&setup.rules(), seat, flight, row, leaves)))
 }
 
 // The exchange of the root was lost.
@@ -384,7 +385,7 @@ fn answered_by_leaf(
     seat: u32,
     flight: &PlainFlight,
     row: u64,
-    leaves: &[PlainLeaf],
+    leaves: &[NewLeaf],
 ) -> PlainPhase
     requires { row < 2 ^ 63 }
     ensures { as_phase result ≡ answered_by_leaf rules.now seat (as_flight flight.now) row (map as_leaf leaves.now) }

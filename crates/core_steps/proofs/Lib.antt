@@ -1,2 +1,1 @@
-mod PlaceLemmas
 mod StepLemmas

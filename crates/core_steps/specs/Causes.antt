@@ -14,7 +14,7 @@ use Rattle.core_model.specs.SeatStates.{Flight, Stand, Idle, InFlight}
 use Rattle.core_model.specs.Stores.{made_bucket}
 use Rattle.core_model.specs.Asks.{op_row_of}
 use Rattle.core_values.specs.Rows.{IsOfTable}
-use Rattle.core_leaves.specs.Changes.{IsChange}
+use Rattle.core_model.specs.Fits.{IsChange}
 use Rattle.core_phases.specs.declared.faults.StepFault.{StepFault}
 use Rattle.core_phases.specs.declared.faults.StepFault.TheVariants as F
 

@@ -20,7 +20,7 @@ use core_model::Ask;
 use core_phases::StepFault;
 use core_values::{PlainAccount, PlainFlight, PlainPhase, PlainSetup, PlainStand, prefix_at};
 use std::alloc::Global;
-use step_counts::SeatRows;
+use step_counts::{BUCKET_HEAD_WORDS, DIRECTORY_HEAD_WORDS, SeatRows};
 use word_rows::Address;
 
 /// What a seat does next. An idle seat does nothing.
@@ -86,7 +86,10 @@ pub(crate) fn ask_in(
         | PlainPhase::DirWord { bucket, .. }
         | PlainPhase::LastWord { bucket, .. } => Ok(Ask::Load(Address::BucketWord(*bucket))),
         PlainPhase::LookCount { row } => Ok(Ask::Load(Address::BucketRowWord(*row, 4))),
-        PlainPhase::LookItems { row, words, .. } => Ok(load_bucket_row(*row, 5 + words.len())),
+        PlainPhase::LookItems { row, words, .. } => Ok(load_bucket_row(
+            *row,
+            BUCKET_HEAD_WORDS + words.len(),
+        )),
         PlainPhase::TryWord { round, .. } => Ok(Ask::Load(Address::BucketWord(round.bucket))),
         PlainPhase::TryRow { row, words, .. }
         | PlainPhase::DirRow { row, words, .. }
@@ -106,7 +109,10 @@ pub(crate) fn ask_in(
         PlainPhase::TryExchange { round, attempt, .. } => {
             Ok(exchange_bucket(setup, seat, used, round.bucket, attempt.row))
         }
-        PlainPhase::DirEntries { root, words, .. } => Ok(load_directory(*root, 2 + words.len())),
+        PlainPhase::DirEntries { root, words, .. } => Ok(load_directory(
+            *root,
+            DIRECTORY_HEAD_WORDS + words.len(),
+        )),
         PlainPhase::DirStore {
             attempt,
             found,
@@ -153,7 +159,7 @@ fn load_entry(
         (DirectoryWord root (2 + prefix_of (rules_of (as_setup setup.now)) depth (key_in flight.now.call))) }
 {
     let place = prefix_at(&setup.rules(), depth, flight.call.key());
-    match place.checked_add(2) {
+    match place.checked_add(DIRECTORY_HEAD_WORDS as u64) {
         Some(word) => Ok(Ask::Load(Address::DirectoryWord(root, word))),
         None => Err(StepFault::NoWord),
     }

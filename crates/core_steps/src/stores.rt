@@ -1,6 +1,6 @@
 //! What a seat stores and exchanges.
 
-ghost use Rattle.std.specs.Prelude.{◌≡◌, ◌+◌, ◌^◌, ◌<◌, ◌↔◌, Err, IfErr, IfOk, IsErr, IsTrue, MatchOption, Some, map, slice_index};
+ghost use Rattle.std.specs.Prelude.{◌≡◌, ◌+◌, ◌^◌, ◌<◌, ◌↔◌, Err, IfErr, IfOk, IsErr, IsTrue, MatchOption, Some, map, slice_get, slice_index};
 ghost use Rattle.plain_map.specs.declared.full.FullKind.TheVariants.{BucketRows, DirRows, OpRows};
 ghost use Rattle.word_rows.specs.Shape.{AreBelow};
 ghost use Rattle.word_rows.specs.declared.addresses.Address.TheVariants.{
@@ -11,25 +11,26 @@ ghost use Rattle.word_rows.specs.declared.addresses.Address.TheVariants.{
   OpWord,
   Root,
 };
-ghost use Rattle.word_rows.specs.OpWords.{IsOp, IsRowCall, words_of_op};
+ghost use Rattle.plain_map.specs.Updates.{IsUpdate};
+ghost use Rattle.word_rows.specs.OpWords.{IsOp, words_of_op};
 ghost use Rattle.core_model.specs.declared.events.Ask.TheVariants.{Exchange, Store};
 ghost use Rattle.core_model.specs.Setup.{next_number, seats_of};
-ghost use Rattle.core_model.specs.Stores.{bucket_words, directory_puts, made_bucket, put_at};
+ghost use Rattle.core_model.specs.Stores.{bucket_words, directory_puts, made_bucket};
 ghost use Rattle.core_model.specs.Asks.{op_row_of, store_of};
 ghost use Rattle.core_values.specs.Views.{as_bucket_try, as_directory_try, as_flight, as_loaded, as_setup};
 ghost use Rattle.core_steps.specs.Causes.{IsMade, IsMemoryOrRow};
-ghost use Rattle.core_leaves.specs.Changes.{IsChange};
+ghost use Rattle.core_model.specs.Fits.{IsChange};
 
 use crate::words::word_at;
 use bucket_states::Op;
-use core_leaves::directory_puts;
 use core_model::{Ask, Put};
 use core_phases::StepFault;
 use core_values::{
-    PlainBucketTry, PlainDirectoryTry, PlainFlight, PlainLoaded, PlainSetup, copy_bucket,
+    PlainBucketTry, PlainDirectoryTry, PlainFlight, PlainSetup, copy_bucket, directory_puts,
     is_of_table, write_bucket,
 };
-use plain_map::{Call, FullKind};
+use dir_states::Loaded;
+use plain_map::{Call, FullKind, VALUE_LIMIT};
 use std::alloc::{AllocError, Global};
 use step_counts::{OP_WORDS, SeatRows};
 use word_rows::{Address, OpRow, write_op};
@@ -137,13 +138,13 @@ pub(crate) fn store_directory_word(
     used: &SeatRows,
     attempt: &PlainDirectoryTry,
     found: &[Option<Op>],
-    loaded: &[PlainLoaded],
+    loaded: &[Loaded],
     stored: u64,
 ) -> Result<Ask, StepFault>
     requires seat { seat < seats_of (as_setup setup.now) }
     requires used { AreBelow (2 ^ 62) used.now }
     ensures value { IfOk result (λ ask. ask
-        ≡ store_of (put_at (directory_puts (as_setup setup.now) seat used.now (as_directory_try attempt.now) found.now
+        ≡ store_of (slice_get (directory_puts (as_setup setup.now) seat used.now (as_directory_try attempt.now) found.now
         (map as_loaded loaded.now)) stored)) }
     ensures only { IfErr result IsMemoryOrRow }
     ensures rows { result ≡ Err StepFault.NoRow
@@ -152,8 +153,7 @@ pub(crate) fn store_directory_word(
     let Some(puts) = directory_puts(alloc, setup, seat, used, attempt, found, loaded)? else {
         return Err(StepFault::NoRow);
     };
-    let put = put_at(&puts, stored);
-    Ok(Ask::Store(put.address, put.word))
+    Ok(store_of(&puts, stored))
 }
 
 /// The exchange of the root.
@@ -182,23 +182,23 @@ fn is_op(row: &OpRow) -> bool
 
 // Whether the call is an update, with a value that can be kept.
 fn is_row_call(call: &Call) -> bool
-    ensures { IsTrue result ↔ IsRowCall call.now }
+    ensures { IsTrue result ↔ IsUpdate call.now }
 {
     match call {
-        Call::Insert(_, value) => *value < 1 << 61,
+        Call::Insert(_, value) => *value < VALUE_LIMIT,
         Call::Remove(_) => true,
         Call::Lookup(_) => false,
     }
 }
 
-// One of these stores, and past their end a store of 0 in the root.
-fn put_at(puts: &[Put], i: u64) -> Put
-    ensures { result ≡ put_at puts.now i }
+// One of these stores. Past the last of them there is nothing to do.
+fn store_of(puts: &[Put], i: u64) -> Ask
+    ensures { result ≡ store_of (slice_get puts.now i) }
 {
-    puts.get(i as usize).copied().unwrap_or(Put {
-        address: Address::Root,
-        word: 0,
-    })
+    match puts.get(i as usize) {
+        Some(put) => Ask::Store(put.address, put.word),
+        None => Ask::Nothing,
+    }
 }
 
 // The words of the row that a bucket try makes.

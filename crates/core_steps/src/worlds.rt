@@ -2,29 +2,30 @@
 
 ghost use Rattle.std.specs.Prelude.{◌≡◌, ◌<◌, Err, IfOk, MatchOption, fold};
 ghost use Rattle.core_model.specs.Worlds.{happens, opening_world, step_of};
-ghost use Rattle.core_model.specs.Setup.{seats_of};
+ghost use Rattle.core_model.specs.Setup.{IsSetup, seats_of};
 ghost use Rattle.core_values.specs.Views.{as_account, as_flight, as_phase, as_setup, as_world};
-ghost use Rattle.core_leaves.specs.Changes.{IsOpening};
+ghost use Rattle.core_values.specs.Openings.{IsOpening};
 ghost use Rattle.core_steps.specs.WorldCauses.{OfEvent, OfEvents, StepAsksWord, StepCounts, StepHasRows};
 
 use crate::asks::ask_in;
 use crate::seats::{fresh_seats, put_seat, take_seat};
 use crate::turns::{Turn, turn_of};
 use crate::words::{find, perform};
-use core_leaves::opening_words;
 use core_model::Event;
 use core_phases::{StepFault, seat_after};
 use core_values::{
     PlainAccount, PlainFlight, PlainPhase, PlainSeat, PlainSetup, PlainStand, PlainWorld,
+    opening_words,
 };
 use std::alloc::{AllocError, Global};
 
 /// The words and the seats at the opening.
 ///
-/// `None` comes only where a first leaf has no spelling. The only error is want of memory.
+/// `None` comes only where no table is opened so, since two pairs have one key or one finds no room, or where a first
+/// leaf has no spelling. The only error is want of memory.
 pub fn open_world(alloc: Global, setup: &PlainSetup) -> Result<Option<PlainWorld>, AllocError>
     ensures { IfOk result (λ world. MatchOption world
-        (¬ IsOpening (as_setup setup.now))
+        (IsSetup (as_setup setup.now) → ¬ IsOpening (as_setup setup.now))
         (λ world. as_world world ≡ opening_world (as_setup setup.now))) }
 {
     let Some(words) = opening_words(alloc, setup)? else {

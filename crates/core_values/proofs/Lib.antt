@@ -1,2 +1,5 @@
-mod PlaceLemmas
-mod RowLemmas
+pub mod PlaceLemmas
+pub mod RowLemmas
+pub mod PutLemmas
+pub mod OpeningLemmas
+pub mod ChangeLemmas

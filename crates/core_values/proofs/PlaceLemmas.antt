@@ -5,7 +5,7 @@ use Rattle.std.proofs.lemmas.List.{get_or-map, length-map}
 use Rattle.std.proofs.lemmas.List.Folds.{list_any_at, list_any_more}
 use Rattle.hash_bits.specs.Prefix.{first_bits}
 use Rattle.core_model.specs.DirectoryChange.{LoadedBucket, is_bucket}
-use Rattle.core_values.specs.declared.values.PlainLoaded.{PlainLoaded}
+use Rattle.dir_states.specs.declared.values.Loaded.{Loaded}
 use Rattle.core_values.specs.Views.{as_loaded}
 
 -- from depth 64 on the first bits are the hash
@@ -18,7 +18,7 @@ first_bits-deep h d deep =
 pub ruleset prefix_steps = (first_bits-deep)
 
 -- the loaded bucket at one place, and whether it is the one that is looked for
-module _ (loaded : List PlainLoaded) (bucket at : ℕ) (one : PlainLoaded) (inside : at < length loaded) (is : one ≡ get_or loaded at one) where
+module _ (loaded : List Loaded) (bucket at : ℕ) (one : Loaded) (inside : at < length loaded) (is : one ≡ get_or loaded at one) where
   abbrev views : List LoadedBucket
   views = map as_loaded loaded
 

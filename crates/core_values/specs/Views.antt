@@ -11,10 +11,9 @@ use Rattle.core_model.specs.SeatStates as S
 use Rattle.core_model.specs.Worlds.{World}
 use Rattle.bucket_states.specs.States.{state_of}
 use Rattle.word_rows.specs.LayoutView.{shape_of}
+pub use Rattle.dir_states.specs.Views.{as_leaf, as_loaded}
 use Rattle.core_values.specs.declared.setup.PlainSetup.{PlainSetup}
 use Rattle.core_values.specs.declared.values.PlainDirectory.{PlainDirectory}
-use Rattle.core_values.specs.declared.values.PlainLoaded.{PlainLoaded}
-use Rattle.core_values.specs.declared.values.PlainLeaf.{PlainLeaf}
 use Rattle.core_values.specs.declared.phases.PlainBucketTry.{PlainBucketTry}
 use Rattle.core_values.specs.declared.phases.PlainDirectoryTry.{PlainDirectoryTry}
 use Rattle.core_values.specs.declared.phases.PlainPhase.{PlainPhase}
@@ -33,14 +32,6 @@ as_setup setup = record { shape = shape_of setup.layout; hashing = setup.hashing
 -- what a directory says
 abbrev pub as_directory : PlainDirectory → DirectoryState
 as_directory directory = record { depth = directory.depth; entries = directory.entries.items }
-
--- a bucket that was loaded
-abbrev pub as_loaded : PlainLoaded → LoadedBucket
-as_loaded loaded = record { bucket = loaded.bucket; row = loaded.row; state = state_of loaded.state }
-
--- a bucket that is made
-abbrev pub as_leaf : PlainLeaf → NewLeaf
-as_leaf leaf = record { from = leaf.from; bucket = state_of leaf.bucket }
 
 -- the tries
 abbrev pub as_bucket_try : PlainBucketTry → BucketTry

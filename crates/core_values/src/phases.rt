@@ -1,8 +1,9 @@
 //! Where a seat stands in its call, as a plain value.
 
-use crate::{PlainDirectory, PlainLoaded};
+use crate::PlainDirectory;
 use bucket_states::{Bucket, Op};
 use core_model::{Aim, Round};
+use dir_states::Loaded;
 use plain_map::Reply;
 
 /// A try to change the bucket of a round.
@@ -155,7 +156,7 @@ pub enum PlainPhase {
         round: Round,
         attempt: PlainDirectoryTry,
         found: Vec<Option<Op>>,
-        loaded: Vec<PlainLoaded>,
+        loaded: Vec<Loaded>,
         bucket: u64,
     },
     /// A word of that bucket's row.
@@ -163,7 +164,7 @@ pub enum PlainPhase {
         round: Round,
         attempt: PlainDirectoryTry,
         found: Vec<Option<Op>>,
-        loaded: Vec<PlainLoaded>,
+        loaded: Vec<Loaded>,
         bucket: u64,
         row: u64,
         words: Vec<u64>,
@@ -173,7 +174,7 @@ pub enum PlainPhase {
         round: Round,
         attempt: PlainDirectoryTry,
         found: Vec<Option<Op>>,
-        loaded: Vec<PlainLoaded>,
+        loaded: Vec<Loaded>,
         stored: u64,
     },
     /// The exchange of the root.
@@ -181,7 +182,7 @@ pub enum PlainPhase {
         round: Round,
         attempt: PlainDirectoryTry,
         found: Vec<Option<Op>>,
-        loaded: Vec<PlainLoaded>,
+        loaded: Vec<Loaded>,
     },
     /// The last look of an update: the bucket word.
     LastWord {

@@ -7,8 +7,9 @@ ghost use Rattle.core_model.specs.Directories.{bucket_of};
 ghost use Rattle.core_model.specs.DirectoryChange.{is_bucket, next_bucket};
 ghost use Rattle.core_values.specs.Views.{as_directory, as_loaded};
 
-use crate::{PlainDirectory, PlainLoaded};
+use crate::PlainDirectory;
 use bucket_states::Op;
+use dir_states::Loaded;
 use hash_bits::bits;
 use plain_map::{Key, Rules};
 
@@ -41,7 +42,7 @@ pub fn bucket_of(rules: &Rules, directory: &PlainDirectory, key: &Key) -> u64
 pub fn next_bucket(
     rules: &Rules,
     directory: &PlainDirectory,
-    loaded: &[PlainLoaded],
+    loaded: &[Loaded],
     found: &[Option<Op>],
 ) -> Option<u64>
     ensures { result ≡ next_bucket rules.now (as_directory directory.now) (map as_loaded loaded.now) found.now }
@@ -58,7 +59,7 @@ pub fn next_bucket(
 }
 
 // Whether the bucket was loaded.
-fn is_loaded(loaded: &[PlainLoaded], bucket: u64) -> bool
+fn is_loaded(loaded: &[Loaded], bucket: u64) -> bool
     ensures { result ≡ list_any (is_bucket bucket) (map as_loaded loaded.now) }
 {
     for one in loaded {

@@ -4,12 +4,12 @@ ghost use Rattle.std.specs.Prelude.{◌≡◌, ◌^◌, ◌<◌, ◌↔◌, IsTr
 ghost use Rattle.std.specs.List.{All};
 ghost use Rattle.step_counts.specs.declared.settings.Settings.{Settings};
 ghost use Rattle.word_rows.specs.BaseWords.{IsBase};
-ghost use Rattle.word_rows.specs.ReplyWords.{IsRowReply};
+ghost use Rattle.plain_map.specs.Updates.{IsUpdateReply};
 ghost use Rattle.word_rows.specs.BucketWords.{AreAnswered, AreItems, IsAnswered, IsBucket};
 ghost use Rattle.bucket_states.specs.States.{row_of_state, state_of};
 
 use bucket_states::Bucket;
-use plain_map::{Pair, Reply};
+use plain_map::{Pair, Reply, VALUE_LIMIT};
 use step_counts::Settings;
 
 /// Whether the row of this bucket that is made from the row `base` has a spelling.
@@ -37,7 +37,7 @@ fn is_base(base: Option<u64>) -> bool
 fn are_items(room: usize, items: &[Pair]) -> bool
     ensures { IsTrue result ↔ AreItems room items.now }
 {
-    items.len() <= room && items.iter().all(|item| item.value < 1 << 61)
+    items.len() <= room && items.iter().all(|item| item.value < VALUE_LIMIT)
 }
 
 // Whether there are numbers and replies of this many seats, each of which is a seat's.
@@ -64,11 +64,11 @@ fn is_answered(number: u32, reply: &Option<Reply>) -> bool
 
 // Whether the reply is one to an update, with a value that can be kept, or none.
 fn is_row_reply(reply: &Option<Reply>) -> bool
-    ensures { IsTrue result ↔ IsRowReply reply.now }
+    ensures { IsTrue result ↔ IsUpdateReply reply.now }
 {
     match reply {
         None | Some(Reply::New | Reply::NoRoom | Reply::Absent) => true,
-        Some(Reply::Old(value) | Reply::Gone(value)) => *value < 1 << 61,
+        Some(Reply::Old(value) | Reply::Gone(value)) => *value < VALUE_LIMIT,
         Some(Reply::Found(_)) => false,
     }
 }

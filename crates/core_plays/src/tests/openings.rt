@@ -1,7 +1,6 @@
 //! Tables that are opened with pairs.
 
 use super::tables::{key, setup_of};
-use core_leaves::first_without_room;
 use core_order::{closed_depth, closed_leaves, closed_pairs};
 use core_steps::open_world;
 use core_values::PlainSetup;
@@ -23,16 +22,13 @@ fn setup_with(alloc: Global, ports: &[u64]) -> Result<Option<PlainSetup>, Fail> 
     Ok(setup_of(&settings, &[automatic_rows(&settings, 0)], first))
 }
 
-// Ports 1, 2 and 3 are of one class, and the third pair finds no room. Ports 1, 16384 and 32768 are of three.
+// Ports 1, 2 and 3 are of one class, in which the third pair finds no room: there is no such opening.
 #[test]
-fn first_pairs_find_room_or_not(rt: HostRuntime) -> Result<(), Fail> {
-    for (ports, place) in [([1, 2, 3], Some(2)), ([1, 16384, 32768], None)] {
-        let Some(setup) = setup_with(rt.alloc(), &ports)? else {
-            assert!(rt; false, "no such table");
-            continue;
-        };
-        assert_eq!(rt; first_without_room(&setup), place, "{ports:?}");
-    }
+fn a_crowded_class_does_not_open(rt: HostRuntime) -> Result<(), Fail> {
+    let Some(setup) = setup_with(rt.alloc(), &[1, 2, 3])? else {
+        return Err(Fail::from("no such table"));
+    };
+    assert!(rt; open_world(rt.alloc(), &setup)?.is_none());
     Ok(())
 }
 

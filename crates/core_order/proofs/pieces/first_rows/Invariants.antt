@@ -6,5 +6,5 @@ use Rattle.core_order.proofs.pieces.first_rows.Given as goal
 
 abbrev pub invariant-loop-bucket : goal.invariant-loop-bucket
 invariant-loop-bucket l =
-    l.rows.items ++ filter_map (first_row (as_setup l.setup) l.words) (drop l.bucket-index l.bucket-items)
-    ≡ filter_map (first_row (as_setup l.setup) l.words) l.bucket-items
+    l.rows.items ++ filter_map (first_row (as_setup l.setup).shape l.words) (drop l.bucket-index l.bucket-items)
+    ≡ filter_map (first_row (as_setup l.setup).shape l.words) l.bucket-items

@@ -17,7 +17,7 @@ said p left items at told answer same inside is answered =
 
 pub returns-then-branch : goal.returns-then-branch
 returns-then-branch c =
-    let p : Piece → Bool = has_rank (as_setup c.args.setup.now) (as_closing c.args.closing.now) (as_placing c.args.placing.now) c.args.rank in
+    let p : Piece → Bool = has_rank (as_setup c.args.setup.now).shape (as_closing c.args.closing.now) (as_placing c.args.placing.now) c.args.rank in
     let left : List PlainPiece = c.args.placing.now.left.items in
     let inside : c.loop-at.at < length left = omega (arith, ap length c.deref-piece-items.ensures.value) in
     let inside_too : c.loop-at.at < length (map as_piece left) = omega (arith, length-map left as_piece) in
@@ -26,7 +26,7 @@ returns-then-branch c =
 
 pub loop-at-preserved : goal.loop-at-preserved
 loop-at-preserved c =
-    let p : Piece → Bool = has_rank (as_setup c.args.setup.now) (as_closing c.args.closing.now) (as_placing c.args.placing.now) c.args.rank in
+    let p : Piece → Bool = has_rank (as_setup c.args.setup.now).shape (as_closing c.args.closing.now) (as_placing c.args.placing.now) c.args.rank in
     let left : List PlainPiece = c.args.placing.now.left.items in
     let inside : c.loop-at.at < length left = omega (arith, ap length c.deref-piece-items.ensures.value) in
     let inside_too : c.loop-at.at < length (map as_piece left) = omega (arith, length-map left as_piece) in

@@ -7,5 +7,5 @@ use Rattle.core_order.proofs.placement.opening_directories.Given as goal
 
 abbrev pub invariant-loop-row : goal.invariant-loop-row
 invariant-loop-row l =
-    l.rows.items ++ filter (λ row. not (is_later (as_setup l.setup) l.words row)) (drop l.row-index l.row-items)
-    ≡ filter (λ row. not (is_later (as_setup l.setup) l.words row)) l.row-items
+    l.rows.items ++ filter (λ row. not (is_later (as_setup l.setup).shape l.words row)) (drop l.row-index l.row-items)
+    ≡ filter (λ row. not (is_later (as_setup l.setup).shape l.words row)) l.row-items

@@ -6,5 +6,5 @@ use Rattle.core_order.proofs.placement.place_all.Given as goal
 
 abbrev pub invariant-loop : goal.invariant-loop
 invariant-loop l =
-    place_all (as_setup l.setup) (as_closing l.closing) (l.most - l.counter) (as_placing l.placing)
-    ≡ place_all (as_setup l.setup) (as_closing l.closing) l.most (as_placing l.fn.placing)
+    place_all (as_setup l.setup).shape (as_closing l.closing) (l.most - l.counter) (as_placing l.placing)
+    ≡ place_all (as_setup l.setup).shape (as_closing l.closing) l.most (as_placing l.fn.placing)

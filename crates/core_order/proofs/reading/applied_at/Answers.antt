@@ -1,7 +1,7 @@
 use Rattle.std.proofs.Common.{◌≡◌, ℕ, ◌+◌, ◌*◌, ◌<◌, ◌≤◌, get_or, ◌∙◌, ap, sym, arith}
 use Rattle.core_model.specs.Setup.{seats_of}
 use Rattle.core_values.specs.Views.{as_setup}
-use Rattle.core_order.specs.Parts.{bucket_row_part}
+use Rattle.core_model.specs.Reading.{bucket_spelling}
 use Rattle.core_order.proofs.WordLemmas.{applied_at-seat, applied_at-past}
 use Rattle.core_order.proofs.reading.applied_at.Goals as goal
 
@@ -16,5 +16,5 @@ returns c =
     let place : 5 + 3 * c.from.result + c.from-2.result * 2 ≡ 5 + 3 * c.args.setup.now.layout.settings.items + c.args.seat * 2 =
     rw (← c.settings-settings.ensures) (omega arith) in
     c.bucket_row_word.ensures
-    ∙ ap (λ (n : ℕ). get_or (bucket_row_part (as_setup c.args.setup.now) c.args.words.now c.args.row) n 0) place
+    ∙ ap (λ (n : ℕ). get_or (bucket_spelling (as_setup c.args.setup.now).shape c.args.words.now c.args.row) n 0) place
     ∙ applied_at-seat (as_setup c.args.setup.now) c.args.words.now c.args.row c.args.seat inside

@@ -7,5 +7,5 @@ use Rattle.core_order.proofs.rows.first_row.Given as goal
 
 abbrev pub invariant-loop-row : goal.invariant-loop-row
 invariant-loop-row l =
-    find (λ row. not (is_exchanged (as_setup l.setup) l.words row)) (drop l.row-index l.row-items)
-    ≡ find (λ row. not (is_exchanged (as_setup l.setup) l.words row)) l.row-items
+    find (λ row. not (is_exchanged (as_setup l.setup).shape l.words row)) (drop l.row-index l.row-items)
+    ≡ find (λ row. not (is_exchanged (as_setup l.setup).shape l.words row)) l.row-items

@@ -11,7 +11,7 @@ pub loop-bucket-preserved : goal.loop-bucket-preserved
 loop-bucket-preserved c =
     let named = c.deref-bucket-items.result.now in
     let i = c.loop-bucket.bucket-index in
-    let entries : List ℕ = (directory_at (as_setup c.args.setup.now) c.args.words.now c.args.base).entries in
+    let entries : List ℕ = (directory_at (as_setup c.args.setup.now).shape c.args.words.now c.args.base).entries in
     let is = ap (λ (xs : List ℕ). not (is_among xs (get_or named i 0))) (sym c.directory_entries-in-loop-bucket.ensures) in
     elim c.if-not-contains.branch [
       | then-not-contains+in_ok-push w ↦

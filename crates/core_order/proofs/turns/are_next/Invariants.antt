@@ -7,5 +7,5 @@ use Rattle.core_order.proofs.turns.are_next.Given as goal
 
 abbrev pub invariant-loop-placed : goal.invariant-loop-placed
 invariant-loop-placed l =
-    list_all (is_next (as_setup l.setup) (map as_placed l.order)) (map as_placed (drop l.placed-index l.calls))
-    ≡ list_all (is_next (as_setup l.setup) (map as_placed l.order)) (map as_placed l.calls)
+    list_all (is_next (as_setup l.setup).shape (map as_placed l.order)) (map as_placed (drop l.placed-index l.calls))
+    ≡ list_all (is_next (as_setup l.setup).shape (map as_placed l.order)) (map as_placed l.calls)

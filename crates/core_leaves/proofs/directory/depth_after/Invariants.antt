@@ -1,9 +1,0 @@
-use Rattle.std.proofs.Common.{◌≡◌, drop, map}
-use Rattle.core_model.specs.DirectoryChange.{depth_after}
-use Rattle.core_values.specs.Views.{as_directory, as_leaf}
-use Rattle.core_leaves.proofs.directory.depth_after.Given as goal
-
-abbrev pub invariant-loop-leaf : goal.invariant-loop-leaf
-invariant-loop-leaf l =
-    depth_after (record { depth = l.depth; entries = l.directory.entries.items }) (map as_leaf (drop l.leaf-index l.leaves))
-    ≡ depth_after (as_directory l.directory) (map as_leaf l.leaves)

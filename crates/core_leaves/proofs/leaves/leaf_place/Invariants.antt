@@ -1,9 +1,0 @@
-use Rattle.std.proofs.Common.{◌≡◌, ℕ, ◌<◌, false, get_or}
-use Rattle.bucket_states.specs.States.{state_of}
-use Rattle.core_model.specs.Leaves.{is_in}
-use Rattle.core_values.specs.declared.values.PlainLeaf.{PlainLeaf}
-use Rattle.core_leaves.proofs.leaves.leaf_place.Given as goal
-
-abbrev pub invariant-loop-place : goal.invariant-loop-place
-invariant-loop-place l =
-    (k : ℕ) (d : PlainLeaf) → k < l.place → is_in l.rules l.key (state_of (get_or l.leaves k d).bucket) ≡ false

@@ -1,7 +1,0 @@
-use Rattle.std.proofs.Common.{◌≡◌, drop, map}
-use Rattle.core_model.specs.DirectoryChange.{loaded_of}
-use Rattle.core_values.specs.Views.{as_loaded}
-use Rattle.core_leaves.proofs.steps.loaded_place.Given as goal
-
-abbrev pub invariant-loop-place : goal.invariant-loop-place
-invariant-loop-place l = loaded_of (map as_loaded (drop l.place l.loaded)) l.bucket ≡ loaded_of (map as_loaded l.loaded) l.bucket

@@ -1,0 +1,13 @@
+pub mod HashLemmas
+pub mod LeafLemmas
+pub mod FitLemmas
+pub mod ChangeLemmas
+pub mod RoomLemmas
+pub mod NumberLemmas
+pub mod TreeLemmas
+pub mod GrowLemmas
+pub mod CutLemmas
+pub mod FillLemmas
+pub mod FindLemmas
+pub mod CountLemmas
+pub mod TestLemmas
