@@ -1,0 +1,2 @@
+pub mod HashedKeys
+pub mod Rows

@@ -1,0 +1,205 @@
+//! The change of a bucket row by announced calls, on its words.
+//!
+//! Its words become those of the bucket after all calls, which no one has to read out and write back. The walk over the
+//! seats ends where the bucket freezes, since a frozen bucket changes no more.
+
+ghost use Rattle.std.specs.Prelude.{◌≡◌, ◌+◌, ◌^◌, ◌<◌, ◌≤◌, ◌≢◌, Some, None, length, slice_index};
+ghost use Rattle.step_counts.specs.StepCounts.{bucket_row_words};
+ghost use Rattle.plain_map.specs.Rows.{BucketContent};
+ghost use Rattle.plain_map.specs.declared.rules.Rules.{Rules};
+ghost use Rattle.plain_map.specs.declared.calls.Call.TheVariants.{Insert, Remove};
+ghost use Rattle.word_rows.specs.BucketWords.{SpellSomeBucket, bucket_of_words, words_of_bucket};
+ghost use Rattle.bucket_states.specs.States.{row_of_state};
+ghost use Rattle.bucket_states.specs.States.{state_in_row};
+ghost use Rattle.bucket_states.specs.Items.{prefix_of};
+ghost use Rattle.bucket_states.specs.Change.{after_op, change, is_due};
+ghost use Rattle.bucket_states.specs.Values.{AreUpdates, IsUpdate};
+ghost use Rattle.bucket_machine.specs.HashedKeys.{IsHashed};
+ghost use Rattle.bucket_machine.specs.Rows.{Becomes, BecomesChanged, IsAnsweredIn, IsSpelled, Spell};
+
+use crate::hashed::Hashed;
+use crate::row::{find_item, freeze, push_item, remove_item, set_base, set_seat, value_in};
+use bucket_states::Op;
+use hash_bits::bits;
+use plain_map::{Call, Key, Pair, Reply, Rules};
+use step_counts::{BUCKET_HEAD_WORDS, COUNT_PLACE, ITEM_WORDS, SEAT_WORDS, Settings};
+use word_rows::row_laws;
+
+// Takes a new pair, or answers why not. `None` is for a bucket that has to be split first.
+fn insert(settings: &Settings, rules: &Rules, row: &mut [u64], pair: &Pair) -> Option<Reply>
+    requires long { length row.old ≡ bucket_row_words settings.now }
+    requires few { slice_index row.old COUNT_PLACE ≤ settings.now.items }
+    requires rules { rules.now.items ≡ settings.now.items }
+    requires value { pair.now.value < 2 ^ 61 }
+    ensures answer { (b : BucketContent) → Spell settings.now b row.old →
+        IsAnsweredIn rules.now settings.now (Insert pair.now.key pair.now.value) b row.new result }
+    ensures long { length row.new ≡ length row.old }
+{
+    let _pair = *pair;
+    match find_item(settings, row, &pair.key) {
+        Some(at) => Some(Reply::Old(value_in(settings, row, at))),
+        None if row[COUNT_PLACE] < settings.items as u64 => {
+            push_item(settings, row, pair);
+            Some(Reply::New)
+        }
+        None if row[1] < rules.depth as u64 => None,
+        None => Some(Reply::NoRoom),
+    }
+}
+
+// Takes the key's pair out.
+fn remove(settings: &Settings, row: &mut [u64], key: &Key) -> Reply
+    requires long { length row.old ≡ bucket_row_words settings.now }
+    requires few { slice_index row.old COUNT_PLACE ≤ settings.now.items }
+    ensures answer { (rules : Rules) (b : BucketContent) → Spell settings.now b row.old →
+        IsAnsweredIn rules settings.now (Remove key.now) b row.new (Some result) }
+    ensures long { length row.new ≡ length row.old }
+{
+    let _key = *key;
+    match find_item(settings, row, key) {
+        Some(at) => {
+            let value = value_in(settings, row, at);
+            remove_item(settings, row, at);
+            Reply::Gone(value)
+        }
+        None => Reply::Absent,
+    }
+}
+
+// The answer to a call, with the change that it makes.
+fn answer(settings: &Settings, rules: &Rules, row: &mut [u64], call: &Call) -> Option<Reply>
+    requires long { length row.old ≡ bucket_row_words settings.now }
+    requires few { slice_index row.old COUNT_PLACE ≤ settings.now.items }
+    requires rules { rules.now.items ≡ settings.now.items }
+    requires update { IsUpdate call.now }
+    ensures answer { (b : BucketContent) → Spell settings.now b row.old →
+        IsAnsweredIn rules.now settings.now call.now b row.new result }
+    ensures long { length row.new ≡ length row.old }
+{
+    match call {
+        Call::Insert(key, value) => insert(
+            settings,
+            rules,
+            row,
+            &Pair {
+                key: *key,
+                value: *value,
+            },
+        ),
+        Call::Remove(key) => Some(remove(settings, row, key)),
+        Call::Lookup(_) => unreachable!(),
+    }
+}
+
+// The first bits of a key's hash.
+#[tactic(auto, unfolding(bucket_states::specs::Items::prefix_of))]
+fn prefix_of(rules: &Rules, own: &Hashed, depth: u32, key: &Key) -> u64
+    requires depth { depth ≤ 64 }
+    requires own { IsHashed rules.now.hashing own.now }
+    ensures { result ≡ prefix_of rules.now depth key.now }
+{
+    bits(own.hash_of(&rules.hashing, key), depth)
+}
+
+// Whether the call is for this bucket, and not in it yet. Most calls are told by their number, without a hash.
+fn is_due(
+    settings: &Settings,
+    rules: &Rules,
+    own: &Hashed,
+    row: &[u64],
+    seat: usize,
+    op: &Op,
+) -> bool
+    requires long { length row.now ≡ bucket_row_words settings.now }
+    requires depth { slice_index row.now 1 ≤ settings.now.depth }
+    requires own { IsHashed rules.now.hashing own.now }
+    requires seat { seat < settings.now.seats }
+    ensures due { (b : BucketContent) → Spell settings.now b row.now → result ≡
+        is_due rules.now (state_in_row b) seat op.now }
+{
+    let _depth = settings.depth;
+    let at = BUCKET_HEAD_WORDS + ITEM_WORDS * settings.items as usize + SEAT_WORDS * seat;
+    row[at] < op.number as u64 && prefix_of(rules, own, row[1] as u32, op.call.key()) == row[0]
+}
+
+// Takes the call of one seat, in a bucket that is not frozen.
+fn apply(settings: &Settings, rules: &Rules, own: &Hashed, row: &mut [u64], seat: usize, op: &Op)
+    requires long { length row.old ≡ bucket_row_words settings.now }
+    requires few { slice_index row.old COUNT_PLACE ≤ settings.now.items }
+    requires depth { slice_index row.old 1 ≤ settings.now.depth }
+    requires live { slice_index row.old 3 ≢ 1 }
+    requires rules { rules.now.items ≡ settings.now.items }
+    requires own { IsHashed rules.now.hashing own.now }
+    requires seat { seat < settings.now.seats }
+    requires update { IsUpdate op.now.call }
+    requires spelled { IsSpelled settings.now row.old }
+    ensures spelled { Becomes settings.now (after_op rules.now seat op.now) row.old row.new }
+    ensures long { length row.new ≡ length row.old }
+{
+    if !is_due(settings, rules, own, row, seat, op) {
+        return;
+    }
+    match answer(settings, rules, row, &op.call) {
+        Some(reply) => set_seat(settings, row, seat, op.number, reply),
+        None => freeze(settings, row),
+    }
+}
+
+// The words of the bucket after all announced calls, in place of those of the row with the number `base`. The walk ends
+// where the bucket freezes.
+fn change_words(
+    settings: &Settings,
+    rules: &Rules,
+    own: &Hashed,
+    row: &mut [u64],
+    base: u64,
+    ops: &[Option<Op>],
+)
+    requires long { length row.old ≡ bucket_row_words settings.now }
+    requires few { slice_index row.old COUNT_PLACE ≤ settings.now.items }
+    requires depth { slice_index row.old 1 ≤ settings.now.depth }
+    requires rules { rules.now.items ≡ settings.now.items }
+    requires own { IsHashed rules.now.hashing own.now }
+    requires seats { length ops.now ≤ settings.now.seats }
+    requires updates { AreUpdates ops.now }
+    requires base { base + 1 < 2 ^ 64 }
+    requires spelled { IsSpelled settings.now row.old }
+    ensures spelled { BecomesChanged settings.now rules.now ops.now base row.old row.new }
+    ensures long { length row.new ≡ length row.old }
+{
+    for (seat, op) in ops.iter().enumerate() {
+        if row[3] == 1 {
+            break;
+        }
+        if let Some(op) = op {
+            apply(settings, rules, own, row, seat, op);
+        }
+    }
+    set_base(settings, row, base);
+}
+
+/// The row of the bucket after all announced calls, one place for each seat, over the row with the number `row`.
+///
+/// `own` is a key whose hash is known. It takes no memory.
+pub fn change_row(
+    settings: &Settings,
+    rules: &Rules,
+    own: &Hashed,
+    row: u64,
+    ops: &[Option<Op>],
+    words: &mut [u64],
+)
+    requires spelled { SpellSomeBucket settings.now words.old }
+    requires words { length words.old ≡ bucket_row_words settings.now }
+    requires rules { rules.now.items ≡ settings.now.items }
+    requires own { IsHashed rules.now.hashing own.now }
+    requires few { length ops.now ≤ settings.now.seats }
+    requires updates { AreUpdates ops.now }
+    requires base { row + 1 < 2 ^ 64 }
+    ensures words { words.new ≡ words_of_bucket settings.now
+        (row_of_state (Some row) (change rules.now ops.now (state_in_row (bucket_of_words settings.now words.old)))) }
+    ensures len { length words.new ≡ length words.old }
+{
+    row_laws();
+    change_words(settings, rules, own, words, row, ops);
+}

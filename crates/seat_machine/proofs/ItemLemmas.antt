@@ -1,0 +1,72 @@
+-- A key among items that are gone through one by one.
+use Rattle.std.proofs.Common.{◌≡◌, ◌<◌, ◌+◌, ◌*◌, ◌∙◌, ℕ, zero, suc, Bool, true, false, cond, List, [], ◌∷◌, ◌++◌, length, take, drop, Option, Some, refl, sym, ap, arith, add-one}
+use Rattle.step_counts.specs.declared.TheConstants.{ITEM_WORDS}
+use Rattle.word_rows.specs.Blocks.{block, first_values}
+use Rattle.word_rows.specs.KeyWords.{pair_of_words}
+use Rattle.word_rows.specs.BucketWords.{items_of_words}
+use Rattle.word_rows.specs.Places.{place}
+use Rattle.word_rows.specs.declared.addresses.Address.TheVariants.{BucketRowWord}
+use Rattle.word_rows.proofs.BlockLemmas.{block-append}
+use Rattle.word_rows.proofs.PartLemmas.{first_values_next}
+use Rattle.core_model.specs.declared.events.Action.TheVariants.{Load}
+use Rattle.core_model.specs.Setup.{rules_of}
+use Rattle.core_model.specs.Phases.{Phase, LookItems, StoreDone}
+use Rattle.bucket_states.specs.Items.{reply_in}
+use Rattle.seat_machine.specs.Going.{Going, Leads}
+use Rattle.seat_machine.proofs.RunLemmas.{counted, counted_leads}
+use Rattle.plain_map.specs.declared.keys.Key.{Key}
+use Rattle.plain_map.specs.declared.keys.Pair.{Pair}
+use Rattle.bucket_states.specs.Items.{same_key, value_at}
+use Rattle.seat_machine.specs.Items.{or_found}
+
+-- by whether the first pair has the key
+by_test : (b : Bool) (value : ℕ) (long short : Option ℕ) (key : Key) (pair : Pair) → long ≡ or_found short key pair →
+    cond b (Some value) long ≡ or_found (cond b (Some value) short) key pair
+by_test true value long short key pair same = refl
+by_test false value long short key pair same = same
+
+-- the value among one pair more
+pub value_at-more : (key : Key) (items : List Pair) (pair : Pair) →
+    value_at key (items ++ pair ∷ []) ≡ or_found (value_at key items) key pair
+value_at-more key [] pair = refl
+value_at-more key (p ∷ ps) pair = by_test (same_key p.key key) p.value (value_at key (ps ++ pair ∷ []))
+    (value_at key ps) key pair (value_at-more key ps pair)
+
+-- values that are alike
+first_values_same : {A : Type 0} → (f g : ℕ → A) (n : ℕ) → ((k : ℕ) → k < n → f k ≡ g k) →
+    first_values f n ≡ first_values g n
+first_values_same f g zero same = refl
+first_values_same {A} f g (suc n) same =
+    let next : suc n ≡ n + 1 = sym (add-one n) in
+    ap (first_values f) next ∙ first_values_next f n
+    ∙ (λ i. first_values_same f g n (λ k h. same k (omega (arith, h))) i ++ same n (omega arith) i ∷ [])
+    ∙ sym (first_values_next g n) ∙ ap (first_values g) (sym next)
+
+-- what stands behind the front
+drop_front : {A : Type 0} → (front back : List A) (n : ℕ) → length front ≡ n → drop n (front ++ back) ≡ back
+drop_front [] back zero e = refl
+drop_front [] back (suc n) e = absurd (omega (arith, e))
+drop_front (x ∷ xs) back zero e = absurd (omega (arith, e))
+drop_front (x ∷ xs) back (suc n) e = drop_front xs back n (omega (arith, e))
+
+-- the words of one more item
+pub items_more : (words : List ℕ) (i k0 k1 value : ℕ) → length words ≡ i * ITEM_WORDS →
+    items_of_words (i + 1) (words ++ k0 ∷ k1 ∷ value ∷ []) ≡ items_of_words i words
+    ++ record { key = record { k0 = k0; k1 = k1 }; value = value } ∷ []
+items_more words i k0 k1 value is =
+    let tail = k0 ∷ k1 ∷ value ∷ [] in
+    let f : ℕ → Pair = λ k. pair_of_words (block ITEM_WORDS k (words ++ tail)) in
+    first_values_next f i
+    ∙ (λ j. first_values_same f (λ k. pair_of_words (block ITEM_WORDS k words)) i
+    (λ k h. ap pair_of_words (block-append ITEM_WORDS k i words tail is h)) j
+    ++ ap (λ (ws : List ℕ). pair_of_words (take ITEM_WORDS ws)) (drop_front words tail (i * ITEM_WORDS) is) j ∷ [])
+
+-- the phase after all items
+abbrev pub whole_items : Going → (row count : ℕ) → List ℕ → Phase
+whole_items g row count words = StoreDone (reply_in (rules_of g.setup) (items_of_words count words) g.flight.call) row
+
+-- the words of the items, one after the other
+pub item_leads : (g : Going) (start row count : ℕ) → start ≡ place g.setup.shape (BucketRowWord row 5) →
+    Leads (counted g (count * ITEM_WORDS) (LookItems row count) (whole_items g row count)) start (count * ITEM_WORDS)
+item_leads g start row count at = counted_leads g (count * ITEM_WORDS) (LookItems row count)
+    (whole_items g row count) start (λ words word h. refl) (λ words h. ap Load (omega (arith, at)))

@@ -1,0 +1,57 @@
+//! A whole lookup.
+
+ghost use Rattle.std.specs.Prelude.{◌≡◌, ◌^◌, ◌<◌, ◌≤◌, All, length};
+ghost use Rattle.plain_map.specs.declared.calls.Call.TheVariants.{Lookup};
+ghost use Rattle.step_counts.specs.StepCounts.{lookup_steps};
+ghost use Rattle.core_model.specs.SeatStates.{seen_counts};
+ghost use Rattle.seat_machine.specs.Going.{Begins};
+ghost use Rattle.seat_machine.specs.Desks.{IsOf};
+
+use crate::desk::Desk;
+use crate::finding::{find, see_done};
+use crate::looking::look;
+use crate::steps::Steps;
+use core_model::Aim;
+use plain_map::{Call, Key, Record, Seen};
+use step_counts::ITEM_WORDS;
+
+/// The seen counts as they stand in a record.
+pub fn counts(seen: &[u64]) -> Seen
+    requires long { length seen.now ≤ 8 }
+    requires few { All (λ n. n < 2 ^ 32) seen.now }
+    ensures { result ≡ seen_counts seen.now }
+{
+    let mut counts = [0; 8];
+    for i in 0..seen.len() {
+        counts[i] = seen[i] as u32;
+    }
+    Seen { counts }
+}
+
+/// Looks a key up.
+pub fn lookup<S: Steps>(steps: &mut S, desk: &Desk, packet: u32, number: u32, key: &Key) -> Record
+    requires begins { Begins (S.now steps.old) packet number (Lookup key.now) }
+    requires desk { IsOf (S.now steps.old) desk.now }
+    ensures answered { S.answered steps.new result (S.now steps.old).account.used }
+{
+    let seats = desk.layout.settings().seats;
+    let mut room = [0; 8];
+    let words = &mut room[..seats as usize];
+    see_done(steps, desk, words);
+    let seen = counts(words);
+    let hash = key.hash(&desk.rules.hashing);
+    let (root, bucket) = find(steps, desk, Aim::ForLookup, hash);
+    let (row, count, reply) = look(steps, desk, root, bucket, key);
+    let made = Record {
+        seat: desk.seat,
+        number,
+        packet,
+        call: Call::Lookup(*key),
+        reply,
+        steps: seats as u64 + 6 + ITEM_WORDS as u64 * count,
+        seen,
+        place: row,
+    };
+    steps.finish(desk.layout.done(desk.seat), number as u64);
+    made
+}

@@ -1,0 +1,125 @@
+//! The leg of a try that finds what all seats announce.
+
+ghost use Rattle.std.specs.Prelude.{◌≡◌, ◌+◌, ◌*◌, ◌<◌, ◌≤◌, ◌^◌, [], IfSome, Some, length};
+ghost use Rattle.word_rows.specs.Places.{place};
+ghost use Rattle.word_rows.specs.declared.addresses.Address.TheVariants.{OpWord};
+ghost use Rattle.bucket_states.specs.Values.{AreUpdates, IsUpdate};
+ghost use Rattle.core_model.specs.Setup.{seats_of};
+ghost use Rattle.core_model.specs.Goes.{more, op_in_words};
+ghost use Rattle.core_model.specs.Fits.{IsOpSoFar, Makes};
+ghost use Rattle.seat_machine.specs.Going.{later};
+ghost use Rattle.seat_machine.specs.Desks.{IsOf};
+ghost use Rattle.seat_machine.specs.Found.{IsSmallOp};
+ghost use Rattle.seat_machine.specs.Tries.{after_all_ops, after_ops, announcing, reading};
+
+use crate::asking::Trying;
+use crate::desk::Desk;
+use crate::runs::load_run;
+use crate::steps::Steps;
+use bucket_states::Op;
+use step_counts::OP_WORDS;
+use word_rows::{read_op, row_laws};
+
+// The op that these words spell.
+fn read_found(words: &[u64; OP_WORDS], seat: usize) -> Op
+    requires spelled { IsOpSoFar words.now }
+    requires seats { seat < 8 }
+    ensures is { result ≡ op_in_words seat words.now }
+    ensures small { IsSmallOp result }
+{
+    row_laws();
+    let Some(row) = read_op(words) else {
+        unreachable!()
+    };
+    Op {
+        seat: seat as u32,
+        number: row.number,
+        call: row.call,
+    }
+}
+
+// Loads an op row.
+fn load_op<S: Steps, A: Trying>(
+    steps: &mut S,
+    start: u64,
+    attempt: &A,
+    found: &[Option<Op>],
+    op: u64,
+) -> Op
+    requires phase { (S.now steps.old).phase ≡
+        reading (A.round attempt.now) (A.attempt attempt.now (S.now steps.old).setup) found.now op [] }
+    requires start { start ≡ place (S.now steps.old).setup.shape (OpWord op 0) }
+    requires few { start < 2 ^ 63 }
+    requires seats { length found.now < 8 }
+    ensures goes { S.now steps.new ≡ later (S.now steps.old) 5
+        (after_ops (S.now steps.old).setup (A.round attempt.now) (A.attempt attempt.now (S.now steps.old).setup)
+        (more found.now (Some result))) }
+    ensures makes { Makes (S.now steps.old).setup
+        (after_ops (S.now steps.old).setup (A.round attempt.now) (A.attempt attempt.now (S.now steps.old).setup)
+        (more found.now (Some result))) }
+    ensures small { IsSmallOp result }
+{
+    let mut words = [0; OP_WORDS];
+    load_run(steps, start, &mut words);
+    read_found(&words, found.len())
+}
+
+// Finds what the next seat announces, and tells how many steps that took.
+fn find_op<S: Steps, A: Trying>(
+    steps: &mut S,
+    desk: &Desk,
+    attempt: &A,
+    found: &[Option<Op>],
+) -> (Option<Op>, u64)
+    requires phase { (S.now steps.old).phase ≡
+        announcing (A.round attempt.now) (A.attempt attempt.now (S.now steps.old).setup) found.now }
+    requires desk { IsOf (S.now steps.old) desk.now }
+    ensures goes { S.now steps.new ≡ later (S.now steps.old) result.1
+        (after_ops (S.now steps.old).setup (A.round attempt.now) (A.attempt attempt.now (S.now steps.old).setup)
+        (more found.now result.0)) }
+    ensures makes { Makes (S.now steps.old).setup
+        (after_ops (S.now steps.old).setup (A.round attempt.now) (A.attempt attempt.now (S.now steps.old).setup)
+        (more found.now result.0)) }
+    ensures small { IfSome result.0 IsSmallOp }
+    ensures few { result.1 ≤ 6 }
+{
+    steps.stands();
+    let word = steps.load(desk.layout.announcement(found.len() as u32));
+    if word == 0 {
+        return (None, 1);
+    }
+    steps.stands();
+    let start = desk.layout.op_word(word - 1, 0);
+    let op = load_op(steps, start, attempt, found, word - 1);
+    (Some(op), 6)
+}
+
+/// Finds what all seats announce, and tells how many steps that took.
+pub fn find_ops<S: Steps, A: Trying>(
+    steps: &mut S,
+    desk: &Desk,
+    attempt: &A,
+    ops: &mut [Option<Op>],
+) -> u64
+    requires phase { (S.now steps.old).phase ≡
+        announcing (A.round attempt.now) (A.attempt attempt.now (S.now steps.old).setup) [] }
+    requires desk { IsOf (S.now steps.old) desk.now }
+    requires seats { length ops.old ≡ seats_of (S.now steps.old).setup }
+    ensures goes { S.now steps.new ≡ later (S.now steps.old) result
+        (after_all_ops (S.now steps.old).setup (A.round attempt.now)
+        (A.attempt attempt.now (S.now steps.old).setup) ops.new) }
+    ensures makes { Makes (S.now steps.old).setup
+        (after_all_ops (S.now steps.old).setup (A.round attempt.now)
+        (A.attempt attempt.now (S.now steps.old).setup) ops.new) }
+    ensures updates { AreUpdates ops.new }
+    ensures few { result ≤ 48 }
+    ensures len { length ops.new ≡ length ops.old }
+{
+    let mut spent = 0;
+    for i in 0..ops.len() {
+        let (op, more) = find_op(steps, desk, attempt, &ops[..i]);
+        ops[i] = op;
+        spent += more;
+    }
+    spent
+}

@@ -1,0 +1,121 @@
+//! The rounds of an update.
+
+ghost use Rattle.std.specs.Prelude.{◌≡◌, ◌+◌, ◌<◌, ◌≤◌, ◌^◌, None};
+ghost use Rattle.core_model.specs.Phases.{DirRoot, TryWord};
+ghost use Rattle.seat_machine.specs.Going.{went};
+ghost use Rattle.seat_machine.specs.Desks.{IsOf, settings_at};
+ghost use Rattle.seat_machine.specs.Owns.{IsOwn};
+ghost use Rattle.seat_machine.specs.Rooms.{HasAllRoom};
+ghost use Rattle.seat_machine.specs.Outcomes.{ending, ending_of_round};
+
+use crate::desk::Desk;
+use crate::directory_tries::{Changed, try_directory};
+use crate::own::Own;
+use crate::room::Room;
+use crate::steps::Steps;
+use crate::tries::{Tried, try_bucket};
+use core_model::Round;
+use plain_map::Reply;
+use step_counts::SeatRows;
+
+// The bucket tries of a round, two and a look: the reply with its row, or none where a directory try is next; and how
+// many steps they took.
+fn try_buckets<S: Steps>(
+    steps: &mut S,
+    desk: &Desk,
+    own: &Own,
+    used: &mut SeatRows,
+    round: Round,
+) -> (Option<(Reply, u64)>, u64)
+    requires phase { (S.now steps.old).phase ≡ TryWord round 1 None }
+    requires desk { IsOf (S.now steps.old) desk.now }
+    requires own { IsOwn (S.now steps.old) own.now }
+    requires used { used.old ≡ (S.now steps.old).account.used }
+    ensures goes { S.now steps.new ≡ went (S.now steps.old) used.new result.1 (ending round result.0) }
+    ensures few { result.1 ≤ 1200 }
+{
+    let mut turn = 1;
+    let mut first = None;
+    let mut spent = 0;
+    'tries: loop {
+        let (tried, more) = try_bucket(steps, desk, own, used, round, turn, first);
+        spent += more;
+        match tried {
+            Tried::Answered(reply, row) => return (Some((reply, row)), spent),
+            Tried::ToDirectory => return (None, spent),
+            Tried::Again(row) => {
+                turn += 1;
+                first = Some(row);
+            }
+        }
+    }
+}
+
+// The directory tries of a round, two at most: the reply with its row, or none where the round is left; and how many
+// steps they took.
+fn try_directories<S: Steps>(
+    steps: &mut S,
+    desk: &Desk,
+    room: &mut Room,
+    own: &Own,
+    used: &mut SeatRows,
+    round: Round,
+) -> (Option<(Reply, u64)>, u64)
+    requires phase { (S.now steps.old).phase ≡ DirRoot round 1 None }
+    requires desk { IsOf (S.now steps.old) desk.now }
+    requires room { HasAllRoom (settings_at desk.now) room.old }
+    requires own { IsOwn (S.now steps.old) own.now }
+    requires used { used.old ≡ (S.now steps.old).account.used }
+    ensures goes { S.now steps.new ≡ went (S.now steps.old) used.new result.1 (ending_of_round round result.0) }
+    ensures few { result.1 < 2 ^ 62 }
+    ensures room { HasAllRoom (settings_at desk.now) room.new }
+{
+    let mut turn = 1;
+    let mut first = None;
+    let mut spent = 0;
+    'tries: loop {
+        let (changed, more) = try_directory(steps, desk, room, own, used, round, turn, first);
+        match changed {
+            Changed::Made(reply, row) => {
+                steps.stands();
+                return (Some((reply, row)), spent + more);
+            }
+            Changed::Left => {
+                steps.stands();
+                return (None, spent + more);
+            }
+            Changed::LostRoot(root) => {
+                steps.stands();
+                spent += more;
+                turn += 1;
+                first = Some(root);
+            }
+        }
+    }
+}
+
+/// A whole round: the reply with its row, or none where the round is left; and how many steps it took.
+pub fn try_round<S: Steps>(
+    steps: &mut S,
+    desk: &Desk,
+    room: &mut Room,
+    own: &Own,
+    used: &mut SeatRows,
+    round: Round,
+) -> (Option<(Reply, u64)>, u64)
+    requires phase { (S.now steps.old).phase ≡ TryWord round 1 None }
+    requires desk { IsOf (S.now steps.old) desk.now }
+    requires room { HasAllRoom (settings_at desk.now) room.old }
+    requires own { IsOwn (S.now steps.old) own.now }
+    requires used { used.old ≡ (S.now steps.old).account.used }
+    ensures goes { S.now steps.new ≡ went (S.now steps.old) used.new result.1 (ending_of_round round result.0) }
+    ensures few { result.1 < 2 ^ 62 + 1200 }
+    ensures room { HasAllRoom (settings_at desk.now) room.new }
+{
+    let (answer, spent) = try_buckets(steps, desk, own, used, round);
+    if let Some((reply, row)) = answer {
+        return (Some((reply, row)), spent);
+    }
+    let (answer, more) = try_directories(steps, desk, room, own, used, round);
+    (answer, spent + more)
+}

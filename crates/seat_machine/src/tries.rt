@@ -1,0 +1,161 @@
+//! A bucket try.
+
+ghost use Rattle.std.specs.Prelude.{◌≡◌, ◌+◌, ◌<◌, ◌≤◌, ◌^◌, [], Some, length};
+ghost use Rattle.step_counts.specs.StepCounts.{bucket_row_words};
+ghost use Rattle.word_rows.specs.BucketWords.{SpellSomeBucket};
+ghost use Rattle.core_model.specs.Setup.{settings_of};
+ghost use Rattle.core_model.specs.Phases.{TryAnnouncement, TryWord};
+ghost use Rattle.core_model.specs.Goes.{after_row, bucket_in_words};
+ghost use Rattle.core_model.specs.Fits.{Makes};
+ghost use Rattle.seat_machine.specs.Going.{later, went};
+ghost use Rattle.seat_machine.specs.Desks.{IsOf};
+ghost use Rattle.seat_machine.specs.Owns.{IsOwn};
+ghost use Rattle.seat_machine.specs.Tries.{tried};
+ghost use Rattle.seat_machine.specs.Outcomes.{IsEarly, outcome};
+
+use crate::asking::Attempt;
+use crate::desk::Desk;
+use crate::ops::find_ops;
+use crate::own::Own;
+use crate::rows::{load_row, store_row};
+use crate::steps::Steps;
+use crate::words::{applied_in, change, reply_in};
+use core_model::Round;
+use plain_map::Reply;
+use step_counts::SeatRows;
+
+/// The most words of a bucket row.
+pub(crate) const MOST_WORDS: usize = 69;
+
+/// How a try went.
+#[derive(Clone, Copy)]
+pub enum Tried {
+    /// The call is applied in the bucket: the reply, and the row.
+    Answered(Reply, u64),
+    /// The bucket is frozen without the call.
+    ToDirectory,
+    /// The exchange was lost. The first row that the round loaded.
+    Again(u64),
+}
+
+/// Loads the bucket word and the row of a try: the row, and the first row of the round.
+pub fn look_at<S: Steps>(
+    steps: &mut S,
+    desk: &Desk,
+    round: &Round,
+    turn: u64,
+    first: Option<u64>,
+    words: &mut [u64],
+) -> (u64, u64)
+    requires phase { (S.now steps.old).phase ≡ TryWord round.now turn first }
+    requires desk { IsOf (S.now steps.old) desk.now }
+    requires words { length words.old ≡ bucket_row_words (settings_of (S.now steps.old).setup) }
+    ensures goes { S.now steps.new ≡
+        later (S.now steps.old) (1 + bucket_row_words (settings_of (S.now steps.old).setup))
+        (after_row (S.now steps.old).seat (S.now steps.old).flight round.now
+        (tried turn result.1 result.0 (bucket_in_words (S.now steps.old).setup words.new))) }
+    ensures spelled { SpellSomeBucket (settings_of (S.now steps.old).setup) words.new }
+    ensures makes { Makes (S.now steps.old).setup
+        (after_row (S.now steps.old).seat (S.now steps.old).flight round.now
+        (tried turn result.1 result.0 (bucket_in_words (S.now steps.old).setup words.new))) }
+    ensures len { length words.new ≡ length words.old }
+{
+    steps.stands();
+    let row = steps.load(desk.layout.bucket_word(round.bucket));
+    let first = first.unwrap_or(row);
+    load_row(steps, desk, row, words);
+    (row, first)
+}
+
+/// Makes the bucket after all ops the table's, and tells how many steps that took.
+#[tactic(auto, unfolding(core_model::specs::Setup::next_number))]
+pub fn change_bucket<S: Steps>(
+    steps: &mut S,
+    desk: &Desk,
+    own: &Own,
+    used: &mut SeatRows,
+    round: Round,
+    turn: u64,
+    first: u64,
+    row: u64,
+    words: &mut [u64],
+) -> (Tried, u64)
+    requires phase { (S.now steps.old).phase ≡
+        TryAnnouncement round (tried turn first row (bucket_in_words (S.now steps.old).setup words.old)) [] }
+    requires desk { IsOf (S.now steps.old) desk.now }
+    requires used { used.old ≡ (S.now steps.old).account.used }
+    requires own { IsOwn (S.now steps.old) own.now }
+    requires words { length words.old ≡ bucket_row_words (settings_of (S.now steps.old).setup) }
+    requires spelled { SpellSomeBucket (settings_of (S.now steps.old).setup) words.old }
+    ensures goes { S.now steps.new ≡ went (S.now steps.old) used.new result.1 (outcome round turn result.0) }
+    ensures few { result.1 ≤ 200 }
+    ensures len { length words.new ≡ length words.old }
+{
+    let seats = desk.layout.settings().seats as usize;
+    let mut ops = [None; 8];
+    let found = &mut ops[..seats];
+    let attempt = Attempt {
+        round,
+        turn,
+        first,
+        row,
+        words,
+    };
+    let spent = find_ops(steps, desk, &attempt, found);
+    change(desk, &own.key, row, found, words);
+    steps.stands();
+    let new = desk.first.bucket_rows + used.bucket_rows;
+    store_row(steps, desk, new, words);
+    steps.stands();
+    let all = spent + words.len() as u64 + 1;
+    if steps.exchange(desk.layout.bucket_word(round.bucket), row, new) != row {
+        return (Tried::Again(first), all);
+    }
+    used.bucket_rows += 1;
+    if own.number as u64 <= applied_in(desk, words) {
+        let Some(reply) = reply_in(desk, words) else {
+            unreachable!()
+        };
+        return (Tried::Answered(reply, new), all);
+    }
+    (Tried::ToDirectory, all)
+}
+
+/// A whole bucket try, and how many steps it took.
+pub fn try_bucket<S: Steps>(
+    steps: &mut S,
+    desk: &Desk,
+    own: &Own,
+    used: &mut SeatRows,
+    round: Round,
+    turn: u64,
+    first: Option<u64>,
+) -> (Tried, u64)
+    requires phase { (S.now steps.old).phase ≡ TryWord round turn first }
+    requires desk { IsOf (S.now steps.old) desk.now }
+    requires used { used.old ≡ (S.now steps.old).account.used }
+    requires own { IsOwn (S.now steps.old) own.now }
+    ensures goes { S.now steps.new ≡ went (S.now steps.old) used.new result.1 (outcome round turn result.0) }
+    ensures early { IsEarly turn result.0 }
+    ensures few { result.1 ≤ 300 }
+{
+    let size = desk.row_length();
+    let mut buffer = [0; MOST_WORDS];
+    let words = &mut buffer[..size];
+    let (row, first) = look_at(steps, desk, &round, turn, first, words);
+    let spent = 1 + size as u64;
+    if own.number as u64 <= applied_in(desk, words) {
+        let Some(reply) = reply_in(desk, words) else {
+            unreachable!()
+        };
+        return (Tried::Answered(reply, row), spent);
+    }
+    if words[3] == 1 {
+        return (Tried::ToDirectory, spent);
+    }
+    if turn > 2 {
+        unreachable!()
+    }
+    let (tried, more) = change_bucket(steps, desk, own, used, round, turn, first, row, words);
+    (tried, spent + more)
+}

@@ -1,0 +1,8 @@
+pub mod Lists
+pub mod Worlds
+pub mod Moves
+pub mod StepLemmas
+mod Parts
+mod Seats
+mod OpeningLemmas
+mod TestLemmas

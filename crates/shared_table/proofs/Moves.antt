@@ -1,0 +1,325 @@
+-- A step of a seat keeps the rule.
+use Rattle.std.proofs.Common.{◌≡◌, ◌≢◌, ℕ, ◌<◌, Bool, true, false, cond, eqb, List, [], ◌∷◌, ◌++◌, length, get_or, set, refl, sym, ap, ◌∙◌, subst, arith, get_or-set_same, get_or-set_other, append_assoc}
+use Rattle.std.specs.Prelude.{All, sum_by, count_by}
+use prog.Atomic.{either}
+use Rattle.std.proofs.lemmas.Bool.{eq-eqb, ne_eqb}
+use Rattle.std.proofs.lemmas.List.{map-set, append-nil}
+use Rattle.std.proofs.lemmas.List.Elements.{All-nil, All-cons}
+use Rattle.std.proofs.lemmas.List.Sums.{sum_by-set, sum_by-cons, get_or-le-sum_by}
+use mathlib.Core.Option.{some}
+use lib.ListN.{get_elem?}
+use Rattle.atomic_table.specs.Table.{State, keeps, stepped, Allows}
+use Rattle.plain_map.specs.declared.calls.Call.{Call}
+use Rattle.word_rows.specs.Shape.{Shape}
+use Rattle.word_rows.specs.declared.addresses.Address.{Address}
+use Rattle.word_rows.specs.Places.{place}
+use Rattle.core_model.specs.declared.events.Event.{Event}
+use Rattle.core_model.specs.Setup.{Setup, seats_of}
+use Rattle.core_model.specs.SeatStates.{SeatState, fresh_seat}
+use Rattle.core_model.specs.declared.events.Ask.{Ask}
+use Rattle.core_model.specs.declared.events.Ask.TheVariants.{Load, Store, Exchange}
+use Rattle.core_model.specs.Worlds.{World, IsRun, world_after, seat_in, found_by, words_after}
+use Rattle.core_model.specs.Shown.{Holding, Bundle, IsOfRun}
+use Rattle.shared_table.specs.declared.view.View.{View}
+use Rattle.core_model.specs.Steps.{MayStep, event_of, advanced, address_of, becomes, told, IsOnWord}
+use Rattle.core_model.specs.Fits.{EveryStepFits}
+use Rattle.shared_table.specs.Rule.{bundles, Holds, M, alone, IsReached, asked_by, after_step, Steps, Moved, AsksFor, IsFor}
+use Rattle.shared_table.proofs.Lists.{at_place, elem_map, zero_elsewhere, all_but_one, get_or_default, count-snoc}
+use Rattle.shared_table.proofs.Worlds.{is_event, steps_world, words_are, found_is, run-snoc, world-snoc, length-world}
+
+abbrev bit : Bool → ℕ
+bit b = cond b 1 0
+
+-- a bundle without the seat stays, where the world changes at that seat alone
+module _ (setup : Setup) (events : List Event) (e : Event) (s : SeatState)
+    (now : (world_after setup (events ++ e ∷ [])).seats ≡ set (world_after setup events).seats e.seat s) where
+  stays : (h : Holding) → h.seat ≢ e.seat → IsOfRun setup events h → IsOfRun setup (events ++ e ∷ []) h
+  stays h ne r = record {
+    opened = r.opened;
+    seat = r.seat;
+    state = r.state ∙ sym (ap (λ (ss : List SeatState). get_or ss h.seat fresh_seat) now
+        ∙ get_or-set_other (world_after setup events).seats e.seat h.seat s fresh_seat ne);
+    later = r.later ++ e ∷ [];
+    known = ap (λ (es : List Event). es ++ e ∷ []) r.known ∙ append_assoc h.known r.later (e ∷ []);
+    own =
+        let far : eqb e.seat h.seat ≡ false = ne_eqb e.seat h.seat (λ k. ne (sym k)) in
+        count-snoc (λ (x : Event). eqb x.seat h.seat) r.later e ∙ omega (arith, r.own, ap bit far);
+  }
+
+  all_stay : (b : Bundle) → count_by (λ (h : Holding). eqb h.seat e.seat) b ≡ 0 → All (IsOfRun setup events) b →
+      All (IsOfRun setup (events ++ e ∷ [])) b
+  all_stay b none all k d inside =
+      let h : Holding = get_or b k d in
+      let le = get_or-le-sum_by (λ (x : Holding). cond (eqb x.seat e.seat) 1 0) b k d inside in
+      let zero : bit (eqb h.seat e.seat) ≡ 0 = omega (arith, le, none) in
+      let far : h.seat ≢ e.seat = λ same. absurd (omega (arith, zero, ap bit (eq-eqb h.seat e.seat same))) in
+      stays h far (all k d inside)
+
+-- what the rule says of a view of one seat
+mine_of : (c : Setup) (s : State (Unit {0}) View) (r : Holds c s) (id : ℕ) (h : Holding) →
+    get_elem? s.views id ≡ some (alone h).0 → IsOfRun c r.events h
+mine_of c s r id h at =
+    let there : get_elem? (bundles s.views) id ≡ some (h ∷ []) =
+    elem_map (λ (v : View). v.bundle) s.views id (alone h).0 at in
+    let p = at_place (bundles s.views) id (h ∷ []) [] there in
+    let all : All (IsOfRun c r.events) (h ∷ []) = subst (All (IsOfRun c r.events)) p.1 (r.of_run id [] p.0) in
+    all 0 h (omega arith)
+
+module _ (asked : ℕ × Call) (h : Holding) (s : State (Unit {0}) View) (r : Holds h.setup s) (id : ℕ)
+    (at : get_elem? s.views id ≡ some (alone h).0)
+    (may : MayStep h.setup h.seat asked h.state.account h.state.stand) where
+  abbrev c : Setup
+  c = h.setup
+
+  abbrev a : Ask
+  a = asked_by h asked
+
+  abbrev e : Event
+  e = event_of h.seat asked h.state
+
+  abbrev w : World
+  w = world_after c r.events
+
+  abbrev word : ℕ
+  word = place c.shape (address_of a)
+
+  abbrev n : ℕ
+  n = get_or s.words word 0
+
+  abbrev run : List Event
+  run = r.events ++ e ∷ []
+
+  abbrev then : Holding
+  then = after_step h asked (told a n) r.events
+
+  there : get_elem? (bundles s.views) id ≡ some (h ∷ [])
+  there = elem_map (λ (v : View). v.bundle) s.views id (alone h).0 at
+
+  inside : id < length (bundles s.views)
+  inside = (at_place (bundles s.views) id (h ∷ []) [] there).0
+
+  is_mine : get_or (bundles s.views) id [] ≡ h ∷ []
+  is_mine = (at_place (bundles s.views) id (h ∷ []) [] there).1
+
+  mine : IsOfRun c r.events h
+  mine = mine_of c s r id h at
+
+  now_here : seat_in w h.seat ≡ h.state
+  now_here = sym mine.state
+
+  found_same : told a n ≡ found_by c a w.words
+  found_same = ap (λ (ws : List ℕ). told a (get_or ws word 0)) r.same_words ∙ found_is c a w.words
+
+  world_is : world_after c run ≡ record {
+    words = words_after c a w.words;
+    seats = set w.seats h.seat (advanced c h.seat asked h.state (found_by c a w.words));
+  }
+  world_is = world-snoc c r.events e ∙ steps_world c h.seat asked w h.state mine.seat now_here may
+
+  seats_are : (world_after c run).seats ≡ set w.seats e.seat then.state
+  seats_are = ap (λ (x : World). x.seats) world_is
+      ∙ ap (λ (k : ℕ). set w.seats h.seat (advanced c h.seat asked h.state k)) (sym found_same)
+
+  runs : IsRun c run
+  runs = run-snoc c r.events e r.is_run (is_event c h.seat asked w h.state mine.seat now_here may)
+
+  long : length w.seats ≡ seats_of c
+  long = length-world c r.events
+
+  here : seat_in (world_after c run) h.seat ≡ then.state
+  here =
+      ap (λ (ss : List SeatState). get_or ss h.seat fresh_seat) seats_are
+      ∙ get_or-set_same w.seats h.seat then.state fresh_seat (omega (arith, long, mine.seat))
+
+  -- the new state of the table
+  abbrev after : State (Unit {0}) View
+  after = stepped s word (becomes a n) id [] (alone then).0 keeps
+
+  bundles_are : bundles after.views ≡ set (bundles s.views) id (then ∷ [])
+  bundles_are = map-set (λ (v : View). v.bundle) s.views id (alone then).0
+
+  -- the seat stands once, so in no other view
+  abbrev times_of : ℕ → Bundle → ℕ
+  times_of seat b = count_by (λ (x : Holding). eqb x.seat seat) b
+
+  one_time : (x : Holding) → x.seat ≡ h.seat → times_of h.seat (x ∷ []) ≡ 1
+  one_time x same = omega (
+    arith,
+    sum_by-cons (λ (y : Holding). cond (eqb y.seat h.seat) 1 0) x [],
+    ap bit (eq-eqb x.seat h.seat same),
+  )
+
+  same_times : (seat : ℕ) → times_of seat (then ∷ []) ≡ times_of seat (h ∷ [])
+  same_times seat = omega (
+    arith,
+    sum_by-cons (λ (y : Holding). cond (eqb y.seat seat) 1 0) then [],
+    sum_by-cons (λ (y : Holding). cond (eqb y.seat seat) 1 0) h [],
+  )
+
+  others : (k : ℕ) (d : Bundle) → k < length (bundles s.views) → k ≢ id →
+      All (IsOfRun c run) (get_or (bundles s.views) k d)
+  others k d hk ne =
+      let total : sum_by (times_of h.seat) (bundles s.views) ≡ 1 = r.once h.seat mine.seat in
+      let one : times_of h.seat (get_or (bundles s.views) id []) ≡ 1 = ap (times_of h.seat) is_mine ∙ one_time h refl in
+      let same_d : get_or (bundles s.views) k d ≡ get_or (bundles s.views) k [] =
+      get_or_default (bundles s.views) k d [] hk in
+      let zero : times_of h.seat (get_or (bundles s.views) k []) ≡ 0 =
+      zero_elsewhere (times_of h.seat) (bundles s.views) id k [] [] refl inside hk ne (total ∙ sym one) in
+      all_stay c r.events e then.state seats_are (get_or (bundles s.views) k d) (ap (times_of h.seat) same_d ∙ zero)
+      (r.of_run k d hk)
+
+  mine_after : IsOfRun c run then
+  mine_after = record {
+    opened = refl;
+    seat = mine.seat;
+    state = sym here;
+    later = [];
+    known = sym (append-nil run);
+    own = refl;
+  }
+
+  goes_on : Holds c after
+  goes_on = record {
+    events = run;
+    is_run = runs;
+    same_words =
+        ap (λ (ws : List ℕ). set ws word (becomes a (get_or ws word 0))) r.same_words
+        ∙ sym (words_are c a w.words) ∙ sym (ap (λ (x : World). x.words) world_is);
+    of_run = subst (All (λ (b : Bundle). All (IsOfRun c run) b)) (sym bundles_are)
+        (all_but_one (λ (b : Bundle). All (IsOfRun c run) b) (bundles s.views) id (then ∷ [])
+        (All-cons (IsOfRun c run) then [] mine_after (All-nil (IsOfRun c run))) others);
+    once = λ seat hs.
+        let cut = sum_by-set (times_of seat) (bundles s.views) id (then ∷ []) [] inside in
+        let was = r.once seat hs in
+        ap (λ (bs : List Bundle). sum_by (times_of seat) bs) bundles_are
+        ∙ omega (arith, cut, ap (times_of seat) is_mine, same_times seat, was);
+  }
+
+  stepped_to : (k : ℕ) → told a k ≡ told a n → Steps asked h k (alone then)
+  stepped_to k same = record {
+    before = r.events;
+    grew = record { later = mine.later; is = mine.known; own = mine.own };
+    was = record { run = r.is_run; seat = mine.seat; state = now_here };
+    found = same ∙ found_same;
+    is = ap (λ (j : ℕ). alone (after_step h asked j r.events)) (sym same);
+    reached = subst (λ (j : ℕ). IsReached (after_step h asked j r.events)) (sym same)
+        (record { run = runs; seat = mine.seat; state = here });
+  }
+
+-- whatever the table is, a step that the seat asks for can be taken
+abbrev first_or : Holding → List Holding → Holding
+first_or d [] = d
+first_or d (x ∷ xs) = x
+
+pub alone_is : (h k : Holding) → alone h ≡ alone k → h ≡ k
+alone_is h k e = ap (λ (m : M). first_or h m.0.bundle) e
+
+abbrev pub Tells : ℕ × Call → Ask → M → ℕ → M → Type 0
+Tells asked a m n w = (k : ℕ) → told a k ≡ told a n → Moved asked m k w
+
+moves_at : (c : Setup) (slots id : ℕ) (asked : ℕ × Call) (h : Holding) →
+    MayStep h.setup h.seat asked h.state.account h.state.stand →
+    Allows (Holds c) slots id (alone h) (place h.setup.shape (address_of (asked_by h asked)))
+    (becomes (asked_by h asked)) (λ n w. Tells asked (asked_by h asked) (alone h) n w)
+moves_at c slots id asked h may s r _ at _ =
+    let same : h.setup ≡ c = (mine_of c s r id h at).opened in
+    let r' : Holds h.setup s = subst (λ (d : Setup). Holds d s) (sym same) r in (
+      (alone (after_step h asked (told (asked_by h asked) (n asked h s r' id at may)) r'.events)).0,
+      keeps,
+      tt,
+      subst (λ (d : Setup). Holds d (after asked h s r' id at may)) same (goes_on asked h s r' id at may),
+      λ k told_same h' is. subst (λ (x : Holding). Steps asked x k
+          (alone (after_step h asked (told (asked_by h asked) (n asked h s r' id at may)) r'.events)))
+          (alone_is h h' is)
+          (stepped_to asked h s r' id at may k told_same),
+    )
+
+pub moves : (c : Setup) (slots id : ℕ) (asked : ℕ × Call) (a : Ask) (h : Holding) (m : M) → AsksFor asked a h m →
+    Allows (Holds c) slots id m (place h.setup.shape (address_of a)) (becomes a) (λ n w. Tells asked a m n w)
+moves c slots id asked a h m ask =
+    subst (λ (u : Ask × M). Allows (Holds c) slots id u.1 (place h.setup.shape (address_of u.0)) (becomes u.0)
+    (λ n w. Tells asked u.0 u.1 n w)) (λ i. (ask.asks i, sym ask.one i))
+    (moves_at c slots id asked h ask.may)
+
+-- the words of the four kinds of step
+pub loads : (c : Setup) (slots id : ℕ) (asked : ℕ × Call) (from : Address) (h : Holding) (m : M) →
+    AsksFor asked (Load from) h m →
+    Allows (Holds c) slots id m (place h.setup.shape from) (λ n. n) (λ n w. Moved asked m n w)
+loads c slots id asked from h m ask s r homes at few =
+    let go = moves c slots id asked (Load from) h m ask s r homes at few in
+    (go.0, go.1, go.2, go.3, go.4 (get_or s.words (place h.setup.shape from) 0) refl)
+
+pub stores : (c : Setup) (slots id : ℕ) (asked : ℕ × Call) (to : Address) (word k : ℕ) (h : Holding) (m : M) →
+    AsksFor asked (Store to word) h m →
+    Allows (Holds c) slots id m (place h.setup.shape to) (λ _. word) (λ _ w. Moved asked m k w)
+stores c slots id asked to word k h m ask s r homes at few =
+    let go = moves c slots id asked (Store to word) h m ask s r homes at few in
+    (go.0, go.1, go.2, go.3, go.4 k refl)
+
+either_is : (b : Bool) (x y : ℕ) → cond b x y ≡ either b x y
+either_is true x y = refl
+either_is false x y = refl
+
+pub exchanges : (c : Setup) (slots id : ℕ) (asked : ℕ × Call) (at : Address) (old new : ℕ) (h : Holding) (m : M) →
+    AsksFor asked (Exchange at old new) h m →
+    Allows (Holds c) slots id m (place h.setup.shape at) (λ n. either (eqb n old) new n) (λ n w. Moved asked m n w)
+exchanges c slots id asked at old new h m ask =
+    subst (λ (f : ℕ → ℕ). Allows (Holds c) slots id m (place h.setup.shape at) f (λ n w. Moved asked m n w))
+    (λ k n. either_is (eqb n old) new n k)
+    (λ s r homes there few.
+    let go = moves c slots id asked (Exchange at old new) h m ask s r homes there few in
+    (go.0, go.1, go.2, go.3, go.4 (get_or s.words (place h.setup.shape at) 0) refl))
+
+-- ---- at the place of its word
+
+pub on_word : EveryStepFits → (shape : Shape) (asked : ℕ × Call) (a : Ask) (m : M) → IsFor shape asked a m →
+    IsOnWord shape a
+on_word law shape asked a m f =
+    let h : Holding = f.holding in
+    let r : IsReached h = f.asks.reached in
+    subst (λ (u : Shape × Ask). IsOnWord u.0 u.1) (λ i. (f.shape_is i, f.asks.asks i))
+    (law h.setup h.known h.seat asked h.state r.run r.seat r.state f.asks.may).on_word
+
+place_is : (shape : Shape) (asked : ℕ × Call) (a : Ask) (m : M) (f : IsFor shape asked a m) (at : Address) (p : ℕ) →
+    p ≡ place shape at → place f.holding.setup.shape at ≡ p
+place_is shape asked a m f at p e = ap (λ (u : Shape). place u at) f.shape_is ∙ sym e
+
+pub loads_at : (c : Setup) (slots id : ℕ) (shape : Shape) (asked : ℕ × Call) (from : Address) (m : M) (p : ℕ) →
+    IsFor shape asked (Load from) m → p ≡ place shape from →
+    Allows (Holds c) slots id m p (λ n. n) (λ n w. Moved asked m n w)
+loads_at c slots id shape asked from m p f e =
+    subst (λ (k : ℕ). Allows (Holds c) slots id m k (λ n. n) (λ n w. Moved asked m n w))
+    (place_is shape asked (Load from) m f from p e) (loads c slots id asked from f.holding m f.asks)
+
+pub stores_at : (c : Setup) (slots id : ℕ) (shape : Shape) (asked : ℕ × Call) (to : Address) (word : ℕ) (m : M)
+    (p : ℕ) → IsFor shape asked (Store to word) m → p ≡ place shape to →
+    Allows (Holds c) slots id m p (λ _. word) (λ _ w. Moved asked m word w)
+stores_at c slots id shape asked to word m p f e =
+    subst (λ (k : ℕ). Allows (Holds c) slots id m k (λ _. word) (λ _ w. Moved asked m word w))
+    (place_is shape asked (Store to word) m f to p e) (stores c slots id asked to word word f.holding m f.asks)
+
+pub exchanges_at : (c : Setup) (slots id : ℕ) (shape : Shape) (asked : ℕ × Call) (at : Address) (old new : ℕ) (m : M)
+    (p : ℕ) → IsFor shape asked (Exchange at old new) m → p ≡ place shape at →
+    Allows (Holds c) slots id m p (λ n. either (eqb n old) new n) (λ n w. Moved asked m n w)
+exchanges_at c slots id shape asked at old new m p f e =
+    subst (λ (k : ℕ). Allows (Holds c) slots id m k (λ n. either (eqb n old) new n) (λ n w. Moved asked m n w))
+    (place_is shape asked (Exchange at old new) m f at p e)
+    (exchanges c slots id asked at old new f.holding m f.asks)
+
+-- a store tells 0
+pub tells_nothing : (shape : Shape) (asked : ℕ × Call) (to : Address) (word : ℕ) (m w : M) →
+    IsFor shape asked (Store to word) m → Moved asked m word w → Moved asked m 0 w
+tells_nothing shape asked to word m w f moved h is =
+    let s : Steps asked h word w = moved h is in
+    let same : asked_by h asked ≡ Store to word =
+    ap (λ (x : Holding). asked_by x asked) (alone_is h f.holding (sym is ∙ f.asks.one)) ∙ f.asks.asks in
+    let none : (k : ℕ) → told (asked_by h asked) k ≡ 0 = λ k. ap (λ (a : Ask). told a k) same in
+    let t : told (asked_by h asked) word ≡ told (asked_by h asked) 0 = none word ∙ sym (none 0) in
+    record {
+      before = s.before;
+      grew = s.grew;
+      was = s.was;
+      found = sym t ∙ s.found;
+      is = s.is ∙ ap (λ (k : ℕ). alone (after_step h asked k s.before)) t;
+      reached = subst (λ (k : ℕ). IsReached (after_step h asked k s.before)) t s.reached;
+    }

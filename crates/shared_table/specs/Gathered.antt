@@ -1,0 +1,13 @@
+-- A token that has all these seats.
+use Rattle.std.specs.Prelude.{◌≡◌, List, [], map}
+use Rattle.core_model.specs.Shown.{Holding}
+use Rattle.shared_table.specs.SeatValues.{SeatValue}
+use Rattle.shared_table.specs.Values.{TableValue}
+use Rattle.shared_table.specs.Calls.{Token}
+
+abbrev pub holdings : List SeatValue → List Holding
+holdings seats = map (λ s. s.holding) seats
+
+pub record HasAll (t : TableValue) (seats : List SeatValue) (token : Token) : Type 0 where
+  pub table : token.table_id ≡ t.table_id
+  pub me : token.me ≡ (record { bundle = holdings seats }, [])

@@ -1,0 +1,13 @@
+-- What contracts see of a seat.
+use Rattle.atomic_table.specs.Seated.{TableId}
+use Rattle.core_model.specs.SeatStates.{Account}
+use Rattle.core_model.specs.Shown.{Holding}
+
+-- its table, its number, what it was opened with, its state, and what it knows of the run
+pub record SeatValue : Type 0 where
+  pub table_id : TableId
+  pub holding : Holding
+
+-- the calls that it has answered, and what it has published
+abbrev pub account_of : SeatValue → Account
+account_of s = s.holding.state.account

@@ -1,0 +1,215 @@
+//! The table of words that the seats share.
+
+ghost use Rattle.std.specs.Prelude.{◌≡◌, ℕ, ◌<◌, ◌^◌, [], All, Err, IfErr, IfOk, OnOk, length, vec_capacity, vec_len};
+ghost use Rattle.plain_map.specs.declared.leaves.OpenFault.TheVariants.{NoRoom};
+ghost use Rattle.bucket_states.specs.Parts.{HasDistinctKeys};
+ghost use Rattle.word_rows.specs.Shape.{AreBelow};
+ghost use Rattle.std.specs.Mem.Slots.{IsFull, slots_items, slots_len};
+ghost use Rattle.word_rows.specs.Places.{word_count};
+ghost use Rattle.word_rows.specs.LayoutView.{shape_of};
+ghost use Rattle.core_model.specs.Setup.{IsFirstWithoutRoom, IsPair, IsSetup, rules_of, seats_of};
+ghost use Rattle.core_model.specs.Worlds.{opening_words};
+ghost use Rattle.shared_table.specs.Rule.{plain};
+ghost use Rattle.shared_table.specs.Seating.{whole};
+ghost use Rattle.shared_table.specs.Values.{IsOf, Ran, new_seats};
+ghost use Rattle.shared_table.specs.Openings.{setup_of};
+ghost use Rattle.shared_table.specs.Gathered.{HasAll};
+
+use crate::closed::ClosedRows;
+use crate::opening::first_words;
+use crate::rule::{Deal, Gather, OneRun, Plan};
+use crate::running::{Token, Words};
+use crate::seat::{Seat, seated, unseated};
+use crate::view::View;
+use atomic_table::{Closed, Table};
+use hash_bits::Hashing;
+use plain_map::{OpenFault, Pair};
+use seat_machine::Room;
+use std::alloc::{AllocError, Global};
+use std::marker::Model;
+use step_counts::{SeatRows, Settings};
+use word_rows::Layout;
+
+pub(crate) type Board = Table<(), View, Plan, OneRun, Global>;
+
+/// A directory in atomic words.
+#[derive(Drop)]
+pub struct Directory {
+    pub(crate) table: Board,
+    pub(crate) layout: Layout,
+}
+
+impl Model for Directory {
+    ghost use Rattle.shared_table.specs.Values.{TableValue};
+
+    ghost Value = { TableValue };
+
+    ghost use Rattle.shared_table.specs.Insides.{table_value, TableStands};
+
+    ghost view = { table_value };
+
+    ghost invariant = { TableStands };
+}
+
+fn copied_rows(alloc: Global, rows: &[SeatRows]) -> Result<Vec<SeatRows>, AllocError>
+    ensures { IfOk result (λ v. v.items ≡ rows.now) }
+{
+    rows.to_vec(alloc)
+}
+
+fn copied_pairs(alloc: Global, first: &[Pair]) -> Result<Vec<Pair>, AllocError>
+    ensures { IfOk result (λ v. v.items ≡ first.now) }
+{
+    first.to_vec(alloc)
+}
+
+// Cuts each seat off the token that has them all.
+fn deal(
+    alloc: Global,
+    words: &Words,
+    mut rest: Token,
+    layout: &Layout,
+    hashing: Hashing,
+    seats: u32,
+    out: &mut Vec<Seat>,
+) -> Result<(), AllocError>
+    requires setup { IsSetup (plain words.now.key) }
+    requires table { (rest.table_id ≡ words.now.table_id) × (0 < words.now.table_id.words) }
+    requires whole { rest.me ≡ (whole (plain words.now.key), []) }
+    requires shape { shape_of layout.now ≡ (plain words.now.key).shape }
+    requires hashing { hashing ≡ (plain words.now.key).hashing }
+    requires seats { seats ≡ seats_of (plain words.now.key) }
+    requires out { (out.old.items ≡ []) × (vec_capacity out.old ≡ seats) }
+    ensures { OnOk result (out.new.items
+        ≡ new_seats (record { table_id = words.now.table_id; setup = plain words.now.key }) 0 seats) }
+{
+    for number in 0..seats {
+        let room = Room::new(alloc, layout.settings())?;
+        let token = words.split_seat::<Deal>(&mut rest);
+        out.push_reserved(seated(token, layout, hashing, number, room));
+    }
+    Ok(())
+}
+
+// Puts all seats together into one token.
+fn gather(words: &Words, mut seats: Vec<Seat>) -> Token
+    requires table { 0 < words.now.table_id.words }
+    requires seats { All (IsOf (record { table_id = words.now.table_id; setup = plain words.now.key })) seats.items }
+    requires some { 0 < vec_len seats }
+    ensures { HasAll (record { table_id = words.now.table_id; setup = plain words.now.key }) seats.items result }
+{
+    let Some(last) = seats.pop() else {
+        unreachable!()
+    };
+    let mut token = unseated(last);
+    while let Some(seat) = seats.pop() {
+        words.join_seat::<Gather>(&mut token, unseated(seat));
+    }
+    token
+}
+
+// All words of a closed table.
+fn read_all(closed: &Closed<(), Global>, count: usize, out: &mut Vec<u64>)
+    requires words { (slots_len closed.now.words ≡ count) × IsFull closed.now.words }
+    requires out { (out.old.items ≡ []) × (vec_capacity out.old ≡ count) }
+    ensures { out.new.items ≡ slots_items closed.now.words }
+{
+    for i in 0..count {
+        out.push_reserved(closed.word(i));
+    }
+}
+
+impl Directory {
+    /// Opens a table with these pairs, which are held then, and gives its seats in order.
+    ///
+    /// `NoRoom` comes exactly where a pair finds as many earlier ones of its class as a bucket has room for, and tells
+    /// the first such pair.
+    pub fn open(
+        alloc: Global,
+        settings: &Settings,
+        hashing: Hashing,
+        rows: &[SeatRows],
+        first: &[Pair],
+    ) -> Result<(Directory, Vec<Seat>), OpenFault>
+        requires each_seat { length rows.now ≡ settings.now.seats }
+        requires small { All (AreBelow (2 ^ 32)) rows.now }
+        requires pairs { All IsPair first.now }
+        requires distinct { HasDistinctKeys first.now }
+        ensures setup { IfOk result (λ r. r.0.setup ≡ setup_of settings.now hashing rows.now first.now) }
+        ensures seats { IfOk result (λ r. r.1.items ≡ new_seats r.0 0 settings.now.seats) }
+        ensures room { IfOk result (λ r. IsSetup r.0.setup) }
+        ensures no_room { (place : ℕ) → result ≡ Err (NoRoom place) →
+            IsFirstWithoutRoom (rules_of (setup_of settings.now hashing rows.now first.now)) first.now place }
+    {
+        let (Ok(rows), Ok(first)) = (copied_rows(alloc, rows), copied_pairs(alloc, first)) else {
+            return Err(OpenFault::Memory);
+        };
+        let plan = Plan {
+            settings: *settings,
+            hashing,
+            rows,
+            first,
+        };
+        let layout = Layout::new(settings, &plan.rows);
+        let words = first_words(alloc, &layout, &plan)?;
+        match Directory::of_words(alloc, layout, &plan, &words) {
+            Ok(opened) => Ok(opened),
+            Err(_) => Err(OpenFault::Memory),
+        }
+    }
+
+    // A table over these words, which are those of the opening, and its seats in order.
+    fn of_words(
+        alloc: Global,
+        layout: Layout,
+        plan: &Plan,
+        words: &[u64],
+    ) -> Result<(Directory, Vec<Seat>), AllocError>
+        requires setup { IsSetup (plain plan.now) }
+        requires shape { shape_of layout ≡ (plain plan.now).shape }
+        requires words { words.now ≡ opening_words (plain plan.now) }
+        requires count { length words.now ≡ word_count (plain plan.now).shape }
+        ensures setup { IfOk result (λ r. r.0.setup ≡ plain plan.now) }
+        ensures seats { IfOk result (λ r. r.1.items ≡ new_seats r.0 0 plan.now.settings.seats) }
+    {
+        let mut out = Vec::with_capacity(alloc, plan.settings.seats as usize)?;
+        let (table, token) = Board::of_words(alloc, words, plan)?;
+        deal(
+            alloc,
+            &table.shared,
+            token,
+            &layout,
+            plan.hashing,
+            plan.settings.seats,
+            &mut out,
+        )?;
+        Ok((Directory { table, layout }, out))
+    }
+
+    /// Ends the run, and gives its rows. It takes all seats of the table, in any order.
+    ///
+    /// After want of memory the table and its seats come back untouched.
+    pub fn close(
+        self,
+        alloc: Global,
+        seats: Vec<Seat>,
+    ) -> Result<ClosedRows, (AllocError, Directory, Vec<Seat>)>
+        requires seats { All (IsOf self) seats.items }
+        requires all { vec_len seats ≡ seats_of self.setup }
+        ensures refused { IfErr result (λ e. (e.1 ≡ self) × (e.2.items ≡ seats.items)) }
+        ensures ran { IfOk result (λ rows. Ran self.setup rows.words.items seats.items) }
+        ensures layout { IfOk result (λ rows. shape_of rows.layout ≡ self.setup.shape) }
+    {
+        let count = self.layout.words() as usize;
+        let mut words = match Vec::with_capacity(alloc, count) {
+            Ok(words) => words,
+            Err(failed) => return Err((failed, self, seats)),
+        };
+        let Directory { table, layout } = self;
+        let token = gather(&table.shared, seats);
+        let closed = table.close_with(token);
+        read_all(&closed, count, &mut words);
+        closed.free();
+        Ok(ClosedRows { layout, words })
+    }
+}

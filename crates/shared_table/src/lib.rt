@@ -1,0 +1,20 @@
+//! The directory that threads share: its words, its seats, and their calls.
+#![tactic(auto)]
+
+mod caller;
+mod closed;
+mod directory;
+mod opening;
+mod rule;
+mod running;
+mod seat;
+mod view;
+
+pub use caller::Caller;
+pub use closed::ClosedRows;
+pub use directory::Directory;
+pub use running::Running;
+pub use seat::Seat;
+
+#[cfg(test)]
+mod tests;
