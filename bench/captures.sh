@@ -3,7 +3,14 @@
 # and for each packet the key, with what tshark reads. Not part of the gate.
 # Wants Debian's tcpdump, tshark, nginx-light, curl, dnsmasq-base and dnsutils. Stops what it started, by process id.
 set -eu
-top="$(cd "$(dirname "$0")/.." && pwd)"
+top="$(cd "$(dirname "$(readlink -f "$0")")/.." && pwd)"
+for tool in tcpdump:tcpdump tshark:tshark nginx:nginx-light curl:curl dnsmasq:dnsmasq-base dig:dnsutils; do
+    if ! PATH="$PATH:/usr/sbin:/sbin" command -v "${tool%%:*}" >/dev/null; then
+        echo "bench/captures.sh: ${tool%%:*} is missing; apt-get install ${tool#*:}" >&2
+        exit 69
+    fi
+done
+PATH="$PATH:/usr/sbin:/sbin"
 work="$(mktemp -d)"
 chmod 755 "$work"
 started=()

@@ -2,7 +2,7 @@
 # Times flowdir on a savefile of 20,000 records of 1,500 bytes beside tcpdump printing the same file, five runs each.
 # Not part of the gate. Wants tcpdump and python3 (apt-get install tcpdump python3).
 set -eu
-top="$(cd "$(dirname "$0")/.." && pwd)"
+top="$(cd "$(dirname "$(readlink -f "$0")")/.." && pwd)"
 file="$(mktemp --suffix .pcap)"
 trap 'rm -f "$file"' EXIT
 "$top/bin/build"

@@ -5,7 +5,7 @@
 # it is ten times as many, since so few take less time there than the threads take to start.
 set -eu
 count="${COUNT:-50000}"
-top="$(cd "$(dirname "$0")/.." && pwd)"
+top="$(cd "$(dirname "$(readlink -f "$0")")/.." && pwd)"
 work="$(mktemp -d)"
 trap 'rm -rf "$work"' EXIT
 

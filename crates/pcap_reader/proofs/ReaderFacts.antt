@@ -1,5 +1,5 @@
 -- What the clauses of the reader say of a source that tells its bytes, from what its window holds.
-use Rattle.std.proofs.Common.{◌≡◌, ℕ, ◌+◌, ◌≤◌, ◌⊎◌, false, List, [], ◌++◌, length, drop, Option, Some, None, IfSome, refl, sym, ap, ◌∙◌, subst, inl, inr, arith, append_assoc}
+use Rattle.std.proofs.Common.{◌≡◌, ℕ, ◌+◌, ◌≤◌, ◌⊎◌, false, List, [], ◌++◌, length, drop, Option, Some, None, IfSome, refl, sym, ap, ◌∙◌, subst, inl, inr, arith, append_assoc, append-nil}
 use Rattle.std.specs.Io.KnownBytes.{Consumes, prepend_known}
 use Rattle.std.proofs.lemmas.List.{drop-append-le}
 use Rattle.pcap_reader.specs.declared.order.Order.{Order}
@@ -7,7 +7,7 @@ use Rattle.pcap_reader.specs.declared.fault.CaptureFault.{CaptureFault}
 use Rattle.pcap_reader.specs.declared.fault.CaptureFault.TheVariants.{ReadFault, ShortHeader, Magic, Version, LinkType, RecordLength, Memory}
 use Rattle.pcap_reader.specs.declared.head.TheConstants.{FILE_HEAD}
 use Rattle.pcap_reader.specs.Capture.{HasFileHead, ShowsFault, IsOverlong, bytes_of}
-use Rattle.pcap_reader.specs.Reading.{Reading, to_come, OfInput, OnInputFault, GivesRecord}
+use Rattle.pcap_reader.specs.Reading.{Reading, to_come, OfInput, OnInputFault, GivesRecord, Took}
 use Rattle.pcap_reader.specs.Record.{BeginsRecord, given_out}
 use Rattle.pcap_reader.specs.Window.{Gathers, IsDrained}
 use Rattle.pcap_reader.proofs.CaptureFacts.{head_front, refuses_magic_front, refuses_version_front, refuses_link_front, overlong_front, first_record, first_record_saved, first_record_rest, length-first_record}
@@ -28,27 +28,35 @@ of_drained : (before : Option (List ℕ)) (held : List ℕ) (P : List ℕ → Ty
 of_drained None held P drained now = (held, now)
 of_drained (Some xs) held P drained now = subst P (sym drained) now
 
+-- a head that is held is that of the input
 head_told : (order : Order) (held : List ℕ) (before after : Option (List ℕ)) → Gathers [] held before after
     → HasFileHead order held → OfInput before (HasFileHead order)
-head_told order held before after g h = of_input before after held g.taken (HasFileHead order) g.told g.held h (λ rest. head_front order held rest h)
+head_told order held before after g h = of_input before after held g.taken (HasFileHead order) g.told g.held h
+    (λ rest. head_front order held rest h)
 
+-- an input that ends within the head shows it
 short_told : (have : ℕ) (held : List ℕ) (before : Option (List ℕ))
     → (FILE_HEAD ≤ length held) ⊎ IsDrained [] held before → ShowsFault held (ShortHeader have)
     → OfInput before (λ bytes. ShowsFault bytes (ShortHeader have))
 short_told have held before (inl enough) shown = absurd (omega (arith, shown.0))
-short_told have held before (inr drained) shown = of_drained before held (λ bytes. ShowsFault bytes (ShortHeader have)) drained shown
+short_told have held before (inr drained) shown =
+    of_drained before held (λ bytes. ShowsFault bytes (ShortHeader have)) drained shown
 
+-- a fault that the held bytes show is that of the input
 fault_told : (fault : CaptureFault) (held : List ℕ) (before after : Option (List ℕ)) → Gathers [] held before after
     → (FILE_HEAD ≤ length held) ⊎ IsDrained [] held before → ShowsFault held fault
     → OnInputFault fault (OfInput before (λ bytes. ShowsFault bytes fault))
 fault_told ReadFault held before after g enough shown = tt
 fault_told (ShortHeader have) held before after g enough shown = short_told have held before enough shown
 fault_told (Magic found) held before after g enough shown =
-    of_input before after held g.taken (λ bytes. ShowsFault bytes (Magic found)) g.told g.held shown (λ rest. refuses_magic_front found held rest shown)
+    of_input before after held g.taken (λ bytes. ShowsFault bytes (Magic found)) g.told g.held shown
+    (λ rest. refuses_magic_front found held rest shown)
 fault_told (Version major minor) held before after g enough shown =
-    of_input before after held g.taken (λ bytes. ShowsFault bytes (Version major minor)) g.told g.held shown (λ rest. refuses_version_front major minor held rest shown)
+    of_input before after held g.taken (λ bytes. ShowsFault bytes (Version major minor)) g.told g.held shown
+    (λ rest. refuses_version_front major minor held rest shown)
 fault_told (LinkType found) held before after g enough shown =
-    of_input before after held g.taken (λ bytes. ShowsFault bytes (LinkType found)) g.told g.held shown (λ rest. refuses_link_front found held rest shown)
+    of_input before after held g.taken (λ bytes. ShowsFault bytes (LinkType found)) g.told g.held shown
+    (λ rest. refuses_link_front found held rest shown)
 fault_told (RecordLength offset found) held before after g enough shown = absurd shown
 fault_told Memory held before after g enough shown = tt
 
@@ -66,16 +74,20 @@ pub head_opened : (order : Order) (empty held seen : List ℕ) (before after : O
     → seen ≡ held → Gathers empty held before after → HasFileHead order seen
     → OfInput before (HasFileHead order)
 head_opened order empty held seen before after none same g h =
-    head_told order held before after (subst (λ (l : List ℕ). Gathers l held before after) none g) (subst (λ (l : List ℕ). HasFileHead order l) same h)
+    head_told order held before after (subst (λ (l : List ℕ). Gathers l held before after) none g)
+    (subst (λ (l : List ℕ). HasFileHead order l) same h)
 
+-- the same for a window that was empty, with a fault
 pub fault_opened : (fault : CaptureFault) (empty held seen : List ℕ) (before after : Option (List ℕ)) → empty ≡ []
     → seen ≡ held → Gathers empty held before after
     → (FILE_HEAD ≤ length held) ⊎ IsDrained empty held before → ShowsFault seen fault
     → OnInputFault fault (OfInput before (λ bytes. ShowsFault bytes fault))
 fault_opened fault empty held seen before after none same g enough shown =
     fault_told fault held before after (subst (λ (l : List ℕ). Gathers l held before after) none g)
-    (subst (λ (l : List ℕ). (FILE_HEAD ≤ length held) ⊎ IsDrained l held before) none enough) (subst (λ (l : List ℕ). ShowsFault l fault) same shown)
+    (subst (λ (l : List ℕ). (FILE_HEAD ≤ length held) ⊎ IsDrained l held before) none enough)
+    (subst (λ (l : List ℕ). ShowsFault l fault) same shown)
 
+-- and with the bytes behind the head
 pub rest_opened : (order : Order) (empty held seen rest : List ℕ) (before after : Option (List ℕ)) → empty ≡ []
     → seen ≡ held → Gathers empty held before after → HasFileHead order seen
     → rest ≡ drop FILE_HEAD held → IfSome before (λ bytes. prepend_known rest after ≡ Some (drop FILE_HEAD bytes))
@@ -96,6 +108,7 @@ given_told pending held out rest taken (Some xs) (Some ys) same told =
     ap (λ l. pending ++ l) told ∙ sym (append_assoc pending taken ys) ∙ ap (λ l. l ++ ys) same
     ∙ append_assoc out rest ys
 
+-- a length too long that the held bytes show is shown by the bytes to come
 overlong_told : (order : Order) (place offset found : ℕ) (pending held : List ℕ) (before after : Option (List ℕ))
     → Gathers pending held before after → place ≡ offset → IsOverlong order held found
     → IfSome (prepend_known pending before) (λ bytes. (place ≡ offset) × IsOverlong order bytes found)
@@ -106,20 +119,24 @@ overlong_told order place offset found pending held (Some xs) (Some ys) g at ove
     ∙ ap (λ l. l ++ ys) g.held in
     (at, subst (λ (l : List ℕ). IsOverlong order l found) (sym split) (overlong_front order found held ys overlong))
 
+-- the same for a reader that is seen by its fields
 pub overlong_seen : (seen old : Reading) (held : List ℕ) (found : ℕ) (before after : Option (List ℕ)) → seen ≡ old
     → Gathers seen.pending held before after → IsOverlong seen.order held found
     → IfSome (to_come old before) (λ bytes. (seen.offset ≡ old.offset) × IsOverlong old.order bytes found)
 overlong_seen seen old held found before after same g overlong =
-    subst (λ (r : Reading). IfSome (to_come r before) (λ bytes. (seen.offset ≡ r.offset) × IsOverlong r.order bytes found)) same
+    subst (λ (r : Reading). IfSome (to_come r before)
+    (λ bytes. (seen.offset ≡ r.offset) × IsOverlong r.order bytes found)) same
     (overlong_told seen.order seen.offset seen.offset found seen.pending held before after g refl overlong)
 
 -- a reader whose window holds this, and has this as its packet
 abbrev pub holding : Reading → List ℕ → List ℕ → Reading
 holding reading pending packet = record reading { pending = pending; packet = packet }
 
+-- a record that the held bytes begin with is given out
 pub gives_record : (old : Reading) (held packet : List ℕ) (captured : ℕ) (before after : Option (List ℕ))
     → old.ended ≡ false → Gathers old.pending held before after → BeginsRecord old.order held captured
-    → GivesRecord old (given_out (holding old held packet) captured) (to_come old before) (to_come (given_out (holding old held packet) captured) after)
+    → GivesRecord old (given_out (holding old held packet) captured) (to_come old before)
+    (to_come (given_out (holding old held packet) captured) after)
 gives_record old held packet captured before after going g begins =
     let saved = first_record held captured in
     let same : old.pending ++ g.taken ≡ bytes_of saved ++ drop captured (drop 16 held) = g.held
@@ -128,10 +145,55 @@ gives_record old held packet captured before after going g begins =
       saved = saved;
       is_saved = first_record_saved old.order held captured begins;
       packet = refl;
-      told = given_told old.pending held (bytes_of saved) (drop captured (drop 16 held)) g.taken before after same g.told;
+      told = given_told old.pending held (bytes_of saved) (drop captured (drop 16 held)) g.taken before after same
+          g.told;
       taken = g.taken;
       held = same;
       offset = ap (λ n. old.offset + n) (sym (length-first_record old.order held captured begins));
       given = refl;
       goes_on = going;
     }
+
+-- a source that told just what was taken of it
+abbrev as_told : {old new : List ℕ} {before after : Option (List ℕ)} → (g : Gathers old new before after) →
+    Gathers old new (Some g.taken) (Some [])
+as_told g = record { taken = g.taken; held = g.held; told = sym (append-nil g.taken) }
+
+-- what was taken of the source, with a record given out
+pub took_record : (old : Reading) (held packet : List ℕ) (captured : ℕ) (before after : Option (List ℕ)) →
+    old.ended ≡ false → Gathers old.pending held before after → BeginsRecord old.order held captured →
+    Took before after (λ taken. GivesRecord old (given_out (holding old held packet) captured)
+    (to_come old (Some taken)) (to_come (given_out (holding old held packet) captured) (Some [])))
+took_record old held packet captured before after going g begins = (
+  g.taken,
+  g.told,
+  gives_record old held packet captured (Some g.taken) (Some []) going (as_told g) begins,
+)
+
+-- what was taken of the source, with the head read
+pub took_head : (order : Order) (empty held seen rest : List ℕ) (before after : Option (List ℕ)) → empty ≡ [] →
+    seen ≡ held → Gathers empty held before after → HasFileHead order seen → rest ≡ drop FILE_HEAD held →
+    Took before after (λ taken. HasFileHead order taken × (rest ≡ drop FILE_HEAD taken))
+took_head order empty held seen rest before after none same g h e =
+    let all : g.taken ≡ held = ap (λ l. l ++ g.taken) (sym none) ∙ g.held in (
+      g.taken,
+      g.told,
+      (subst (λ (l : List ℕ). HasFileHead order l) (same ∙ sym all) h, e ∙ ap (drop FILE_HEAD) (sym all)),
+    )
+
+-- and with a fault of the head
+pub took_shown : (fault : CaptureFault) (empty held seen : List ℕ) (before after : Option (List ℕ)) → empty ≡ [] →
+    seen ≡ held → Gathers empty held before after → ShowsFault seen fault →
+    OnInputFault fault (Took before after (λ taken. ShowsFault taken fault))
+took_shown fault empty held seen before after none same g shown =
+    let all : g.taken ≡ held = ap (λ l. l ++ g.taken) (sym none) ∙ g.held in
+    on_any fault (g.taken, g.told, subst (λ (l : List ℕ). ShowsFault l fault) (same ∙ sym all) shown)
+  where
+    on_any : {P : Type 0} (fault : CaptureFault) → P → OnInputFault fault P
+    on_any ReadFault p = tt
+    on_any (ShortHeader have) p = p
+    on_any (Magic found) p = p
+    on_any (Version major minor) p = p
+    on_any (LinkType found) p = p
+    on_any (RecordLength offset found) p = p
+    on_any Memory p = tt

@@ -12,9 +12,11 @@ use Rattle.pcap_reader.specs.Window.{Held, Gathers, IsDrained}
 
 -- ---- parts of a list
 
+-- a range that begins later is the rest of it
 pub range_rest : (xs : List ℕ) (i j n : ℕ) → slice_range xs (i + n) j ≡ drop n (slice_range xs i j)
 range_rest xs i j n = between_is xs (i + n) j ∙ sym (drop-drop n i (take j xs)) ∙ ap (drop n) (sym (between_is xs i j))
 
+-- a range that ends earlier is its front
 pub range_front : (xs : List ℕ) (i j n : ℕ) → i + n ≤ j → slice_range xs i (i + n) ≡ take n (slice_range xs i j)
 range_front xs i j n within =
     let same : i + n - i ≡ n = omega arith in
@@ -44,19 +46,27 @@ take_written xs ys a k n inside few =
 
 -- ---- a window's value
 
+-- what a window holds, by its two parts
 abbrev pub the_held : List ℕ → List ℕ → Held
 the_held last unread = record { last = last; unread = unread }
 
+-- it is one where the parts are
 pub make_held : (a b c d : List ℕ) → a ≡ c → b ≡ d → the_held a b ≡ the_held c d
 make_held a b c d p q = ap (λ (l : List ℕ). the_held l b) p ∙ ap (λ (l : List ℕ). the_held c l) q
 
 -- ---- bytes gathered in turns
 
+-- where nothing was taken
 pub gathers_none : (old new : List ℕ) (before after : Option (List ℕ)) → new ≡ old → Keeps before after
     → Gathers old new before after
 gathers_none old new before after same kept =
-    record { taken = []; held = append-nil old ∙ sym same; told = Consumes-kept before before after [] (Consumes-nil before) kept }
+    record {
+      taken = [];
+      held = append-nil old ∙ sym same;
+      told = Consumes-kept before before after [] (Consumes-nil before) kept;
+    }
 
+-- where one read followed another
 pub gathers_more : (old mid new : List ℕ) (before between after : Option (List ℕ)) → Gathers old mid before between
     → Gathers mid new between after → Gathers old new before after
 gathers_more old mid new before between after first second =
@@ -70,9 +80,11 @@ gathers_more old mid new before between after first second =
 pub gathered_none : (mid new : List ℕ) (between after : Option (List ℕ)) → Gathers mid new between after
     → length mid + 0 ≡ length new → new ≡ mid
 gathered_none mid new between after read size =
-    let none : read.taken ≡ [] = nil_from_length read.taken (omega (arith, length-append mid read.taken, ap length read.held)) in
+    let none : read.taken ≡ [] = nil_from_length read.taken
+    (omega (arith, length-append mid read.taken, ap length read.held)) in
     sym read.held ∙ ap (λ l. mid ++ l) none ∙ append-nil mid
 
+-- where the source was at its end, all it had is held
 all_held : (old mid taken : List ℕ) (before between : Option (List ℕ)) → Consumes before between taken
     → old ++ taken ≡ mid → IsAtEnd between → IsDrained old mid before
 all_held old mid taken None between told held end = tt
@@ -85,7 +97,8 @@ pub drained : (old mid new : List ℕ) (before between after : Option (List ℕ)
     → Gathers mid new between after → length mid + 0 ≡ length new → IsAtEnd between
     → IsDrained old new before
 drained old mid new before between after first second size end =
-    subst (λ l. IsDrained old l before) (sym (gathered_none mid new between after second size)) (all_held old mid first.taken before between first.told first.held end)
+    subst (λ l. IsDrained old l before) (sym (gathered_none mid new between after second size))
+    (all_held old mid first.taken before between first.told first.held end)
 
 -- the end of the input, as a source tells it
 pub at_end : (before : Option (List ℕ)) (count : ℕ) → IsEndExactly count before → count ≡ 0 → IsAtEnd before
@@ -94,6 +107,7 @@ at_end (Some bytes) count exactly none = exactly.0 none
 
 -- ---- answers
 
+-- a fact of an error, where it holds anyway
 pub on_err : {T E Q : Type 0} (r : Result T E) → Q → OnErr r Q
 on_err (Ok x) q = tt
 on_err (Err e) q = q

@@ -1,5 +1,5 @@
 -- A reader as its clauses see it, and what its calls do to it.
-use Rattle.std.specs.Prelude.{◌≡◌, ◌≤◌, ◌<◌, ℕ, ◌+◌, ◌*◌, ◌++◌, Bool, true, false, List, [], length, Option, Some, None, Result, Ok, Err}
+use Rattle.std.specs.Prelude.{◌≡◌, ◌≤◌, ◌<◌, ℕ, ◌+◌, ◌*◌, ◌++◌, Bool, true, false, List, [], length, drop, Option, Some, None, Result, Ok, Err}
 use Rattle.std.specs.Io.KnownBytes.{Consumes, Keeps, prepend_known}
 use Rattle.pcap_reader.specs.declared.order.Order.{Order}
 use Rattle.pcap_reader.specs.declared.fault.CaptureFault.{CaptureFault}
@@ -8,10 +8,11 @@ use Rattle.pcap_reader.specs.declared.reader.Item.{Item}
 use Rattle.pcap_reader.specs.declared.reader.Item.TheVariants.{Packet, End, Rest}
 use Rattle.pcap_reader.specs.declared.head.TheConstants.{FILE_HEAD}
 use Rattle.pcap_reader.specs.declared.record.TheConstants.{WHOLE_RECORD}
-use Rattle.pcap_reader.specs.Capture.{Saved, bytes_of, IsSaved}
+use Rattle.pcap_reader.specs.Capture.{Saved, bytes_of, file_head_length, HasFileHead, IsSaved}
 
 -- ---- a reader
 
+-- what is known of a reader between two calls
 pub record Reading : Type 0 where
   -- the writer's order
   pub order : Order
@@ -34,6 +35,14 @@ to_come reading left = prepend_known reading.pending left
 abbrev pub OfInput : Option (List ℕ) → (List ℕ → Type 0) → Type 0
 OfInput None P = (bytes : List ℕ) × P bytes
 OfInput (Some bytes) P = P bytes
+
+-- a fact of the bytes that were taken of a source, whose bytes were `before` and are `after`, where told
+abbrev pub Took : (before after : Option (List ℕ)) → (List ℕ → Type 0) → Type 0
+Took before after P = (taken : List ℕ) × Consumes before after taken × P taken
+
+-- the bytes begin with a file head of that order, and the others are held
+abbrev pub IsOpenedOn : Reading → List ℕ → Type 0
+IsOpenedOn reading bytes = HasFileHead reading.order bytes × (reading.pending ≡ drop file_head_length bytes)
 
 -- the reader stands behind the file head, and has given nothing
 pub record IsAtStart (reading : Reading) : Type 0 where

@@ -3,7 +3,7 @@
 ghost use Rattle.std.specs.Prelude.{◌≡◌, ◌≤◌, ◌<◌, ◌-◌, ◌^◌, ◌⊎◌, ℕ, [], false, true, length, drop, Some, IfSome, IfOk, IfErr, OnOk, OnErr};
 ghost use Rattle.edge_traits.specs.Edge.{Rose};
 ghost use Rattle.pcap_reader.specs.Capture.{HasFileHead, IsCut, IsRemainder, ShowsFault};
-ghost use Rattle.pcap_reader.specs.Reading.{GivesNone, GivesRecord, IfEnding, IsAtStart, IsWithinRecords, MatchPacket, OfInput, OnInputFault, OnMemory, OnReadFault, TakesFewer, to_come};
+ghost use Rattle.pcap_reader.specs.Reading.{GivesNone, GivesRecord, IfEnding, IsAtStart, IsOpenedOn, IsWithinRecords, MatchPacket, OfInput, OnInputFault, OnMemory, OnReadFault, TakesFewer, Took, to_come};
 ghost use Rattle.pcap_reader.specs.Record.{BeginsRecord, IsShown, OnCut, given_out};
 ghost use Rattle.pcap_reader.specs.Window.{Gathers, IsDrained};
 
@@ -44,7 +44,14 @@ impl Model for Reader {
 
     ghost Value = { Reading };
 
-    ghost view = { λ r. record { order = r.order; pending = r.window.unread; packet = r.window.last; offset = r.offset; given = r.given; ended = r.ended } };
+    ghost view = { λ r. record {
+      order = r.order;
+      pending = r.window.unread;
+      packet = r.window.last;
+      offset = r.offset;
+      given = r.given;
+      ended = r.ended;
+    } };
 
     ghost invariant = { λ r. r.offset ≤ FILE_HEAD + r.given * WHOLE_RECORD };
 }
@@ -61,13 +68,19 @@ impl Reader {
         ensures bytes { IfOk result (λ reader. IfSome (S.left source.old) (λ bytes.
             to_come reader (S.left source.new) ≡ Some (drop FILE_HEAD bytes))) }
         ensures start { IfOk result IsAtStart }
+        ensures took { IfOk result (λ reader. Took (S.left source.old) (S.left source.new) (IsOpenedOn reader)) }
 
         // The head shows the fault.
-        ensures fault { IfErr result (λ fault. OnInputFault fault (OfInput (S.left source.old) (λ bytes. ShowsFault bytes fault))) }
+        ensures fault { IfErr result (λ fault. OnInputFault fault
+            (OfInput (S.left source.old) (λ bytes. ShowsFault bytes fault))) }
+        ensures took_fault { IfErr result (λ fault. OnInputFault fault
+            (Took (S.left source.old) (S.left source.new) (λ taken. ShowsFault taken fault))) }
 
         // A read failed, before the head was there.
-        ensures read_fault { IfErr result (λ fault. OnReadFault fault (Rose (S.faults source.old) (S.faults source.new))) }
-        ensures interrupted { IfErr result (λ fault. OnReadFault fault (TakesFewer FILE_HEAD (S.left source.old) (S.left source.new))) }
+        ensures read_fault { IfErr result (λ fault. OnReadFault fault
+            (Rose (S.faults source.old) (S.faults source.new))) }
+        ensures interrupted { IfErr result (λ fault. OnReadFault fault
+            (TakesFewer FILE_HEAD (S.left source.old) (S.left source.new))) }
 
         // Nothing was read.
         ensures memory { IfErr result (λ fault. OnMemory fault (source.new ≡ source.old)) }
@@ -100,8 +113,17 @@ impl Reader {
         requires few { self.old.given < 2 ^ 32 - 1 }
         // One record, or none.
         ensures packet { MatchPacket result
-            (GivesRecord self.old self.new (to_come self.old (S.left source.old)) (to_come self.new (S.left source.new)))
-            (GivesNone self.old self.new (to_come self.old (S.left source.old)) (to_come self.new (S.left source.new))) }
+            (GivesRecord self.old self.new (to_come self.old (S.left source.old))
+            (to_come self.new (S.left source.new)))
+            (GivesNone self.old self.new (to_come self.old (S.left source.old))
+            (to_come self.new (S.left source.new))) }
+
+        // So it is by what was taken of the source, as if it had told just that.
+        ensures took { MatchPacket result
+            (Took (S.left source.old) (S.left source.new) (λ taken.
+            GivesRecord self.old self.new (to_come self.old (Some taken)) (to_come self.new (Some []))))
+            (Took (S.left source.old) (S.left source.new) (λ taken.
+            GivesNone self.old self.new (to_come self.old (Some taken)) (to_come self.new (Some [])))) }
 
         // The bytes still to come, where the source tells them, are a remainder with this ending, and
         // so are those that are held.
@@ -110,7 +132,8 @@ impl Reader {
         ensures held { IfEnding result (IsRemainder self.old.order self.old.offset self.new.pending) }
 
         // A read failed, and no record is whole in what is held, nor an overlong one shown.
-        ensures read_fault { IfErr result (λ fault. OnReadFault fault (Rose (S.faults source.old) (S.faults source.new))) }
+        ensures read_fault { IfErr result (λ fault. OnReadFault fault
+            (Rose (S.faults source.old) (S.faults source.new))) }
         ensures interrupted { IfErr result (λ fault. OnReadFault fault (IsCut self.old.order self.new.pending)) }
         ensures counted { S.faults source.old ≤ S.faults source.new }
 
@@ -180,7 +203,8 @@ impl Reader {
 
 /// Reads until the file head is there, or the source is at its end.
 fn gather_head<S: Source>(window: &mut Window, source: &mut S) -> Result<(), Failed>
-    ensures enough { OnOk result ((FILE_HEAD ≤ length window.new.unread) ⊎ IsDrained window.old.unread window.new.unread (S.left source.old)) }
+    ensures enough { OnOk result ((FILE_HEAD ≤ length window.new.unread)
+        ⊎ IsDrained window.old.unread window.new.unread (S.left source.old)) }
     ensures bytes { Gathers window.old.unread window.new.unread (S.left source.old) (S.left source.new) }
     ensures short { OnErr result (length window.new.unread < FILE_HEAD) }
     ensures failed { OnErr result (Rose (S.faults source.old) (S.faults source.new)) }

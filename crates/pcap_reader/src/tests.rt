@@ -129,63 +129,49 @@ const SYN_FILE: [u8; 94] = [
     0, 0, 0, 0x50, 2, 0x20, 0, 0, 0, 0, 0,
 ];
 
-// One byte of that file is another: what is answered then, worked by hand from pcap-savefile(5).
+// Some bytes of that file are others: what is answered then, worked by hand from pcap-savefile(5).
 #[test]
-fn a_byte_of_a_file_is_another(rt: HostRuntime) -> Result<(), Fail> {
+fn bytes_of_a_file_are_others(rt: HostRuntime) -> Result<(), Fail> {
     let alloc = rt.alloc();
-    let rows: [(usize, u8, usize, Result<Item, CaptureFault>); 11] = [
-        (0, 0xd4, 54, Ok(Item::End)),
+    let rows: [(&[(usize, u8)], usize, Result<Item, CaptureFault>); 13] = [
+        (&[(0, 0xd4)], 54, Ok(Item::End)),
+        (&[(0, 0)], 0, magic([0, 0xc3, 0xb2, 0xa1])),
         (
+            &[(6, 5)],
             0,
-            0,
-            0,
-            Err(CaptureFault::Magic {
-                bytes: [0, 0xc3, 0xb2, 0xa1],
-            }),
+            Err(CaptureFault::Version { major: 2, minor: 5 }),
         ),
-        (6, 5, 0, Err(CaptureFault::Version { major: 2, minor: 5 })),
-        (20, 101, 0, Err(CaptureFault::LinkType { found: 101 })),
-        (23, 0x10, 54, Ok(Item::End)),
-        (32, 0x35, 53, Ok(Item::Rest(1))),
-        (32, 0x37, 0, Ok(Item::Rest(70))),
-        (
-            32,
-            0,
-            0,
-            Err(CaptureFault::RecordLength {
-                offset: 40,
-                found: 0x0100_0000,
-            }),
-        ),
-        (36, 0, 54, Ok(Item::End)),
-        (
-            34,
-            4,
-            0,
-            Err(CaptureFault::RecordLength {
-                offset: 24,
-                found: 262_198,
-            }),
-        ),
-        (
-            35,
-            0xff,
-            0,
-            Err(CaptureFault::RecordLength {
-                offset: 24,
-                found: 0xff00_0036,
-            }),
-        ),
+        (&[(20, 101)], 0, Err(CaptureFault::LinkType { found: 101 })),
+        (&[(23, 0x10)], 54, Ok(Item::End)),
+        (&[(32, 0x35)], 53, Ok(Item::Rest(1))),
+        (&[(32, 0x37)], 0, Ok(Item::Rest(70))),
+        (&[(32, 0)], 0, overlong(40, 0x0100_0000)),
+        (&[(36, 0)], 54, Ok(Item::End)),
+        (&[(34, 4)], 0, overlong(24, 262_198)),
+        (&[(35, 0xff)], 0, overlong(24, 0xff00_0036)),
+        // The greatest captured length, 262,144 bytes, and one more.
+        (&[(32, 0), (34, 4)], 0, Ok(Item::Rest(70))),
+        (&[(32, 1), (34, 4)], 0, overlong(24, 262_145)),
     ];
-    for (place, byte, length, ending) in rows {
+    for (changes, length, ending) in rows {
         let mut file = SYN_FILE;
-        file[place % 94] = byte;
+        for (place, byte) in changes {
+            file[*place % 94] = *byte;
+        }
         let found = read_file(alloc, &file, 94, &[])?.ok_or("no ending")?;
-        assert_eq!(rt; found.ending, ending, "{byte} at {place}");
+        assert_eq!(rt; found.ending, ending, "{changes:?}");
         let packets = found.text.iter().filter(|b| **b != b'/').count();
-        assert_eq!(rt; packets, length, "{byte} at {place}");
+        assert_eq!(rt; packets, length, "{changes:?}");
     }
     Ok(())
+}
+
+fn magic(bytes: [u8; 4]) -> Result<Item, CaptureFault> {
+    Err(CaptureFault::Magic { bytes })
+}
+
+fn overlong(offset: u64, found: u32) -> Result<Item, CaptureFault> {
+    Err(CaptureFault::RecordLength { offset, found })
 }
 
 // A captured length above the snapshot length is served, and the records before a read that fails

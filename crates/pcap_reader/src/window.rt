@@ -36,7 +36,10 @@ impl Model for Window {
 
     ghost use Rattle.pcap_reader.specs.Inside.{IsInPlace};
 
-    ghost view = { λ w. record { last = slice_range w.buf.items w.mark w.start; unread = slice_range w.buf.items w.start w.end } };
+    ghost view = { λ w. record {
+      last = slice_range w.buf.items w.mark w.start;
+      unread = slice_range w.buf.items w.start w.end;
+    } };
 
     ghost invariant = { IsInPlace };
 }

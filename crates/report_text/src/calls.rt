@@ -61,7 +61,8 @@ fn put_answered(out: &mut Vec<u8>, seats: u32, seat: u32, answer: &Record)
 fn put_refused(out: &mut Vec<u8>, packet: u32, seat: u32, call: &Call, full: &Full)
     requires key { HasText (key_in call.now) }
     requires space { 384 ≤ room out.old }
-    ensures { (seats : ℕ) → out.new.items ≡ out.old.items ++ outcome_line seats seat (Refused packet call.now full.now) }
+    ensures { (seats : ℕ) → out.new.items ≡ out.old.items
+        ++ outcome_line seats seat (Refused packet call.now full.now) }
 {
     begin_line(out, b"call");
     put_call(out, packet, seat, call);

@@ -56,13 +56,16 @@ place_apart s r (StateWord p i) (StateWord q j) h k e =
 
 -- ---- the rows of the seats before one, and its own
 
+-- how many rows the seats before this one have
 before : Settings → ℕ → ℕ
 before l s = sum (take s l.adds)
 
+-- with one seat more
 before_next : (l : Settings) (s : ℕ) → s < seats_of l → before l (s + 1) ≡ before l s + room_of l s
 unfolding before
 before_next l s h = sum_by_more (λ n. n) l.adds s 0 h
 
+-- later seats begin later
 before_up : (l : Settings) (s k : ℕ) → s + k ≤ seats_of l → before l s ≤ before l (s + k)
 before_up l s zero h = let e : s ≡ s + 0 = omega arith in omega (arith, ap (before l) e)
 before_up l s (suc k) h =
@@ -82,13 +85,16 @@ room_seat l s i h = elim (cases_lt s (seats_of l)) [
   | inr g ↦ absurd (omega (arith, get_or_past l.adds s 0 g))
 ]
 
+-- a seat's row is within all rows
 row_below : (l : Settings) (s i : ℕ) → i < room_of l s → before l s + i < sum l.adds
 unfolding before
 row_below l s i h =
     let here = room_seat l s i h in
     omega (arith, before_next l s here, sum_by-take-le (λ n. n) l.adds (s + 1))
 
-rows_apart : (l : Settings) (s t i j : ℕ) → i < room_of l s → j < room_of l t → before l s + i ≡ before l t + j → (s ≡ t) × (i ≡ j)
+-- a row belongs to one seat
+rows_apart : (l : Settings) (s t i j : ℕ) → i < room_of l s → j < room_of l t → before l s + i ≡ before l t + j →
+    (s ≡ t) × (i ≡ j)
 rows_apart l s t i j h k e = elim (cases_lt s t) [
   | inl g ↦ absurd (omega (arith, before_later l s t g (omega (arith, room_seat l t j k))))
   | inr g ↦ elim (cases_lt t s) [
@@ -97,22 +103,29 @@ rows_apart l s t i j h k e = elim (cases_lt s t) [
   ]
 ]
 
-pub op_row_apart : (l : Settings) (s t i j : ℕ) → i < room_of l s → j < room_of l t → op_row (desk_of l s) i ≡ op_row (desk_of l t) j → (s ≡ t) × (i ≡ j)
+-- so op rows of two seats are two
+pub op_row_apart : (l : Settings) (s t i j : ℕ) → i < room_of l s → j < room_of l t →
+    op_row (desk_of l s) i ≡ op_row (desk_of l t) j → (s ≡ t) × (i ≡ j)
 unfolding before op_row
 op_row_apart l s t i j h k e = rows_apart l s t i j h k e
 
+-- and each is one of the table's
 pub op_row_within : (l : Settings) (s i : ℕ) → i < room_of l s → op_row (desk_of l s) i < sum l.adds
 unfolding before op_row
 op_row_within l s i h = row_below l s i h
 
-pub state_row_apart : (l : Settings) (s t i j : ℕ) → i < room_of l s → j < room_of l t → state_row (desk_of l s) i ≡ state_row (desk_of l t) j → (s ≡ t) × (i ≡ j)
+-- state rows of two seats are two
+pub state_row_apart : (l : Settings) (s t i j : ℕ) → i < room_of l s → j < room_of l t →
+    state_row (desk_of l s) i ≡ state_row (desk_of l t) j → (s ≡ t) × (i ≡ j)
 unfolding before state_row
 state_row_apart l s t i j h k e = rows_apart l s t i j h k (omega arith)
 
+-- and each is one of the table's
 pub state_row_within : (l : Settings) (s i : ℕ) → i < room_of l s → state_row (desk_of l s) i < 1 + sum l.adds
 unfolding before state_row
 state_row_within l s i h = omega (arith, row_below l s i h)
 
+-- none is that of the opening
 pub state_row_pos : (l : Settings) (s i : ℕ) → 0 < state_row (desk_of l s) i
 unfolding state_row
 state_row_pos l s i = omega arith

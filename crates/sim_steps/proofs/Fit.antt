@@ -18,33 +18,53 @@ ruleset tests = (ltb-true, ltb-false, eqb-true, eqb-false)
 
 -- the lists after a step
 module _ (desk : Desk) (d : IsDesk desk) (seat : Caller) (w : ℕ) where
+  -- a step from this phase keeps the shape of what the seat holds
   abbrev After : Phase → Type 0
   After phase = IsShort desk.seats (caller_after seat phase w) (phase_after desk seat phase w)
 
+  -- from the load of a done word
   load_done : IsShort desk.seats seat LoadDone → After LoadDone
   load_done k = (let r = length_push seat.seen (w % 2 ^ 32) in grind (arith, r, tests))
 
+  -- from the store of an op's word
   store_op : (i : ℕ) → IsShort desk.seats seat (StoreOp i) → After (StoreOp i)
   store_op i k = grind (arith, tests)
 
-  load_row : (turn root : ℕ) (row : List ℕ) → IsShort desk.seats seat (LoadRow turn root row) → After (LoadRow turn root row)
+  -- from the load of a row's word
+  load_row : (turn root : ℕ) (row : List ℕ) → IsShort desk.seats seat (LoadRow turn root row) →
+      After (LoadRow turn root row)
   load_row turn root row k = (let some = d.inside in grind (arith, length_push, tests))
 
-  found_next : (turn root : ℕ) (row : List ℕ) (found : List Op) (op : Op) → turn < 2 → length row ≡ row_words desk.seats → length found < desk.seats → IsShort desk.seats seat (after_found desk turn root row (found ++ op ∷ []))
-  found_next turn root row found op t r f = (let n = length-next_row root (found ++ op ∷ []) row in grind (arith, length_push, tests, n))
+  -- where one more op was found
+  found_next : (turn root : ℕ) (row : List ℕ) (found : List Op) (op : Op) → turn < 2 →
+      length row ≡ row_words desk.seats → length found < desk.seats →
+      IsShort desk.seats seat (after_found desk turn root row (found ++ op ∷ []))
+  found_next turn root row found op t r f = (let n = length-next_row root (found ++ op ∷ []) row in
+      grind (arith, length_push, tests, n))
 
-  load_announcement : (turn root : ℕ) (row : List ℕ) (found : List Op) → IsShort desk.seats seat (LoadAnnouncement turn root row found) → After (LoadAnnouncement turn root row found)
-  load_announcement turn root row found k = (let n = found_next turn root row found no_op k.0 k.1 k.2 in grind (arith, tests, n))
+  -- from the load of an announcement
+  load_announcement : (turn root : ℕ) (row : List ℕ) (found : List Op) →
+      IsShort desk.seats seat (LoadAnnouncement turn root row found) → After (LoadAnnouncement turn root row found)
+  load_announcement turn root row found k = (let n = found_next turn root row found no_op k.0 k.1 k.2 in
+      grind (arith, tests, n))
 
-  load_op : (turn root : ℕ) (row : List ℕ) (found : List Op) (op : ℕ) (words : List ℕ) → IsShort desk.seats seat (LoadOp turn root row found op words) → After (LoadOp turn root row found op words)
-  load_op turn root row found op words k = (let n = found_next turn root row found (op_from (words ++ w ∷ [])) k.0 k.1 k.2 in grind (arith, length_push, tests, n))
+  -- from the load of an op's word
+  load_op : (turn root : ℕ) (row : List ℕ) (found : List Op) (op : ℕ) (words : List ℕ) →
+      IsShort desk.seats seat (LoadOp turn root row found op words) → After (LoadOp turn root row found op words)
+  load_op turn root row found op words k = (let n = found_next turn root row found
+      (op_from (words ++ w ∷ [])) k.0 k.1 k.2 in grind (arith, length_push, tests, n))
 
-  store_row : (turn root : ℕ) (row : List ℕ) (i : ℕ) → IsShort desk.seats seat (StoreRow turn root row i) → After (StoreRow turn root row i)
+  -- from the store of a row's word
+  store_row : (turn root : ℕ) (row : List ℕ) (i : ℕ) → IsShort desk.seats seat (StoreRow turn root row i) →
+      After (StoreRow turn root row i)
   store_row turn root row i k = grind (arith, tests)
 
-  publish : (turn root : ℕ) (row : List ℕ) → IsShort desk.seats seat (Publish turn root row) → After (Publish turn root row)
+  -- from the exchange of the root
+  publish : (turn root : ℕ) (row : List ℕ) → IsShort desk.seats seat (Publish turn root row) →
+      After (Publish turn root row)
   publish turn root row k = grind (arith, tests)
 
+  -- from each phase
   short_after : (phase : Phase) → IsShort desk.seats seat phase → After phase
   short_after Idle k = tt
   short_after LoadDone k = load_done k
@@ -65,12 +85,15 @@ pub record Numbered (seats : ℕ) (caller : Caller) (phase : Phase) : Type 0 whe
   pub seen : length caller.seen ≤ seats
 
 module _ (desk : Desk) (seat : Caller) (w : ℕ) where
+  -- and its numbers
   abbrev Then : Phase → Type 0
   Then phase = Numbered desk.seats (caller_after seat phase w) (phase_after desk seat phase w)
 
+  -- from the load of a done word
   numbered_done : IsShort desk.seats seat LoadDone → Numbered desk.seats seat LoadDone → Then LoadDone
   numbered_done k n = (let r = length_push seat.seen (w % 2 ^ 32) in grind (arith, r, tests))
 
+  -- from each phase
   pub numbered : (phase : Phase) → IsShort desk.seats seat phase → Numbered desk.seats seat phase → Then phase
   numbered Idle k n = n
   numbered LoadDone k n = numbered_done k n
@@ -84,6 +107,7 @@ module _ (desk : Desk) (seat : Caller) (w : ℕ) where
   numbered (Publish turn root row) k n = grind arith
   numbered (StoreDone count) k n = record { number = n.number; spare = n.spare; seen = n.seen }
 
+-- a step keeps all that fits a machine
 pub fit_goes : (m : Machine) (w : ℕ) → m.phase ≢ Idle → IsFit m → IsFit (takes m w)
 fit_goes m w n f =
     let s = numbered m.desk m.caller w m.phase f.short (record { number = f.number; spare = f.spare; seen = f.seen }) in
@@ -96,7 +120,10 @@ fit_goes m w n f =
       seen = s.seen;
     }
 
-pub no_answer : (desk : Desk) (seat : Caller) (steps : ℕ) (stage : S.Stage) (row : List ℕ) (found : List Op) (words : List ℕ) → stage ≢ V.Idle → ((count : ℕ) → stage ≢ V.StoreDone count) → None ≡ answer_in desk seat steps (phase_of stage row found words)
+-- a phase that is not the last one answers nothing
+pub no_answer : (desk : Desk) (seat : Caller) (steps : ℕ) (stage : S.Stage) (row : List ℕ) (found : List Op)
+    (words : List ℕ) → stage ≢ V.Idle → ((count : ℕ) → stage ≢ V.StoreDone count) →
+    None ≡ answer_in desk seat steps (phase_of stage row found words)
 no_answer desk seat steps V.Idle row found words h k = absurd (h refl)
 no_answer desk seat steps V.LoadDone row found words h k = refl
 no_answer desk seat steps (V.StoreOp i) row found words h k = refl

@@ -22,6 +22,7 @@ phase_of (V.StoreRow turn root i) row found words = StoreRow turn root row i
 phase_of (V.Publish turn root) row found words = Publish turn root row
 phase_of (V.StoreDone count) row found words = StoreDone count
 
+-- the value of a program's fields
 abbrev pub machine_of : Program → Machine
 machine_of p = record {
   desk = p.desk;
@@ -37,6 +38,7 @@ pub record HasRoom (p : Program) : Type 0 where
   pub found : p.desk.seats ≤ vec_capacity p.found
   pub words : 3 ≤ vec_capacity p.words
 
+-- what always holds of them
 pub record IsKept (p : Program) : Type 0 where
   pub fit : IsFit (machine_of p)
   pub room : HasRoom p

@@ -16,19 +16,22 @@ abbrev pub ArePlaced : Type 0
 ArePlaced = (seats rows : ℕ) (a b : Address) → IsAddress seats rows a → IsAddress seats rows b →
     (place seats rows a < words_of seats rows) × (place seats rows a ≡ place seats rows b → a ≡ b)
 
+-- each word of a run is one
 abbrev pub AreWords : Settings → List Event → Type 0
 AreWords settings events = let words = (world_after settings events).words in
     (length words ≡ words_of (seats_of settings) (sum settings.adds)) × All (λ word. word < 2 ^ 64) words
 
 -- what holds of each seat after every list of events
 abbrev pub OfEach : (Settings → List Event → ℕ → Type 0) → Type 0
-OfEach law = (settings : Settings) (events : List Event) (seat : ℕ) → AreSettings settings → seat < seats_of settings → law settings events seat
+OfEach law = (settings : Settings) (events : List Event) (seat : ℕ) → AreSettings settings →
+    seat < seats_of settings → law settings events seat
 
 -- each step is on a word that there is
 abbrev pub AsksWithin : Settings → List Event → ℕ → Type 0
 AsksWithin settings events seat =
     let now = seat_in (world_after settings events) seat in
-    IsAddress (seats_of settings) (sum settings.adds) (address_of (next_in (desk_of settings seat) now.caller now.phase))
+    IsAddress (seats_of settings) (sum settings.adds)
+    (address_of (next_in (desk_of settings seat) now.caller now.phase))
 
 -- ---- helping
 
@@ -46,7 +49,8 @@ IsHelped settings events seat =
 abbrev pub IsApplied : Settings → List Event → ℕ → Type 0
 IsApplied settings events seat =
     let world = world_after settings events in
-    (count : ℕ) → (seat_in world seat).phase ≡ StoreDone count → (seat_in world seat).caller.number ≤ applied_in settings world seat
+    (count : ℕ) → (seat_in world seat).phase ≡ StoreDone count →
+    (seat_in world seat).caller.number ≤ applied_in settings world seat
 
 -- ---- steps
 
@@ -67,7 +71,8 @@ steps_of seat = sum_by (λ added. added.steps) seat.log + (if is_idle seat.phase
 
 -- the steps that are told are those that were taken
 abbrev pub AreCounted : Settings → List Event → ℕ → Type 0
-AreCounted settings events seat = AreSteps settings events → steps_of (seat_in (world_after settings events) seat) ≡ events_of seat events
+AreCounted settings events seat = AreSteps settings events →
+    steps_of (seat_in (world_after settings events) seat) ≡ events_of seat events
 
 -- ---- the order
 
@@ -75,15 +80,21 @@ AreCounted settings events seat = AreSteps settings events → steps_of (seat_in
 abbrev pub ended_in : Seat → ℕ
 ended_in seat = length seat.log
 
--- a seat's adds stand in the order once each, by their numbers: all that have ended, and the one that it is in, if that took effect
+-- a seat's adds stand in the order once each, by their numbers: all that have ended, and the one that it is in, if
+-- that took effect
 pub record IsWhole (settings : Settings) (events : List Event) (seat : ℕ) : Type 0 where
-  pub numbers : (let world = world_after settings events in numbers_of seat (order_of settings world.words) ≡ up_to (applied_in settings world seat))
-  pub ended : (let world = world_after settings events in ended_in (seat_in world seat) ≤ applied_in settings world seat)
-  pub begun : (let world = world_after settings events in applied_in settings world seat ≤ (seat_in world seat).caller.number)
-  pub counted : (let now = seat_in (world_after settings events) seat in now.caller.number ≡ ended_in now + (if is_idle now.phase then 0 else 1))
+  pub numbers : (let world = world_after settings events in
+      numbers_of seat (order_of settings world.words) ≡ up_to (applied_in settings world seat))
+  pub ended : (let world = world_after settings events in
+      ended_in (seat_in world seat) ≤ applied_in settings world seat)
+  pub begun : (let world = world_after settings events in
+      applied_in settings world seat ≤ (seat_in world seat).caller.number)
+  pub counted : (let now = seat_in (world_after settings events) seat in
+      now.caller.number ≡ ended_in now + (if is_idle now.phase then 0 else 1))
 
 -- an add stands in the order after all that its seat had seen of each seat
-pub record StandsAfter (seats : ℕ) (order : List Entry) (seat number : ℕ) (seen : List ℕ) (front : List Entry) : Type 0 where
+pub record StandsAfter (seats : ℕ) (order : List Entry) (seat number : ℕ) (seen : List ℕ)
+    (front : List Entry) : Type 0 where
   pub rest : List Entry
   pub stands : order ≡ front ++ (seat, number) ∷ rest
   pub after : (other : ℕ) → other < seats → slice_index seen other ≤ how_many other front
@@ -96,10 +107,12 @@ pub record IsAnswered (settings : Settings) (world : World) (seat number : ℕ) 
   pub seat_is : added.seat ≡ seat
   pub number_is : added.number ≡ number
 
+-- each answered add stands in the order, with its count
 abbrev pub AreAnswered : Settings → List Event → ℕ → Type 0
 AreAnswered settings events seat =
     let world = world_after settings events in
-    (i : ℕ) (added : Added) → slice_get (seat_in world seat).log i ≡ Some added → IsAnswered settings world seat (i + 1) added
+    (i : ℕ) (added : Added) → slice_get (seat_in world seat).log i ≡ Some added →
+    IsAnswered settings world seat (i + 1) added
 
 -- so does the add that a seat is in, where it took effect
 abbrev pub IsPending : Settings → List Event → ℕ → Type 0
@@ -107,7 +120,8 @@ IsPending settings events seat =
     let world = world_after settings events in
     let now = seat_in world seat in
     ended_in now < applied_in settings world seat →
-    (front : List Entry) × StandsAfter (seats_of settings) (order_of settings world.words) seat now.caller.number now.caller.seen front
+    (front : List Entry) × StandsAfter (seats_of settings) (order_of settings world.words) seat now.caller.number
+    now.caller.seen front
 
 -- the root's row has the totals that all adds of the order make of those that were first
 pub record AreTotals (settings : Settings) (events : List Event) (class : ℕ) : Type 0 where

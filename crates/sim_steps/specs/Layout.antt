@@ -12,6 +12,7 @@ pub record Settings : Type 0 where
   pub adds : List ℕ
   pub first : Totals
 
+-- how many seats there are
 abbrev pub seats_of : Settings → ℕ
 seats_of settings = length settings.adds
 
@@ -28,7 +29,12 @@ pub record AreSettings (settings : Settings) : Type 0 where
 
 -- what a seat knows of its table
 abbrev pub desk_of : Settings → ℕ → Desk
-desk_of settings seat = record { seats = seats_of settings; rows = sum settings.adds; seat = seat; before = sum (take seat settings.adds) }
+desk_of settings seat = record {
+  seats = seats_of settings;
+  rows = sum settings.adds;
+  seat = seat;
+  before = sum (take seat settings.adds);
+}
 
 -- an op row has three words, and a state row has so many: its base + 1, three counts, three numbers of bytes,
 -- and of each seat its applied number and its reply
@@ -39,6 +45,7 @@ row_words seats = 7 + 2 * seats
 unfoldable pub op_row : Desk → ℕ → ℕ
 op_row desk number = desk.before + number
 
+-- the number of a seat's own state row
 unfoldable pub state_row : Desk → ℕ → ℕ
 state_row desk made = 1 + (desk.before + made)
 

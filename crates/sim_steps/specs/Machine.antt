@@ -7,6 +7,7 @@ use Rattle.sim_steps.specs.declared.words.Ask.{Ask}
 use Rattle.sim_steps.specs.Layout.{row_words}
 use Rattle.sim_steps.specs.Program.{Phase, Idle, LoadDone, StoreOp, Announce, LoadRoot, LoadRow, LoadAnnouncement, LoadOp, StoreRow, Publish, StoreDone, Caller, next_in, phase_after, caller_after, answer_of, resting, step_bound}
 
+-- what an adder knows, and where it stands
 pub record Machine : Type 0 where
   pub desk : Desk
   pub caller : Caller
@@ -24,6 +25,7 @@ pub record IsDesk (desk : Desk) : Type 0 where
 abbrev pub made_at : Desk → Machine
 made_at desk = record { desk = desk; caller = resting.caller; phase = Idle; steps = 0 }
 
+-- the machine that begins an add
 abbrev pub begins : Add → Machine → Machine
 begins add machine = record {
   desk = machine.desk;
@@ -32,6 +34,7 @@ begins add machine = record {
   steps = 0;
 }
 
+-- what it asks for
 abbrev pub asks : Machine → Ask
 asks machine = next_in machine.desk machine.caller machine.phase
 
@@ -49,6 +52,7 @@ abbrev pub answer_in : Desk → Caller → ℕ → Phase → Option Added
 answer_in desk caller steps (StoreDone count) = Some (answer_of desk.seat caller steps count)
 answer_in desk caller steps _ = None
 
+-- the add that it ends, where it does
 abbrev pub answers : Machine → Option Added
 answers machine = answer_in machine.desk machine.caller (machine.steps + 1) machine.phase
 
@@ -66,6 +70,7 @@ try_left seats zero = 4 * seats + row_words seats + 1 + turns_left seats 1
 try_left seats (suc zero) = 4 * seats + row_words seats + 1 + turns_left seats 2
 try_left seats (suc (suc turn)) = 1
 
+-- the most steps that are left, by the phase
 abbrev pub left_in : ℕ → Caller → Phase → ℕ
 left_in seats caller Idle = 0
 left_in seats caller LoadDone = (seats - length caller.seen) + 4 + turns_left seats 0
@@ -73,12 +78,15 @@ left_in seats caller (StoreOp i) = (3 - i) + 1 + turns_left seats 0
 left_in seats caller Announce = 1 + turns_left seats 0
 left_in seats caller (LoadRoot turn) = turns_left seats turn
 left_in seats caller (LoadRow turn root row) = (row_words seats - length row) + try_left seats turn
-left_in seats caller (LoadAnnouncement turn root row found) = 4 * (seats - length found) + row_words seats + 1 + turns_left seats (turn + 1)
-left_in seats caller (LoadOp turn root row found op words) = (3 - length words) + 4 * (seats - (length found + 1)) + row_words seats + 1 + turns_left seats (turn + 1)
+left_in seats caller (LoadAnnouncement turn root row found) =
+    4 * (seats - length found) + row_words seats + 1 + turns_left seats (turn + 1)
+left_in seats caller (LoadOp turn root row found op words) =
+    (3 - length words) + 4 * (seats - (length found + 1)) + row_words seats + 1 + turns_left seats (turn + 1)
 left_in seats caller (StoreRow turn root row i) = (row_words seats - i) + 1 + turns_left seats (turn + 1)
 left_in seats caller (Publish turn root row) = 1 + turns_left seats (turn + 1)
 left_in seats caller (StoreDone count) = 1
 
+-- of a machine
 abbrev pub left : Machine → ℕ
 left machine = left_in machine.desk.seats machine.caller machine.phase
 
@@ -90,8 +98,10 @@ IsShort seats caller (StoreOp i) = i < 3
 IsShort seats caller Announce = Unit {0}
 IsShort seats caller (LoadRoot turn) = turn ≤ 2
 IsShort seats caller (LoadRow turn root row) = (turn ≤ 2) × (length row < row_words seats)
-IsShort seats caller (LoadAnnouncement turn root row found) = (turn < 2) × (length row ≡ row_words seats) × (length found < seats)
-IsShort seats caller (LoadOp turn root row found op words) = (turn < 2) × (length row ≡ row_words seats) × (length found < seats) × (length words < 3)
+IsShort seats caller (LoadAnnouncement turn root row found) =
+    (turn < 2) × (length row ≡ row_words seats) × (length found < seats)
+IsShort seats caller (LoadOp turn root row found op words) =
+    (turn < 2) × (length row ≡ row_words seats) × (length found < seats) × (length words < 3)
 IsShort seats caller (StoreRow turn root row i) = (turn < 2) × (length row ≡ row_words seats) × (i < row_words seats)
 IsShort seats caller (Publish turn root row) = (turn < 2) × (length row ≡ row_words seats)
 IsShort seats caller (StoreDone count) = Unit {0}
@@ -102,6 +112,7 @@ spare_in Idle = 0
 spare_in (StoreDone count) = 0
 spare_in _ = 1
 
+-- what fits an adder's program
 pub record IsFit (machine : Machine) : Type 0 where
   pub desk : IsDesk machine.desk
   pub short : IsShort machine.desk.seats machine.caller machine.phase

@@ -1,6 +1,7 @@
 -- What an adder does, one word at a time. An add: load the done words; store the op row and announce it; then at most
 -- two tries to publish a state row with all announced adds; where both were lost, one last look; store the done word.
--- Source: the idea of Fatourou and Kallimanis, "A highly-efficient wait-free universal construction" (2011); the steps are our own.
+-- Source: the idea of Fatourou and Kallimanis, "A highly-efficient wait-free universal construction" (2011); the
+-- steps are our own.
 use Rattle.std.specs.Prelude.{ℕ, ◌+◌, ◌-◌, ◌*◌, ◌%◌, ◌^◌, ◌==◌, nat_lt, nat_le, if◌then◌else◌, ◌&&◌, Bool, true, false, List, [], ◌∷◌, ◌++◌, length, slice_index, slice_set, replicate}
 use Rattle.sim_steps.specs.declared.adds.Add.{Add}
 use Rattle.sim_steps.specs.declared.adds.Added.{Added}
@@ -27,7 +28,8 @@ pub data Phase : Type 0 where
   Publish : (turn root : ℕ) (row : List ℕ) → Phase
   StoreDone : (count : ℕ) → Phase
 
--- who adds: the number of its add, from 1, how many state rows it has published, its add, and the done words that it loaded
+-- who adds: the number of its add, from 1, how many state rows it has published, its add, and the done words that it
+-- loaded
 pub record Caller : Type 0 where
   pub number : ℕ
   pub made : ℕ
@@ -47,6 +49,7 @@ pub record Seat : Type 0 where
 abbrev pub applied : List ℕ → ℕ → ℕ
 applied row seat = slice_index row (7 + 2 * seat)
 
+-- a seat's answer in a row
 abbrev pub reply_of : List ℕ → ℕ → ℕ
 reply_of row seat = slice_index row (8 + 2 * seat)
 
@@ -69,6 +72,7 @@ with_op row seat op =
 abbrev pub is_new : List ℕ → ℕ → Op → Bool
 is_new row seat op = nat_lt (applied row seat) op.number && nat_lt op.class 3
 
+-- a row that takes an op in, where its number is greater
 abbrev pub apply_op : List ℕ → ℕ → Op → List ℕ
 apply_op row seat op = if is_new row seat op then with_op row seat op else row
 
@@ -83,15 +87,19 @@ next_row root found row = slice_set (apply_all 0 found row) 0 (in_word (root + 1
 
 -- ---- ops
 
+-- the op of a seat's add
 abbrev pub op_of : Caller → Op
 op_of caller = record { number = caller.number; class = caller.add.class; length = caller.add.length }
 
+-- its words
 abbrev pub op_words : Op → List ℕ
 op_words op = op.number ∷ op.class ∷ op.length ∷ []
 
+-- where none is announced
 abbrev pub no_op : Op
 no_op = record { number = 0; class = 0; length = 0 }
 
+-- the op that words spell
 abbrev pub op_from : List ℕ → Op
 op_from words = record { number = slice_index words 0; class = slice_index words 1; length = slice_index words 2 }
 
@@ -99,7 +107,8 @@ op_from words = record { number = slice_index words 0; class = slice_index words
 abbrev pub next_in : Desk → Caller → Phase → Ask
 next_in desk caller Idle = Load Root
 next_in desk caller LoadDone = Load (Done (length caller.seen))
-next_in desk caller (StoreOp i) = Store (OpWord (op_row desk (caller.number - 1)) i) (slice_index (op_words (op_of caller)) i)
+next_in desk caller (StoreOp i) = Store (OpWord (op_row desk (caller.number - 1)) i)
+    (slice_index (op_words (op_of caller)) i)
 next_in desk caller Announce = Store (Announcement desk.seat) (op_row desk (caller.number - 1) + 1)
 next_in desk caller (LoadRoot turn) = Load Root
 next_in desk caller (LoadRow turn root row) = Load (StateWord root (length row))
@@ -123,6 +132,7 @@ after_found desk turn root row found =
     if nat_lt (length found) desk.seats then LoadAnnouncement turn root row found
     else StoreRow turn root (next_row root found row) 0
 
+-- where a seat goes by the word that it found
 abbrev pub phase_after : Desk → Caller → Phase → ℕ → Phase
 phase_after desk caller Idle word = Idle
 phase_after desk caller LoadDone word = if nat_lt (length caller.seen + 1) desk.seats then LoadDone else StoreOp 0
@@ -146,7 +156,8 @@ phase_after desk caller (StoreDone count) word = Idle
 -- the done words are kept as they come, and an exchange that found the root that it expected has published a row
 abbrev pub caller_after : Caller → Phase → ℕ → Caller
 caller_after caller LoadDone word = record caller { seen = caller.seen ++ word % 2 ^ 32 ∷ [] }
-caller_after caller (Publish turn root row) word = if word == root then record caller { made = caller.made + 1 } else caller
+caller_after caller (Publish turn root row) word =
+    if word == root then record caller { made = caller.made + 1 } else caller
 caller_after caller _ word = caller
 
 -- what the adder answers: the words that it has seen, then zeros where there is no seat
@@ -160,6 +171,7 @@ answer_of seat caller steps count = record {
   seen = caller.seen ++ replicate (8 - length caller.seen) 0;
 }
 
+-- and what it has recorded then
 abbrev pub log_after : ℕ → Caller → ℕ → Phase → List Added → List Added
 log_after seat caller steps (StoreDone count) log = log ++ answer_of seat caller steps count ∷ []
 log_after seat caller steps _ log = log
@@ -197,6 +209,7 @@ begun add seat = record {
 abbrev pub ready : Add → Seat → Seat
 ready add seat = if is_idle seat.phase then begun add seat else seat
 
+-- a seat that has made no add
 abbrev pub resting : Seat
 resting = record {
   caller = record { number = 0; made = 0; add = record { packet = 0; class = 0; length = 0 }; seen = [] };

@@ -15,6 +15,7 @@ pub record Event : Type 0 where
   pub seat : ℕ
   pub add : Add
 
+-- all words, and each seat
 pub record World : Type 0 where
   pub words : List ℕ
   pub seats : List Seat
@@ -23,6 +24,7 @@ pub record World : Type 0 where
 abbrev pub place_of : Settings → Address → ℕ
 place_of settings address = place (seats_of settings) (sum settings.adds) address
 
+-- the address of what is asked for
 abbrev pub address_of : Ask → Address
 address_of (Load from) = from
 address_of (Store to word) = to
@@ -34,6 +36,7 @@ becomes (Load from) word = word
 becomes (Store to new) word = new
 becomes (Exchange old new) word = if word == old then new else word
 
+-- what the seat is told
 abbrev pub told : Ask → ℕ → ℕ
 told (Load from) word = word
 told (Store to new) word = new
@@ -49,15 +52,19 @@ opening_row settings =
 -- all words are 0, but for state row 0
 abbrev pub opening_words : Settings → List ℕ
 opening_words settings =
-    replicate (place_of settings (StateWord 0 0)) 0 ++ opening_row settings ++ replicate (sum settings.adds * row_words (seats_of settings)) 0
+    replicate (place_of settings (StateWord 0 0)) 0 ++ opening_row settings
+    ++ replicate (sum settings.adds * row_words (seats_of settings)) 0
 
+-- the world of the opening
 abbrev pub opening : Settings → World
 opening settings = record { words = opening_words settings; seats = replicate (seats_of settings) resting }
 
 -- whether a seat can take a step: it is in an add, or may begin this one
 abbrev pub can_act : Settings → ℕ → Add → Seat → Bool
-can_act settings me add seat = if is_idle seat.phase then nat_lt seat.caller.number (room_of settings me) && is_add add else true
+can_act settings me add seat = if is_idle seat.phase then nat_lt seat.caller.number
+    (room_of settings me) && is_add add else true
 
+-- a seat of a world
 abbrev pub seat_in : World → ℕ → Seat
 seat_in world seat = slice_index_or world.seats seat resting
 
@@ -80,6 +87,7 @@ happens settings world event =
     then acts settings event.seat (ready event.add (seat_in world event.seat)) world
     else world
 
+-- the world after some events from another on
 abbrev pub world_from : Settings → World → List Event → World
 world_from settings world [] = world
 world_from settings world (event ∷ events) = world_from settings (happens settings world event) events
@@ -95,5 +103,6 @@ AreStepsFrom settings world (event ∷ events) =
     IsTrue (nat_lt event.seat (seats_of settings) && can_act settings event.seat event.add (seat_in world event.seat))
     × AreStepsFrom settings (happens settings world event) events
 
+-- each of the events is a step
 abbrev pub AreSteps : Settings → List Event → Type 0
 AreSteps settings events = AreStepsFrom settings (opening settings) events

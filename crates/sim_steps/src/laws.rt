@@ -30,6 +30,7 @@ pub fn order()
     ensures whole { OfEach IsWhole }
     ensures answered { OfEach AreAnswered }
     ensures pending { OfEach IsPending }
-    ensures totals { (settings : Settings) (events : List Event) (class : ℕ) → AreSettings settings → class < 3 → AreTotals settings events class }
+    ensures totals { (settings : Settings) (events : List Event) (class : ℕ) → AreSettings settings → class < 3 →
+        AreTotals settings events class }
     ensures short { (settings : Settings) (events : List Event) → AreSettings settings → IsShortOrder settings events }
 {}

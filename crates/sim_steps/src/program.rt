@@ -12,39 +12,64 @@ use crate::rows::make_row;
 use crate::words::{Address, Ask, Desk};
 use std::alloc::{AllocError, Global};
 
-/// Where a program stands.
+/// Where a program stands: the word that it takes next.
+///
+/// A turn is a try, from 0: after two that were lost a third look finds the add in the row.
 #[derive(Clone, Copy)]
 pub enum Stage {
+    /// It has no add.
     Idle,
+    /// The done word of the seat after those in `seen`.
     LoadDone,
+    /// This word of its op row, from 0.
     StoreOp(u64),
+    /// Its announcement.
     Announce,
+    /// The root, in this turn.
     LoadRoot(u64),
+    /// In this turn, of this state row, the word after those in `row`.
     LoadRow(u64, u64),
+    /// In this turn, which began at this state row, the announcement of the seat after those in `found`.
     LoadAnnouncement(u64, u64),
+    /// So too, of this op row, the word after those in `words`.
     LoadOp(u64, u64, u64),
+    /// So too, this word of the state row that it makes.
     StoreRow(u64, u64, u64),
+    /// So too, the root, to be exchanged for that row.
     Publish(u64, u64),
+    /// Its done word. The count that the add is answered stands in the row already.
     StoreDone(u64),
 }
 
+/// An adder's program: what it knows of its table, where it stands, and what it has loaded.
 #[derive(Drop)]
 pub struct Program {
+    /// Its seat, how many seats and rows there are, and where its own rows begin.
     pub desk: Desk,
+    /// How many adds it has begun.
     pub number: u32,
+    /// How many of its state rows it has published.
     pub made: u32,
+    /// The add that it is in, or was in last.
     pub add: Add,
+    /// The steps of that add so far.
     pub steps: u64,
+    /// Where it stands.
     pub stage: Stage,
+    /// The done words that this add has loaded.
     pub seen: Vec<u32>,
+    /// The words of a state row: as many as were loaded, or all of the row that it makes.
     pub row: Vec<u64>,
+    /// For each seat that was gone through in this turn its op, with number 0 where it announces none.
     pub found: Vec<Op>,
+    /// The words of an op row that were loaded.
     pub words: Vec<u64>,
 }
 
 impl Program {
     ghost use Rattle.sim_steps.specs.Fields.{machine_of, IsKept, HasRoom, Passes, phase_of};
 
+    /// A program that has made no add, with room for all that it will load.
     pub fn new(alloc: Global, desk: Desk) -> Result<Program, AllocError>
         requires { IsDesk desk }
         ensures value { IfOk result (λ p. machine_of p ≡ made_at desk) }
@@ -69,6 +94,7 @@ impl Program {
         })
     }
 
+    /// Begins an add. This takes no step.
     pub fn begin(&mut self, add: Add)
         requires kept { IsKept self.old }
         requires idle { (machine_of self.old).phase ≡ Idle }
@@ -83,6 +109,7 @@ impl Program {
         self.stage = Stage::LoadDone;
     }
 
+    /// What it asks of the words next.
     pub fn next(&self) -> Ask
         requires { IsKept self.now }
         ensures { result ≡ asks (machine_of self.now) }
@@ -127,6 +154,7 @@ impl Program {
         }
     }
 
+    // The done word is stored, and the add has ended with this count.
     fn end(&mut self, count: u64) -> Added
         requires kept { IsKept self.old }
         requires stage { self.old.stage ≡ Stage.StoreDone count }
@@ -146,6 +174,7 @@ impl Program {
         }
     }
 
+    // A step that is not the last of an add.
     fn go_on(&mut self, stage: Stage, word: u64)
         requires kept { IsKept self.old }
         requires stage { self.old.stage ≡ stage }
@@ -196,6 +225,7 @@ impl Program {
         }
     }
 
+    // A done word is loaded. After that of the last seat the op is stored.
     fn take_done(&mut self, word: u64)
         requires kept { IsKept self.old }
         requires stage { self.old.stage ≡ Stage.LoadDone }
@@ -210,6 +240,7 @@ impl Program {
         self.steps += 1;
     }
 
+    // A word of a state row is loaded.
     fn take_row_word(&mut self, turn: u64, root: u64, word: u64)
         requires kept { IsKept self.old }
         requires stage { self.old.stage ≡ Stage.LoadRow turn root }
@@ -228,7 +259,8 @@ impl Program {
     // A state row is loaded whole.
     fn after_row(&self, turn: u64, root: u64) -> Stage
         requires { self.now.desk.seat < 8 }
-        ensures { phase_of result self.now.row.items [] self.now.words.items ≡ after_row self.now.desk (machine_of self.now).caller turn root self.now.row.items }
+        ensures { phase_of result self.now.row.items [] self.now.words.items ≡ after_row self.now.desk
+            (machine_of self.now).caller turn root self.now.row.items }
     {
         let seat = self.desk.seat;
         let reply = word_at(&self.row, 8 + 2 * seat);
@@ -241,6 +273,7 @@ impl Program {
         }
     }
 
+    // An announcement is loaded: 0 for none, or else one more than the number of an op row.
     fn take_announcement(&mut self, turn: u64, root: u64, word: u64)
         requires kept { IsKept self.old }
         requires stage { self.old.stage ≡ Stage.LoadAnnouncement turn root }
@@ -264,6 +297,7 @@ impl Program {
         }
     }
 
+    // A word of an op row is loaded. After the third its op is found.
     fn take_op_word(&mut self, turn: u64, root: u64, op: u64, word: u64)
         requires kept { IsKept self.old }
         requires stage { self.old.stage ≡ Stage.LoadOp turn root op }
@@ -288,12 +322,13 @@ impl Program {
         }
     }
 
-    // The op of one more seat is found.
+    // The op of one more seat is found. After that of the last seat the new row is made.
     fn find(&mut self, turn: u64, root: u64, op: Op)
         requires few { vec_len self.old.found < self.old.desk.seats }
         requires row { vec_len self.old.row ≡ row_words self.old.desk.seats }
         requires room { HasRoom self.old }
-        ensures phase { (machine_of self.new).phase ≡ after_found self.old.desk turn root self.old.row.items (self.old.found.items ++ op ∷ []) }
+        ensures phase { (machine_of self.new).phase ≡ after_found self.old.desk turn root self.old.row.items
+            (self.old.found.items ++ op ∷ []) }
         ensures caller { (machine_of self.new).caller ≡ (machine_of self.old).caller }
         ensures desk { self.new.desk ≡ self.old.desk }
         ensures steps { self.new.steps ≡ self.old.steps }
@@ -308,6 +343,8 @@ impl Program {
         }
     }
 
+    // The exchange of the root told this word. Won, the add is answered from the row that was made; or else the next turn
+    // begins.
     fn take_exchange(&mut self, turn: u64, root: u64, word: u64)
         requires kept { IsKept self.old }
         requires stage { self.old.stage ≡ Stage.Publish turn root }
@@ -323,6 +360,7 @@ impl Program {
         self.steps += 1;
     }
 
+    // The number of its op row.
     #[tactic(auto, unfolding(crate::specs::Layout::op_row))]
     fn op_row(&self) -> u64
         requires { IsKept self.now }
@@ -332,6 +370,7 @@ impl Program {
         self.desk.before + self.number.saturating_sub(1) as u64
     }
 
+    // The number of the state row that it makes next.
     #[tactic(auto, unfolding(crate::specs::Layout::state_row))]
     fn state_row(&self) -> u64
         requires { IsKept self.now }
@@ -340,6 +379,7 @@ impl Program {
         1 + (self.desk.before + self.made as u64)
     }
 
+    // A word of its op.
     fn op_word(&self, i: u64) -> u64
         ensures { result ≡ slice_index (op_words (op_of (machine_of self.now).caller)) i }
     {
@@ -352,6 +392,7 @@ impl Program {
     }
 }
 
+// A word of a row, 0 past its end.
 fn word_at(row: &Vec<u64>, i: u64) -> u64
     ensures { result ≡ slice_index row.now.items i }
 {

@@ -27,9 +27,15 @@ fn row_word(desk: &Desk, words: &[u64], row: u64, i: u64) -> u64
 fn push_news(desk: &Desk, words: &[u64], old: u64, new: u64, out: &mut Vec<(u32, u32)>)
     requires desk { IsDesk desk.now }
     requires words { length words.now ≡ words_of desk.now.seats desk.now.rows }
-    requires room { vec_len out.old + length (news (read_applied desk.now.seats desk.now.rows words.now old) (read_applied desk.now.seats desk.now.rows words.now new) 0 desk.now.seats) ≤ vec_capacity out.old }
-    requires small { All (λ entry. entry.1 < 2 ^ 32) (news (read_applied desk.now.seats desk.now.rows words.now old) (read_applied desk.now.seats desk.now.rows words.now new) 0 desk.now.seats) }
-    ensures items { out.new.items ≡ out.old.items ++ reverse (news (read_applied desk.now.seats desk.now.rows words.now old) (read_applied desk.now.seats desk.now.rows words.now new) 0 desk.now.seats) }
+    requires room { vec_len out.old + length
+        (news (read_applied desk.now.seats desk.now.rows words.now old)
+        (read_applied desk.now.seats desk.now.rows words.now new) 0 desk.now.seats) ≤ vec_capacity out.old }
+    requires small { All (λ entry. entry.1 < 2 ^ 32)
+        (news (read_applied desk.now.seats desk.now.rows words.now old)
+        (read_applied desk.now.seats desk.now.rows words.now new) 0 desk.now.seats) }
+    ensures items { out.new.items ≡ out.old.items
+        ++ reverse (news (read_applied desk.now.seats desk.now.rows words.now old)
+        (read_applied desk.now.seats desk.now.rows words.now new) 0 desk.now.seats) }
     ensures capacity { vec_capacity out.new ≡ vec_capacity out.old }
 {
     let mut seat = desk.seats;
@@ -66,8 +72,12 @@ pub fn read_order_into(desk: &Desk, words: &[u64], out: &mut Vec<(u32, u32)>)
 pub fn read_totals(desk: &Desk, words: &[u64]) -> Totals
     requires desk { IsDesk desk.now }
     requires words { length words.now ≡ words_of desk.now.seats desk.now.rows }
-    ensures counts { (class : ℕ) → class < 3 → slice_index result.counts class ≡ read_word desk.now.seats desk.now.rows words.now (StateWord (read_word desk.now.seats desk.now.rows words.now Root) (1 + class)) }
-    ensures bytes { (class : ℕ) → class < 3 → slice_index result.bytes class ≡ read_word desk.now.seats desk.now.rows words.now (StateWord (read_word desk.now.seats desk.now.rows words.now Root) (4 + class)) }
+    ensures counts { (class : ℕ) → class < 3 →
+        slice_index result.counts class ≡ read_word desk.now.seats desk.now.rows words.now
+        (StateWord (read_word desk.now.seats desk.now.rows words.now Root) (1 + class)) }
+    ensures bytes { (class : ℕ) → class < 3 →
+        slice_index result.bytes class ≡ read_word desk.now.seats desk.now.rows words.now
+        (StateWord (read_word desk.now.seats desk.now.rows words.now Root) (4 + class)) }
 {
     let root = words[0];
     Totals {

@@ -11,26 +11,42 @@ use Rattle.atomic_table.specs.declared.shared.Seat.{Seat}
 use Rattle.sim_totals.specs.declared.adder.Adder.TheInside as adder
 use Rattle.sim_totals.specs.declared.table.TotalsTable.TheInside as table
 
+-- what an adder may do on the words
 abbrev pub Token : Type 0
 Token = Seat (Unit {0}) View
 
 -- the machine of an idle seat
 abbrev pub resting_machine : ℕ → M → Machine
-resting_machine i m = record { desk = desk_of m.0.settings i; caller = (state_of m).caller; phase = (state_of m).phase; steps = (state_of m).steps }
+resting_machine i m = record {
+  desk = desk_of m.0.settings i;
+  caller = (state_of m).caller;
+  phase = (state_of m).phase;
+  steps = (state_of m).steps;
+}
 
+-- an adder's value, by its fields
 abbrev pub adder_value : adder.Inside → AdderValue
-adder_value a = record { table_id = a.token.table_id; settings = a.token.me.0.settings; number = a.number; seat = state_of a.token.me; seen = seen_of a.token.me }
+adder_value a = record {
+  table_id = a.token.table_id;
+  settings = a.token.me.0.settings;
+  number = a.number;
+  seat = state_of a.token.me;
+  seen = seen_of a.token.me;
+}
 
+-- a machine stands where its seat does, between two adds
 pub record Rests (i : ℕ) (m : M) (k : Machine) : Type 0 where
   pub seat : m ≡ (one m.0.settings i (state_of m) (seen_of m), [])
   pub at : At i m
   pub idle : (state_of m).phase ≡ Idle
   pub machine : k ≡ resting_machine i m
 
+-- what always holds of an adder
 pub record IsKept (a : adder.Inside) : Type 0 where
   pub rests : Rests a.number a.token.me a.machine
   pub desk : a.desk ≡ desk_of a.token.me.0.settings a.number
 
+-- a table's value, by its fields
 abbrev pub table_value : table.Inside → TableValue
 table_value t = record { table_id = t.table.shared.table_id; settings = plain t.table.shared.key }
 
@@ -46,6 +62,7 @@ abbrev pub entries : List AdderValue → List Entry
 entries [] = []
 entries (a ∷ adders) = (a.number, a.seat, a.seen) ∷ entries adders
 
+-- these adders are some of the table's, and the token is of them all
 pub record HasAll (t : TableValue) (adders : List AdderValue) (token : Token) : Type 0 where
   pub table : token.table_id ≡ t.table_id
   pub me : token.me ≡ (view t.settings (entries adders), [])

@@ -11,7 +11,8 @@ use Rattle.sim_steps.specs.Order.{Entry, word_at, order_of}
 use Rattle.sim_steps.specs.Laws.{events_of}
 use Rattle.sim_totals.specs.Rule.{StartsWith}
 
--- an adder: its table, its seat's number and state between two adds, with the list of what it has answered, and what it has seen of the run
+-- an adder: its table, its seat's number and state between two adds, with the list of what it has answered, and what
+-- it has seen of the run
 pub record AdderValue : Type 0 where
   pub table_id : TableId
   pub settings : Settings
@@ -19,6 +20,7 @@ pub record AdderValue : Type 0 where
   pub seat : Seat
   pub seen : List Event
 
+-- what is known of a table that is open
 pub record TableValue : Type 0 where
   pub table_id : TableId
   pub settings : Settings
@@ -48,6 +50,7 @@ pub record IsNew (t : TableValue) (a : AdderValue) : Type 0 where
   pub of : IsOf t a
   pub log : log_of a ≡ []
 
+-- two adders of one seat with one record
 pub record IsSame (a b : AdderValue) : Type 0 where
   pub table : b.table_id ≡ a.table_id
   pub settings : b.settings ≡ a.settings
@@ -61,6 +64,7 @@ HasRoom a = length (log_of a) < room_of a.settings a.number
 abbrev pub fresh : TableValue → ℕ → AdderValue
 fresh t i = record { table_id = t.table_id; settings = t.settings; number = i; seat = resting; seen = [] }
 
+-- adders as they are handed out, from one seat on
 abbrev pub fresh_from : TableValue → ℕ → ℕ → List AdderValue
 fresh_from t i zero = []
 fresh_from t i (suc n) = fresh t i ∷ fresh_from t (suc i) n
@@ -75,12 +79,15 @@ pub record IsLeft (settings : Settings) (run : List Event) (a : AdderValue) : Ty
 abbrev pub adders_of : ℕ → List AdderValue → ℕ
 adders_of seat adders = count_by (λ a. a.number == seat) adders
 
--- one list of steps from the opening has all that each adder has seen, and leaves each seat to one adder, and words with these totals and this order
+-- one list of steps from the opening has all that each adder has seen, and leaves each seat to one adder, and words
+-- with these totals and this order
 pub record Ran (settings : Settings) (totals : Totals) (order : List Entry) (adders : List AdderValue) : Type 0 where
   pub run : List Event
   pub steps : AreSteps settings run
   pub seats : All (IsLeft settings run) adders
   pub once : (seat : ℕ) → seat < seats_of settings → adders_of seat adders ≡ 1
   pub order_is : order ≡ order_of settings (world_after settings run).words
-  pub counts : (class : ℕ) → class < 3 → (let words = (world_after settings run).words in slice_index totals.counts class ≡ word_at settings words (StateWord (word_at settings words Root) (1 + class)))
-  pub bytes : (class : ℕ) → class < 3 → (let words = (world_after settings run).words in slice_index totals.bytes class ≡ word_at settings words (StateWord (word_at settings words Root) (4 + class)))
+  pub counts : (class : ℕ) → class < 3 → (let words = (world_after settings run).words in
+      slice_index totals.counts class ≡ word_at settings words (StateWord (word_at settings words Root) (1 + class)))
+  pub bytes : (class : ℕ) → class < 3 → (let words = (world_after settings run).words in
+      slice_index totals.bytes class ≡ word_at settings words (StateWord (word_at settings words Root) (4 + class)))

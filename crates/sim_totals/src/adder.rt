@@ -67,7 +67,13 @@ pub(crate) fn seated(token: Token, machine: AddMachine, desk: Desk, number: usiz
     requires at { At number token.me }
     requires machine { machine ≡ made_at desk }
     requires desk { desk ≡ desk_of token.me.0.settings number }
-    ensures { result ≡ record { table_id = token.table_id; settings = token.me.0.settings; number = number; seat = resting; seen = [] } }
+    ensures { result ≡ record {
+      table_id = token.table_id;
+      settings = token.me.0.settings;
+      number = number;
+      seat = resting;
+      seen = [];
+    } }
 {
     Adder {
         token,

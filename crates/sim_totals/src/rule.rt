@@ -1,7 +1,7 @@
 //! The rule of the table: its words and its views are those of one list of events.
 
 ghost use Rattle.sim_steps.specs.declared.adds.Add.{Add};
-ghost use Rattle.sim_totals.specs.Rule.{Shows, plain, whole, acted, others, foremost, together, spent, no_add};
+ghost use Rattle.sim_totals.specs.Rule.{ShowsRun, plain, whole, acted, others, foremost, together, spent, no_add};
 
 use crate::view::View;
 use atomic_table::{Join, Play, Split, TableRule};
@@ -18,7 +18,7 @@ pub struct Plan {
 pub struct OneRun;
 
 impl TableRule<(), View, Plan> for OneRun {
-    ghost holds = { λ plan. Shows (plain plan) };
+    ghost holds = { λ plan. ShowsRun (plain plan) };
 
     ghost first = { λ plan. whole (plain plan) };
 }

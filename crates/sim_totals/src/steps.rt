@@ -65,9 +65,11 @@ pub(crate) fn run_add<B: Asked>(
     ensures kept { token.new.table_id ≡ token.old.table_id }
     ensures settings { token.new.me.0.settings ≡ token.old.me.0.settings }
     ensures rests { Rests (seat_of token.old.me) token.new.me machine.new }
-    ensures added { Adds token.old.me.0.settings (seat_of token.old.me) add (state_of token.old.me) (state_of token.new.me) result }
+    ensures added { Adds token.old.me.0.settings (seat_of token.old.me) add (state_of token.old.me)
+        (state_of token.new.me) result }
     ensures seen { StartsWith (seen_of token.new.me) (seen_of token.old.me) }
-    ensures own { events_of (seat_of token.old.me) (seen_of token.new.me) ≡ events_of (seat_of token.old.me) (seen_of token.old.me) + result.steps }
+    ensures own { events_of (seat_of token.old.me) (seen_of token.new.me) ≡ events_of (seat_of token.old.me)
+        (seen_of token.old.me) + result.steps }
 {
     laws::order();
     machine.begin(add);

@@ -67,7 +67,10 @@ fn push_zeros(words: &mut Vec<u64>, count: usize)
 fn push_opening_row(words: &mut Vec<u64>, seats: usize, first: &Totals)
     requires seats { seats ≤ 8 }
     requires room { vec_len words.old + row_words seats ≤ vec_capacity words.old }
-    ensures items { words.new.items ≡ words.old.items ++ (0 ∷ slice_index first.now.counts 0 ∷ slice_index first.now.counts 1 ∷ slice_index first.now.counts 2 ∷ slice_index first.now.bytes 0 ∷ slice_index first.now.bytes 1 ∷ slice_index first.now.bytes 2 ∷ replicate (2 * seats) 0) }
+    ensures items { words.new.items ≡ words.old.items
+        ++ (0 ∷ slice_index first.now.counts 0 ∷ slice_index first.now.counts 1 ∷ slice_index first.now.counts
+        2 ∷ slice_index first.now.bytes 0 ∷ slice_index first.now.bytes 1 ∷ slice_index first.now.bytes 2 ∷ replicate
+        (2 * seats) 0) }
     ensures capacity { vec_capacity words.new ≡ vec_capacity words.old }
 {
     words.push_reserved(0);
@@ -83,7 +86,10 @@ fn push_opening_row(words: &mut Vec<u64>, seats: usize, first: &Totals)
 // The words at the opening.
 fn first_words(alloc: Global, desk: &Desk, first: &Totals) -> Result<Vec<u64>, AllocError>
     requires { IsDesk desk.now }
-    ensures { IfOk result (λ v. v.items ≡ replicate (1 + 2 * desk.now.seats + desk.now.rows * 3) 0 ++ (0 ∷ slice_index first.now.counts 0 ∷ slice_index first.now.counts 1 ∷ slice_index first.now.counts 2 ∷ slice_index first.now.bytes 0 ∷ slice_index first.now.bytes 1 ∷ slice_index first.now.bytes 2 ∷ replicate (2 * desk.now.seats) 0) ++ replicate (desk.now.rows * row_words desk.now.seats) 0) }
+    ensures { IfOk result (λ v. v.items ≡ replicate (1 + 2 * desk.now.seats + desk.now.rows * 3) 0
+        ++ (0 ∷ slice_index first.now.counts 0 ∷ slice_index first.now.counts 1 ∷ slice_index first.now.counts
+        2 ∷ slice_index first.now.bytes 0 ∷ slice_index first.now.bytes 1 ∷ slice_index first.now.bytes 2 ∷ replicate
+        (2 * desk.now.seats) 0) ++ replicate (desk.now.rows * row_words desk.now.seats) 0) }
 {
     let seats = desk.seats as usize;
     let count = desk.words();
@@ -110,7 +116,8 @@ fn deal(
     requires adds { words.now.key.adds.items ≡ adds.now }
     requires desk { desk ≡ desk_of (plain words.now.key) 0 }
     requires out { (out.old.items ≡ []) × (vec_capacity out.old ≡ length adds.now) }
-    ensures adders { OnOk result (out.new.items ≡ fresh_from (record { table_id = words.now.table_id; settings = plain words.now.key }) 0 (length adds.now)) }
+    ensures adders { OnOk result (out.new.items ≡ fresh_from
+        (record { table_id = words.now.table_id; settings = plain words.now.key }) 0 (length adds.now)) }
 {
     let mut desk = desk;
     for number in 0..adds.len() {
@@ -130,7 +137,8 @@ fn deal(
 // Puts all adders together into one token.
 fn gather(words: &Words, mut adders: Vec<Adder>) -> Token
     requires table { 0 < words.now.table_id.words }
-    requires adders { All (IsOf (record { table_id = words.now.table_id; settings = plain words.now.key })) adders.items }
+    requires adders { All (IsOf (record { table_id = words.now.table_id; settings = plain words.now.key }))
+        adders.items }
     requires some { 0 < vec_len adders }
     ensures { HasAll (record { table_id = words.now.table_id; settings = plain words.now.key }) adders.items result }
 {
@@ -230,8 +238,10 @@ impl TotalsTable {
 fn end(table: Board, desk: &Desk, adders: Vec<Adder>, words: &mut Vec<u64>)
     requires settings { AreSettings (plain table.shared.key) }
     requires desk { desk.now ≡ desk_of (plain table.shared.key) 0 }
-    requires size { (table.shared.table_id.words ≡ words_of desk.now.seats desk.now.rows) × (table.shared.table_id.slots ≡ 0) }
-    requires adders { All (IsOf (record { table_id = table.shared.table_id; settings = plain table.shared.key })) adders.items }
+    requires size { (table.shared.table_id.words ≡ words_of desk.now.seats desk.now.rows)
+        × (table.shared.table_id.slots ≡ 0) }
+    requires adders { All (IsOf (record { table_id = table.shared.table_id; settings = plain table.shared.key }))
+        adders.items }
     requires all { vec_len adders ≡ desk.now.seats }
     requires words { (words.old.items ≡ []) × (vec_capacity words.old ≡ words_of desk.now.seats desk.now.rows) }
     ensures left { Left (plain table.shared.key) words.new.items adders.items }

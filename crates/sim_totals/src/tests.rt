@@ -37,7 +37,8 @@ struct Worker {
 impl Worker {
     fn work(&mut self, table: &TotalsTable, arrivals: &AtomicU64, all: u64)
         requires of { IsOf table.now self.old.adder }
-        requires room { length (log_of self.old.adder) + vec_len self.old.adds ≤ room_of self.old.adder.settings self.old.adder.number }
+        requires room { length (log_of self.old.adder) + vec_len self.old.adds ≤ room_of self.old.adder.settings
+            self.old.adder.number }
         requires adds { All IsAdd self.old.adds.items }
         requires log { vec_len self.old.log + vec_len self.old.adds ≤ vec_capacity self.old.log }
         ensures { IsOf table.now self.new.adder }
@@ -87,7 +88,9 @@ fn workers_of(
 ) -> Result<Vec<Worker>, AllocError>
     requires adders { All (IsNew table.now) adders.items }
     requires count { All (λ room. room ≡ count) table.now.settings.adds }
-    ensures ready { IfOk result (λ v. All (λ w. IsOf table.now w.adder × (length (log_of w.adder) + vec_len w.adds ≤ room_of w.adder.settings w.adder.number) × All IsAdd w.adds.items × (vec_len w.log + vec_len w.adds ≤ vec_capacity w.log)) v.items) }
+    ensures ready { IfOk result (λ v. All (λ w. IsOf table.now w.adder
+        × (length (log_of w.adder) + vec_len w.adds ≤ room_of w.adder.settings w.adder.number)
+        × All IsAdd w.adds.items × (vec_len w.log + vec_len w.adds ≤ vec_capacity w.log)) v.items) }
     ensures count { IfOk result (λ v. vec_len v ≡ vec_len adders) }
 {
     let mut workers = Vec::new(alloc);
@@ -104,7 +107,9 @@ fn workers_of(
 
 // All work at once, each in a thread of its own.
 fn all_work<R: Threads + Sync>(rt: &R, table: &TotalsTable, workers: &mut [Worker])
-    requires { All (λ w. IsOf table.now w.adder × (length (log_of w.adder) + vec_len w.adds ≤ room_of w.adder.settings w.adder.number) × All IsAdd w.adds.items × (vec_len w.log + vec_len w.adds ≤ vec_capacity w.log)) workers.old }
+    requires { All (λ w. IsOf table.now w.adder
+        × (length (log_of w.adder) + vec_len w.adds ≤ room_of w.adder.settings w.adder.number)
+        × All IsAdd w.adds.items × (vec_len w.log + vec_len w.adds ≤ vec_capacity w.log)) workers.old }
     ensures { All (λ w. IsOf table.now w.adder) workers.new }
 {
     let arrivals = AtomicU64::new(0);

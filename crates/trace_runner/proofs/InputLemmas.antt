@@ -39,26 +39,31 @@ HasRead-next bytes old new before after records read given same =
     record {
       head = subst (λ (o : Order). HasFileHead o bytes) (sym same) read.head;
       each = subst (λ (o : Order). All (IsSaved o) (records ++ given.saved ∷ [])) (sym same)
-          (All-append (IsSaved old.order) records (given.saved ∷ []) read.each (All-one (IsSaved old.order) given.saved given.is_saved));
+          (All-append (IsSaved old.order) records (given.saved ∷ []) read.each
+          (All-one (IsSaved old.order) given.saved given.is_saved));
       more = next.0;
       told = next.1;
       whole = read.whole ∙ ap (λ (r : List ℕ). flat_map bytes_of records ++ r) next.2
           ∙ sym (append_assoc (flat_map bytes_of records) (bytes_of given.saved) next.0)
           ∙ ap (λ (r : List ℕ). r ++ next.0) further;
       offset =
-          let longer : length (flat_map bytes_of (records ++ given.saved ∷ [])) ≡ length (flat_map bytes_of records) + length (bytes_of given.saved) =
+          let longer : length (flat_map bytes_of (records ++ given.saved ∷ [])) ≡ length
+          (flat_map bytes_of records) + length (bytes_of given.saved) =
           ap length (sym further) ∙ length-append (flat_map bytes_of records) (bytes_of given.saved) in
           omega (arith, longer, read.offset, given.offset);
     }
 
 -- an input of which no more than a remainder is still to come is the capture of the records that were given out
 pub HasRead-ends :
-    (bytes : List ℕ) (reading : Reading) (left : Option (List ℕ)) (records : List Saved) (ending : Result ℕ CaptureFault) →
-    HasRead bytes reading left records → IfSome (to_come reading left) (λ (more : List ℕ). IsRemainder reading.order reading.offset more ending) →
+    (bytes : List ℕ) (reading : Reading) (left : Option (List ℕ)) (records : List Saved)
+    (ending : Result ℕ CaptureFault) →
+    HasRead bytes reading left records → IfSome (to_come reading left)
+    (λ (more : List ℕ). IsRemainder reading.order reading.offset more ending) →
     Capture bytes records ending
 HasRead-ends bytes reading left records ending read remains =
     let here : IsRemainder reading.order reading.offset read.more ending =
-    subst (λ (known : Option (List ℕ)). IfSome known (λ (more : List ℕ). IsRemainder reading.order reading.offset more ending)) read.told remains in
+    subst (λ (known : Option (List ℕ)). IfSome known
+    (λ (more : List ℕ). IsRemainder reading.order reading.offset more ending)) read.told remains in
     inr (
       reading.order,
       record {

@@ -12,7 +12,8 @@ use Rattle.trace_runner.specs.Headline.{head_of, outcomes_of, run_report, tail_o
 
 -- a text that grew by five parts
 pub five_parts :
-    (t₀ t₁ t₂ t₃ t₄ t₅ a b c d e : List ℕ) → t₀ ≡ [] → t₁ ≡ t₀ ++ a → t₂ ≡ t₁ ++ b → t₃ ≡ t₂ ++ c → t₄ ≡ t₃ ++ d → t₅ ≡ t₄ ++ e →
+    (t₀ t₁ t₂ t₃ t₄ t₅ a b c d e : List ℕ) → t₀ ≡ [] → t₁ ≡ t₀ ++ a → t₂ ≡ t₁ ++ b → t₃ ≡ t₂ ++ c → t₄ ≡ t₃ ++ d →
+    t₅ ≡ t₄ ++ e →
     t₅ ≡ a ++ (b ++ (c ++ (d ++ e)))
 five_parts t₀ t₁ t₂ t₃ t₄ t₅ a b c d e p₀ p₁ p₂ p₃ p₄ p₅ =
     let one : t₁ ≡ a = p₁ ∙ ap (λ (t : List ℕ). t ++ a) p₀ in
@@ -25,7 +26,8 @@ five_parts t₀ t₁ t₂ t₃ t₄ t₅ a b c d e p₀ p₁ p₂ p₃ p₄ p₅
 pub report_of-run :
     (plan : Plan) (packets : ℕ) (records : List Record) (order : List Placed) (sessions : Sessions) (ending : Ending) →
     report_of (run_report plan packets records order sessions ending)
-    ≡ head_line (head_of plan) ++ (flat_map (λ call. outcome_line plan.seats call.0 call.1) (outcomes_of records) ++ (order_lines (ids_of order)
+    ≡ head_line (head_of plan) ++ (flat_map (λ call. outcome_line plan.seats call.0 call.1) (outcomes_of records)
+    ++ (order_lines (ids_of order)
     ++ (flat_map session_line (pairs_of sessions) ++ tail_lines (tail_of packets (length records) ending))))
 unfolding report_of batch_lines
 report_of-run plan packets records order sessions ending = simp (append-nil, append_assoc)

@@ -18,13 +18,15 @@ use Rattle.trace_runner.proofs.InputLemmas.{HasRead-next, HasRead-ends}
 use Rattle.trace_runner.proofs.TakenLemmas.{HasFileHead-front, taken_of, drop-taken_of, taken_of-whole}
 
 -- where bytes are told to come, the source tells those that are left
-left_is_told : (reading : Reading) (left : Option (List ℕ)) (more : List ℕ) → to_come reading left ≡ Some more → (others : List ℕ) × (left ≡ Some others) × (more ≡ reading.pending ++ others)
+left_is_told : (reading : Reading) (left : Option (List ℕ)) (more : List ℕ) → to_come reading left ≡ Some more →
+    (others : List ℕ) × (left ≡ Some others) × (more ≡ reading.pending ++ others)
 left_is_told reading None more told = absurd (cc)
 left_is_told reading (Some others) more told =
     let same : reading.pending ++ others ≡ more = cc in
     (others, refl, sym same)
 
-kept_told : (before after : Option (List ℕ)) (more : List ℕ) → before ≡ Some more → Keeps before after → after ≡ Some more
+kept_told : (before after : Option (List ℕ)) (more : List ℕ) → before ≡ Some more → Keeps before after →
+    after ≡ Some more
 kept_told None after more is kept = absurd (cc)
 kept_told (Some bytes) None more is kept = absurd kept
 kept_told (Some bytes) (Some same) more is kept = cc
@@ -42,11 +44,17 @@ taken-capture bytes old new before after records read cut kept few =
     let left : (others : List ℕ) × (after ≡ Some others) × (read.more ≡ new.pending ++ others) =
     left_is_told new after read.more (kept_told (to_come old before) (to_come new after) read.more read.told kept) in
     let taken : List ℕ = taken_of bytes records new.pending in
-    let behind : drop FILE_HEAD taken ≡ flat_map bytes_of records ++ new.pending = drop-taken_of bytes records new.pending read.head.begins.whole in
+    let behind : drop FILE_HEAD taken ≡ flat_map bytes_of records ++ new.pending =
+    drop-taken_of bytes records new.pending read.head.begins.whole in
     let whole : bytes ≡ taken ++ left.0 = taken_of-whole bytes records new.pending left.0 read.more read.whole left.2 in
     let long : FILE_HEAD ≤ length taken =
-    omega (arith, length-append (take FILE_HEAD bytes) (flat_map bytes_of records ++ new.pending), length-take-le FILE_HEAD bytes read.head.begins.whole) in
-    let head : HasFileHead old.order taken = HasFileHead-front old.order taken left.0 long (subst (HasFileHead old.order) whole read.head) in
+    omega (
+      arith,
+      length-append (take FILE_HEAD bytes) (flat_map bytes_of records ++ new.pending),
+      length-take-le FILE_HEAD bytes read.head.begins.whole,
+    ) in
+    let head : HasFileHead old.order taken =
+    HasFileHead-front old.order taken left.0 long (subst (HasFileHead old.order) whole read.head) in
     let capture : Capture taken records (Ok (length new.pending)) =
     inr (old.order, record { head = head; each = read.each; rest = new.pending; whole = behind; ends = (cut, refl) }) in
     (taken, left.0, Ok (length new.pending), whole, left.1, (records, capture, few, refl))
@@ -57,8 +65,11 @@ pub Serves-ended :
     HasRead bytes old before records → length records ≤ PACKET_LIMIT → MeetsEnding old new before after ending →
     Serves bytes after (packets_of records) ending
 Serves-ended bytes old new before after records (Done rest) read few meets =
-    let left : (others : List ℕ) × (before ≡ Some others) × (read.more ≡ old.pending ++ others) = left_is_told old before read.more read.told in
-    ((records, HasRead-ends bytes old before records (Ok rest) read meets.0, few, refl), meets.1 (some_told before left.0 left.1))
+    let left : (others : List ℕ) × (before ≡ Some others) × (read.more ≡ old.pending ++ others) =
+    left_is_told old before read.more read.told in (
+      (records, HasRead-ends bytes old before records (Ok rest) read meets.0, few, refl),
+      meets.1 (some_told before left.0 left.1),
+    )
 Serves-ended bytes old new before after records (Fault fault) read few meets =
     (records, HasRead-ends bytes old before records (Err fault) read meets, few, refl)
 Serves-ended bytes old new before after records ReadFault read few meets =
@@ -69,10 +80,12 @@ Serves-ended bytes old new before after records (Limit limit) read few meets = a
 pub Serves-limit :
     (bytes : List ℕ) (old new : Reading) (before after : Option (List ℕ)) (records : List Saved) (limit : ℕ) →
     HasCapture bytes → HoldsFront bytes →
-    HasRead bytes old before records → GivesRecord old new (to_come old before) (to_come new after) → new.order ≡ old.order →
+    HasRead bytes old before records → GivesRecord old new (to_come old before) (to_come new after) →
+    new.order ≡ old.order →
     length records ≡ PACKET_LIMIT → limit ≡ PACKET_LIMIT → Serves bytes after (packets_of records) (Limit limit)
 Serves-limit bytes old new before after records limit capture front read given same many is =
-    let further : HasRead bytes new after (records ++ given.saved ∷ []) = HasRead-next bytes old new before after records read given same in
+    let further : HasRead bytes new after (records ++ given.saved ∷ []) =
+    HasRead-next bytes old new before after records read given same in
     let begins : BeginsWith bytes (records ++ given.saved ∷ []) further.more =
     record { order = new.order; head = further.head; each = further.each; whole = further.whole } in
     let more : (others : List Saved) × (capture.0 ≡ (records ++ given.saved ∷ []) ++ others) =
@@ -81,18 +94,21 @@ Serves-limit bytes old new before after records limit capture front read given s
     let longer : PACKET_LIMIT < length capture.0 =
     omega (arith, ap length all, length-append records (given.saved ∷ more.0), many) in
     let served : take PACKET_LIMIT capture.0 ≡ records =
-    ap (λ (n : ℕ). take n capture.0) (sym many) ∙ ap (take (length records)) all ∙ take-append_seam records (given.saved ∷ more.0) in
+    ap (λ (n : ℕ). take n capture.0) (sym many) ∙ ap (take (length records)) all
+    ∙ take-append_seam records (given.saved ∷ more.0) in
     ((capture.0, capture.1, capture.2, longer, ap packets_of (sym served)), is)
 
 -- an input whose file head shows a fault serves no packet
 pub Serves-refused :
-    (bytes : List ℕ) (left : Option (List ℕ)) (fault : CaptureFault) → ShowsFault bytes fault → Serves bytes left [] (Fault fault)
+    (bytes : List ℕ) (left : Option (List ℕ)) (fault : CaptureFault) → ShowsFault bytes fault →
+    Serves bytes left [] (Fault fault)
 Serves-refused bytes left fault shown =
     ([], inl (record { none = refl; fault = fault; ends = refl; shown = shown }), omega arith, refl)
 
 -- a read that failed before the file head was there leaves no packet to serve
 pub Serves-none :
-    (bytes taken : List ℕ) (after : Option (List ℕ)) → length taken < FILE_HEAD → Consumes (Some bytes) after taken → Serves bytes after [] ReadFault
+    (bytes taken : List ℕ) (after : Option (List ℕ)) → length taken < FILE_HEAD → Consumes (Some bytes) after taken →
+    Serves bytes after [] ReadFault
 Serves-none bytes taken None fewer lost = absurd lost
 Serves-none bytes taken (Some others) fewer lost = (
   taken,
@@ -100,5 +116,10 @@ Serves-none bytes taken (Some others) fewer lost = (
   Err (ShortHeader (length taken)),
   lost,
   refl,
-  ([], inl (record { none = refl; fault = ShortHeader (length taken); ends = refl; shown = (fewer, refl) }), omega arith, refl),
+  (
+    [],
+    inl (record { none = refl; fault = ShortHeader (length taken); ends = refl; shown = (fewer, refl) }),
+    omega arith,
+    refl,
+  ),
 )

@@ -16,19 +16,20 @@ use Rattle.report_text.specs.declared.parts.Ending.{Ending}
 use Rattle.report_text.specs.declared.parts.Ending.TheVariants.{Done, ReadFault, Limit, Fault}
 use Rattle.report_text.specs.Report.{Report, report_of}
 use Rattle.trace_runner.specs.declared.plan.Plan.{Plan}
-use Rattle.trace_runner.specs.declared.intake.TheConstants.{PACKET_LIMIT}
 use Rattle.trace_runner.specs.declared.status.Status.{Status}
 use Rattle.trace_runner.specs.declared.status.Status.TheVariants as status
 use Rattle.trace_runner.specs.PacketCalls.{MakeCalls}
 use Rattle.trace_runner.specs.Answering.{calls_in}
-use Rattle.trace_runner.specs.Input.{Serves}
+use Rattle.trace_runner.specs.Input.{Serves, packet_limit}
 
 -- the rules of the plain map that the plan asks for
 abbrev pub rules_of : Plan → Rules
 rules_of plan = record { items = plan.items; depth = plan.depth; hashing = plan.hashing }
 
--- Each packet's call is answered once, and in one order of all calls each has the plain map's reply, from the empty map on.
-pub record IsServed (rules : Rules) (packets : List (List ℕ)) (records : List Record) (order : List Placed) : Type 0 where
+-- Each packet's call is answered once, and in one order of all calls each has the plain map's reply, from the empty
+-- map on.
+pub record IsServed (rules : Rules) (packets : List (List ℕ)) (records : List Record)
+    (order : List Placed) : Type 0 where
   pub calls : MakeCalls 1 packets (calls_in records)
   pub turns : InTurn 1 records
   pub legal : Legal rules empty order
@@ -85,11 +86,13 @@ run_report plan packets records order sessions ending =
 abbrev pub IsReport : Plan → List (List ℕ) → Ending → List ℕ → Type 0
 IsReport plan packets ending text =
     (records : List Record) × (order : List Placed) × IsServed (rules_of plan) packets records order
-    × (text ≡ report_of (run_report plan (length packets) records order (sessions_after (rules_of plan) empty order) ending))
+    × (text ≡ report_of (run_report plan (length packets) records order
+    (sessions_after (rules_of plan) empty order) ending))
 
 -- of an input with these bytes, of which these are left, the text is the report, with this ending
 abbrev pub Reports : Plan → List ℕ → Option (List ℕ) → Ending → List ℕ → Type 0
-Reports plan bytes left ending text = (packets : List (List ℕ)) × Serves bytes left packets ending × IsReport plan packets ending text
+Reports plan bytes left ending text = (packets : List (List ℕ)) × Serves bytes left packets ending
+    × IsReport plan packets ending text
 
 -- the status of a run whose report was put whole
 abbrev pub status_of : Ending → Status
@@ -97,6 +100,16 @@ status_of (Done rest) = status.Done
 status_of ReadFault = status.ReadFault
 status_of (Limit limit) = status.Limit
 status_of (Fault fault) = status.BadCapture
+
+-- the program's exit status
+abbrev pub code_of : Status → ℕ
+code_of status.Done = 0
+code_of status.Memory = 1
+code_of status.Usage = 2
+code_of status.ReadFault = 3
+code_of status.WriteFault = 4
+code_of status.BadCapture = 5
+code_of status.Limit = 6
 
 -- The whole report was put, with this ending.
 abbrev pub PutsReport : Plan → List ℕ → Option (List ℕ) → Option (List ℕ) → Option (List ℕ) → Ending → Type 0
@@ -106,12 +119,15 @@ PutsReport plan bytes left before after ending =
 -- A front of the report was put, whatever the ending.
 abbrev pub PutsFront : Plan → List ℕ → Option (List ℕ) → Option (List ℕ) → Option (List ℕ) → Type 0
 PutsFront plan bytes left before after =
-    (ending : Ending) × (front : List ℕ) × (rest : List ℕ) × Reports plan bytes left ending (front ++ rest) × Appends before after front
+    (ending : Ending) × (front : List ℕ) × (rest : List ℕ) × Reports plan bytes left ending (front ++ rest)
+    × Appends before after front
 
--- What a run leaves that ended so: of the input's bytes these are left, and the sink had taken `before` and has taken `after`.
+-- What a run leaves that ended so: of the input's bytes these are left, and the sink had taken `before` and has taken
+-- `after`.
 abbrev pub Leaves : Plan → List ℕ → Option (List ℕ) → Option (List ℕ) → Option (List ℕ) → Status → Type 0
 Leaves plan bytes left before after status.Done = (rest : ℕ) × PutsReport plan bytes left before after (Done rest)
-Leaves plan bytes left before after status.BadCapture = (fault : CaptureFault) × PutsReport plan bytes left before after (Fault fault)
+Leaves plan bytes left before after status.BadCapture =
+    (fault : CaptureFault) × PutsReport plan bytes left before after (Fault fault)
 Leaves plan bytes left before after status.Limit = (limit : ℕ) × PutsReport plan bytes left before after (Limit limit)
 Leaves plan bytes left before after status.ReadFault = PutsReport plan bytes left before after ReadFault
 Leaves plan bytes left before after status.WriteFault = PutsFront plan bytes left before after
@@ -120,5 +136,5 @@ Leaves plan bytes left before after status.Usage = ⊥
 
 -- the status that a capture of these records with this ending is answered with, where nothing fails
 abbrev pub status_for : List Saved → Result ℕ CaptureFault → Status
-status_for records ending = if nat_lt PACKET_LIMIT (length records) then status.Limit
+status_for records ending = if nat_lt packet_limit (length records) then status.Limit
     else (if is_ok ending then status.Done else status.BadCapture)

@@ -5,7 +5,10 @@ use Rattle.pcap_reader.specs.declared.fault.CaptureFault.{CaptureFault}
 use Rattle.pcap_reader.specs.Capture.{Saved, Capture}
 use Rattle.report_text.specs.declared.parts.Ending.{Ending}
 use Rattle.report_text.specs.declared.parts.Ending.TheVariants.{Done, ReadFault, Limit, Fault}
-use Rattle.trace_runner.specs.declared.intake.TheConstants.{PACKET_LIMIT}
+
+-- how many packets a run serves at most
+abbrev pub packet_limit : ℕ
+packet_limit = 20000
 
 -- the captured bytes of each record
 abbrev pub packets_of : List Saved → List (List ℕ)
@@ -14,23 +17,26 @@ packets_of records = map (λ saved. saved.packet) records
 -- the bytes are a capture with this ending, with no more records than are served, which are these packets
 abbrev pub HoldsPackets : List ℕ → List (List ℕ) → Result ℕ CaptureFault → Type 0
 HoldsPackets bytes packets ending =
-    (records : List Saved) × Capture bytes records ending × (length records ≤ PACKET_LIMIT) × (packets ≡ packets_of records)
+    (records : List Saved) × Capture bytes records ending × (length records ≤ packet_limit)
+    × (packets ≡ packets_of records)
 
 -- the bytes are a capture of more records than are served, and these packets are those that are
 abbrev pub HoldsMore : List ℕ → List (List ℕ) → Type 0
 HoldsMore bytes packets =
-    (records : List Saved) × (ending : Result ℕ CaptureFault) × Capture bytes records ending × (PACKET_LIMIT < length records)
-    × (packets ≡ packets_of (take PACKET_LIMIT records))
+    (records : List Saved) × (ending : Result ℕ CaptureFault) × Capture bytes records ending
+    × (packet_limit < length records)
+    × (packets ≡ packets_of (take packet_limit records))
 
 -- of the bytes some were taken, and these packets are those that are whole in them
 abbrev pub HoldsTaken : List ℕ → Option (List ℕ) → List (List ℕ) → Type 0
 HoldsTaken bytes left packets =
-    (taken : List ℕ) × (others : List ℕ) × (ending : Result ℕ CaptureFault) × (bytes ≡ taken ++ others) × (left ≡ Some others)
+    (taken : List ℕ) × (others : List ℕ) × (ending : Result ℕ CaptureFault) × (bytes ≡ taken ++ others)
+    × (left ≡ Some others)
     × HoldsPackets taken packets ending
 
 -- Of an input with these bytes, of which these are left, these packets are served, and so it ended.
 abbrev pub Serves : List ℕ → Option (List ℕ) → List (List ℕ) → Ending → Type 0
 Serves bytes left packets (Done rest) = HoldsPackets bytes packets (Ok rest) × (left ≡ Some [])
 Serves bytes left packets (Fault fault) = HoldsPackets bytes packets (Err fault)
-Serves bytes left packets (Limit limit) = HoldsMore bytes packets × (limit ≡ PACKET_LIMIT)
+Serves bytes left packets (Limit limit) = HoldsMore bytes packets × (limit ≡ packet_limit)
 Serves bytes left packets ReadFault = HoldsTaken bytes left packets

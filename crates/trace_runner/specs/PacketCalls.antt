@@ -19,5 +19,6 @@ numbered number None = []
 abbrev pub MakeCalls : ℕ → List (List ℕ) → List (ℕ × Call) → Type 0
 MakeCalls number [] calls = calls ≡ []
 MakeCalls number (packet ∷ packets) calls =
-    (made : Option Call) × (others : List (ℕ × Call)) × MakesCall number packet made × MakeCalls (suc number) packets others
+    (made : Option Call) × (others : List (ℕ × Call)) × MakesCall number packet made
+    × MakeCalls (suc number) packets others
     × (calls ≡ numbered number made ++ others)

@@ -16,13 +16,15 @@ use Rattle.trace_runner.specs.Input.{Serves}
 
 -- the bytes still to come are a remainder with this ending
 abbrev pub EndsWith : Reading → Option (List ℕ) → Result ℕ CaptureFault → Type 0
-EndsWith reading left ending = IfSome (to_come reading left) (λ bytes. IsRemainder reading.order reading.offset bytes ending)
+EndsWith reading left ending = IfSome (to_come reading left)
+    (λ bytes. IsRemainder reading.order reading.offset bytes ending)
 
 -- a reader that stood at `old` met this ending, where its source had `before` left and has `after`
 abbrev pub MeetsEnding : Reading → Reading → Option (List ℕ) → Option (List ℕ) → Ending → Type 0
 MeetsEnding old new before after (Done rest) = EndsWith old before (Ok rest) × (IsSome before → after ≡ Some [])
 MeetsEnding old new before after (Fault fault) = EndsWith old before (Err fault)
-MeetsEnding old new before after ReadFault = IsCut old.order new.pending × Keeps (to_come old before) (to_come new after)
+MeetsEnding old new before after ReadFault =
+    IsCut old.order new.pending × Keeps (to_come old before) (to_come new after)
 MeetsEnding old new before after (Limit limit) = ⊥
 
 -- of the bytes of an input these records have been given out, and the reader stands behind them
@@ -37,7 +39,8 @@ pub record HasRead (bytes : List ℕ) (reading : Reading) (left : Option (List �
 -- what was read of an input with these bytes, of which these are left
 abbrev pub IsIntake : List ℕ → Option (List ℕ) → Intake → Type 0
 IsIntake bytes left intake =
-    (packets : List (List ℕ)) × Serves bytes left packets intake.ending × MakeCalls 1 packets intake.calls.items × (length packets ≡ intake.packets)
+    (packets : List (List ℕ)) × Serves bytes left packets intake.ending × MakeCalls 1 packets intake.calls.items
+    × (length packets ≡ intake.packets)
 
 -- each call's key has a text
 abbrev pub HasTexts : List (ℕ × Call) → Type 0
@@ -45,4 +48,5 @@ HasTexts calls = All (λ call. HasText (key_in call.1)) calls
 
 -- the call that the packet with this number makes stands behind the others, where it makes one
 abbrev pub TakesCall : ℕ → List ℕ → List (ℕ × Call) → List (ℕ × Call) → Type 0
-TakesCall number packet old new = (made : Option Call) × MakesCall number packet made × (new ≡ old ++ numbered number made)
+TakesCall number packet old new = (made : Option Call) × MakesCall number packet made
+    × (new ≡ old ++ numbered number made)

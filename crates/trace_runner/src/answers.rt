@@ -37,7 +37,8 @@ impl Answers {
         requires rules { InRange rules.now }
         requires few { length calls.now < 2 ^ 32 - 1 }
         ensures answered { IfOk result (λ answers. AreAnswered rules.now calls.now answers.records.items) }
-        ensures map { IfOk result (λ answers. answers.map ≡ sessions_after rules.now empty (map answered answers.records.items)) }
+        ensures map { IfOk result (λ answers. answers.map ≡ sessions_after rules.now empty
+            (map answered answers.records.items)) }
     {
         let mut map = PlainMap::new(alloc);
         let mut records = Vec::with_capacity(alloc, calls.len())?;

@@ -1,8 +1,8 @@
 //! The input of a run: its packets' calls, and how it ended.
 
-ghost use Rattle.std.specs.Prelude.{◌≡◌, ◌≤◌, ℕ, List, [], IfOk, IfSome, vec_len};
+ghost use Rattle.std.specs.Prelude.{◌≡◌, ◌≤◌, ℕ, List, [], ◌++◌, Some, IfOk, IfSome, vec_len};
 ghost use Rattle.edge_traits.specs.Edge.{Rose};
-ghost use Rattle.pcap_reader.specs.Reading.{IsAtStart};
+ghost use Rattle.pcap_reader.specs.Reading.{IsAtStart, Took};
 ghost use Rattle.report_text.specs.Report.{IsEnding};
 ghost use Rattle.trace_runner.specs.Endings.{ending_at};
 
@@ -33,11 +33,16 @@ impl Intake {
     ///
     /// Want of memory comes from the reader's buffer or from the list of calls.
     pub fn read<S: Source>(alloc: Global, source: &mut S) -> Result<Intake, AllocError>
-        ensures served { IfOk result (λ intake. IfSome (S.left source.old) (λ bytes. IsIntake bytes (S.left source.new) intake)) }
-        ensures within { IfOk result (λ intake. (vec_len intake.calls ≤ intake.packets) × (intake.packets ≤ PACKET_LIMIT)) }
+        ensures served { IfOk result (λ intake. IfSome (S.left source.old)
+            (λ bytes. IsIntake bytes (S.left source.new) intake)) }
+        ensures took { IfOk result (λ intake. Took (S.left source.old) (S.left source.new) (λ taken.
+            IsIntake taken (Some []) intake)) }
+        ensures within { IfOk result (λ intake. (vec_len intake.calls ≤ intake.packets)
+            × (intake.packets ≤ PACKET_LIMIT)) }
         ensures texts { IfOk result (λ intake. HasTexts intake.calls.items) }
         ensures ending { IfOk result (λ intake. IsEnding intake.ending) }
-        ensures read_fault { IfOk result (λ intake. intake.ending ≡ Ending.ReadFault → Rose (S.faults source.old) (S.faults source.new)) }
+        ensures read_fault { IfOk result (λ intake. intake.ending ≡ Ending.ReadFault →
+            Rose (S.faults source.old) (S.faults source.new)) }
         ensures counted { S.faults source.old ≤ S.faults source.new }
     {
         match Reader::open(alloc, source) {
@@ -69,11 +74,16 @@ impl Intake {
         source: &mut S,
     ) -> Result<Intake, AllocError>
         requires start { IsAtStart reader.old }
-        ensures served { IfOk result (λ intake. (bytes : List ℕ) → HasRead bytes reader.old (S.left source.old) [] → IsIntake bytes (S.left source.new) intake) }
-        ensures within { IfOk result (λ intake. (vec_len intake.calls ≤ intake.packets) × (intake.packets ≤ PACKET_LIMIT)) }
+        ensures served { IfOk result (λ intake. (bytes : List ℕ) → HasRead bytes reader.old (S.left source.old) [] →
+            IsIntake bytes (S.left source.new) intake) }
+        ensures took { IfOk result (λ intake. (front : List ℕ) → HasRead front reader.old (Some []) [] →
+            Took (S.left source.old) (S.left source.new) (λ taken. IsIntake (front ++ taken) (Some []) intake)) }
+        ensures within { IfOk result (λ intake. (vec_len intake.calls ≤ intake.packets)
+            × (intake.packets ≤ PACKET_LIMIT)) }
         ensures texts { IfOk result (λ intake. HasTexts intake.calls.items) }
         ensures ending { IfOk result (λ intake. IsEnding intake.ending) }
-        ensures read_fault { IfOk result (λ intake. intake.ending ≡ Ending.ReadFault → Rose (S.faults source.old) (S.faults source.new)) }
+        ensures read_fault { IfOk result (λ intake. intake.ending ≡ Ending.ReadFault →
+            Rose (S.faults source.old) (S.faults source.new)) }
         ensures counted { S.faults source.old ≤ S.faults source.new }
     {
         every_capture();

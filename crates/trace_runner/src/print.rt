@@ -67,7 +67,8 @@ fn put_outcomes(
 ) -> Result<(), AllocError>
     requires seats { seats ≤ 8 }
     requires keys { All (λ r. HasText (key_in r.call)) records.now }
-    ensures { OnOk result (text.new.items ≡ text.old.items ++ flat_map (λ call. outcome_line seats call.0 call.1) (outcomes_of records.now)) }
+    ensures { OnOk result (text.new.items ≡ text.old.items ++ flat_map (λ call. outcome_line seats call.0 call.1)
+        (outcomes_of records.now)) }
 {
     for record in records {
         outcome_text(alloc, text, seats, record.seat, &Outcome::Answered(*record))?;

@@ -1,9 +1,10 @@
 //! The top call, which does all that the program does.
 
-ghost use Rattle.std.specs.Prelude.{◌≡◌, ◌≤◌, ◌⊎◌, ℕ, List, map, string_bytes, Some, None, IfOk, OnErr, Result};
+ghost use Rattle.std.specs.Prelude.{◌≡◌, ◌≤◌, ◌⊎◌, ℕ, List, [], map, string_bytes, Some, None, IfOk, OnErr, Result};
 ghost use Rattle.std.specs.Io.KnownBytes.{Keeps};
 ghost use Rattle.edge_traits.specs.Edge.{Rose};
 ghost use Rattle.pcap_reader.specs.Capture.{Capture, Saved};
+ghost use Rattle.pcap_reader.specs.Reading.{Took};
 ghost use Rattle.pcap_reader.specs.declared.fault.CaptureFault.{CaptureFault};
 ghost use Rattle.trace_runner.specs.declared.plan.Plan.{Plan};
 ghost use Rattle.trace_runner.specs.Headline.{Leaves, rules_of, status_for};
@@ -36,13 +37,23 @@ pub fn run<R: Threads + Sync, S: Source, K: Sink, G: Gate + Sync>(
 ) -> Status
     // The words ask for a plan, and the source tells its bytes: what is put is the report of the
     // packets that the bytes are a capture of, in one order of all calls with the plain map's replies.
-    ensures headline { (plan : Plan) (bytes : List ℕ) → reads (map string_bytes words.now) ≡ Some plan → S.left source.old ≡ Some bytes →
+    ensures headline { (plan : Plan) (bytes : List ℕ) → reads (map string_bytes words.now) ≡ Some plan →
+        S.left source.old ≡ Some bytes →
         Leaves plan bytes (S.left source.new) (K.put sink.old) (K.put sink.new) result }
 
+    // Told or not: but for want of memory, what is put is the report of the bytes that were taken of the
+    // source, as of a source that told just these, so that these decide which answer it is.
+    ensures took { (plan : Plan) → reads (map string_bytes words.now) ≡ Some plan → (result ≡ Status.Memory)
+        ⊎ Took (S.left source.old) (S.left source.new)
+        (λ taken. Leaves plan taken (Some []) (K.put sink.old) (K.put sink.new) result) }
+
     // Where nothing fails, the capture that the bytes are decides which answer it is, want of memory apart.
-    ensures exact { (plan : Plan) (bytes : List ℕ) (records : List Saved) (ending : Result ℕ CaptureFault) → reads (map string_bytes words.now) ≡ Some plan →
-        S.left source.old ≡ Some bytes → Capture bytes records ending → ¬ Rose (S.faults source.old) (S.faults source.new) →
-        ¬ Rose (K.faults sink.old) (K.faults sink.new) → (result ≡ status_for records ending) ⊎ (result ≡ Status.Memory) }
+    ensures exact { (plan : Plan) (bytes : List ℕ) (records : List Saved) (ending : Result ℕ CaptureFault) →
+        reads (map string_bytes words.now) ≡ Some plan →
+        S.left source.old ≡ Some bytes → Capture bytes records ending →
+        ¬ Rose (S.faults source.old) (S.faults source.new) →
+        ¬ Rose (K.faults sink.old) (K.faults sink.new) →
+        (result ≡ status_for records ending) ⊎ (result ≡ Status.Memory) }
 
     // The words ask for none.
     ensures usage { result ≡ Status.Usage → reads (map string_bytes words.now) ≡ None }
@@ -80,6 +91,8 @@ fn serve<S: Source, K: Sink, G: Gate>(
     requires { IsInRange plan.now }
     ensures headline { IfOk result (λ status. (bytes : List ℕ) → S.left source.old ≡ Some bytes →
         Leaves plan.now bytes (S.left source.new) (K.put sink.old) (K.put sink.new) status) }
+    ensures took { IfOk result (λ status. Took (S.left source.old) (S.left source.new) (λ taken.
+        Leaves plan.now taken (Some []) (K.put sink.old) (K.put sink.new) status)) }
     ensures memory { OnErr result (sink.new ≡ sink.old) }
     ensures read_fault { result ≡ Ok Status.ReadFault → Rose (S.faults source.old) (S.faults source.new) }
     ensures write_fault { result ≡ Ok Status.WriteFault → Rose (K.faults sink.old) (K.faults sink.new) }

@@ -23,10 +23,12 @@ pub enum Status {
 
 impl Status {
     ghost use Rattle.std.specs.Prelude.{◌≡◌};
-    ghost use Rattle.trace_runner.specs.Headline.{status_of};
+    ghost use Rattle.trace_runner.specs.Headline.{code_of, status_of};
 
     /// The program's exit status.
-    pub fn code(self) -> u8 {
+    pub fn code(self) -> u8
+        ensures { result ≡ code_of self }
+    {
         match self {
             Status::Done => 0,
             Status::Memory => 1,

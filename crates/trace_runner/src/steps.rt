@@ -2,7 +2,7 @@
 
 ghost use Rattle.std.specs.Prelude.{◌≡◌, ◌≤◌, ◌<◌, ◌-◌, ◌+◌, ◌^◌, [], ◌∷◌, false, Some, IfSome, IfNone, OnOk, vec_len};
 ghost use Rattle.edge_traits.specs.Edge.{Rose};
-ghost use Rattle.pcap_reader.specs.Reading.{GivesRecord, to_come};
+ghost use Rattle.pcap_reader.specs.Reading.{GivesRecord, Took, to_come};
 ghost use Rattle.report_text.specs.Report.{IsEnding};
 ghost use Rattle.trace_runner.specs.PacketCalls.{MakesCall};
 ghost use Rattle.trace_runner.specs.Reading.{MeetsEnding, HasTexts, TakesCall};
@@ -20,8 +20,13 @@ pub(crate) fn read_on<S: Source>(reader: &mut Reader, source: &mut S) -> Option<
     requires going { reader.old.ended ≡ false }
     requires few { reader.old.given < 2 ^ 32 - 1 }
     ensures packet { IfNone result
-        (GivesRecord reader.old reader.new (to_come reader.old (S.left source.old)) (to_come reader.new (S.left source.new))) }
+        (GivesRecord reader.old reader.new (to_come reader.old (S.left source.old))
+        (to_come reader.new (S.left source.new))) }
     ensures ended { IfSome result (MeetsEnding reader.old reader.new (S.left source.old) (S.left source.new)) }
+    ensures took { IfNone result (Took (S.left source.old) (S.left source.new) (λ taken.
+        GivesRecord reader.old reader.new (to_come reader.old (Some taken)) (to_come reader.new (Some [])))) }
+    ensures took_end { IfSome result (λ ending. Took (S.left source.old) (S.left source.new) (λ taken.
+        MeetsEnding reader.old reader.new (Some taken) (Some []) ending)) }
     ensures ending { IfSome result IsEnding }
     ensures read_fault { result ≡ Some Ending.ReadFault → Rose (S.faults source.old) (S.faults source.new) }
     ensures counted { S.faults source.old ≤ S.faults source.new }

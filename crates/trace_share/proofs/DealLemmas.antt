@@ -15,7 +15,8 @@ unfoldable pub calls_until : Share → ℕ → List (ℕ × Call) → ℕ → �
 calls_until share seats calls i seat =
     map (λ placed. placed.1) (filter (makes share seats (length calls) seat) (take i (enumerate_from 0 calls)))
 
-map_nothing : {X : Type 0} (from n : ℕ) → replicate n [] ≡ map (λ (seat : ℕ). let none : List X = [] in none) (range_with_len from n)
+map_nothing : {X : Type 0} (from n : ℕ) → replicate n [] ≡ map (λ (seat : ℕ). let none : List X = [] in none)
+    (range_with_len from n)
 map_nothing from zero = refl
 map_nothing from (suc n) = ap (λ lists. [] ∷ lists) (map_nothing (from + 1) n)
 

@@ -42,7 +42,8 @@ flat_map_same f g a zero same = refl
 flat_map_same f g a (suc n) same =
     ap (λ front. front ++ flat_map f (range_with_len (a + 1) n)) (same a (omega arith) (omega arith))
     ∙ ap (λ rest. g a ++ rest)
-    (flat_map_same f g (a + 1) n (λ (s : ℕ) (low : a + 1 ≤ s) (high : s < a + 1 + n). same s (omega arith) (omega arith)))
+    (flat_map_same f g (a + 1) n (λ (s : ℕ) (low : a + 1 ≤ s) (high : s < a + 1 + n). same s (omega arith)
+    (omega arith)))
 
 flat_map_nothing : {X : Type 0} (a n : ℕ) → flat_map (λ s. let none : List X = [] in none) (range_with_len a n) ≡ []
 flat_map_nothing {X = X} a zero = refl
@@ -152,8 +153,10 @@ makes_all share c place [] within = tt
 makes_all share c place (call ∷ calls) within =
     let one : PassesOnce 1 (λ (s : ℕ). makes share 1 c s (place, call)) =
     one_makes share 1 c place call (omega arith) (omega arith) in
-    let below : one.seat < 1 = one.below in
-    (one.alone 0 (omega arith) ∙ same_is one.seat 0 (omega (arith, below)), makes_all share c (place + 1) calls (omega arith))
+    let below : one.seat < 1 = one.below in (
+      one.alone 0 (omega arith) ∙ same_is one.seat 0 (omega (arith, below)),
+      makes_all share c (place + 1) calls (omega arith),
+    )
 
 pub one_seat_makes_all : OneSeatMakesAll
 unfolding dealt calls_of

@@ -9,7 +9,12 @@ overflow_cast-number c =
     let n : ℕ → ℕ = read_applied c.args.desk.now.seats c.args.desk.now.rows c.args.words.now c.args.new in
     let s : ℕ = c.seats.seat in
     let rises : o (s - 1) < n (s - 1) = omega (arith, c.row_word.ensures, c.row_word-number.ensures) in
-    omega (arith, number_small o n s c.args.desk.now.seats c.seats-test.true c.seats.invariant.few rises c.requires.small, c.row_word-number.ensures)
+    omega (
+      arith,
+      number_small o n s c.args.desk.now.seats c.seats-test.true c.seats.invariant.few rises
+          c.requires.small,
+      c.row_word-number.ensures,
+    )
 
 pub push_reserved-requires : goal.push_reserved-requires
 push_reserved-requires c =
@@ -41,8 +46,10 @@ seats-preserved-then-row_word-number c =
     record {
       few = omega (arith, c.seats.invariant.few);
       items = c.push_reserved.ensures.items ∙ ap (λ k. c.seats.out.items ++ entry k ∷ []) c.row_word-number.ensures
-          ∙ ap (λ xs. xs ++ entry (n (s - 1)) ∷ []) c.seats.invariant.items ∙ append_assoc out before (entry (n (s - 1)) ∷ [])
-          ∙ ap (λ xs. out ++ xs) (sym (pushed o n s c.args.desk.now.seats c.seats-test.true c.seats.invariant.few rises));
+          ∙ ap (λ xs. xs ++ entry (n (s - 1)) ∷ []) c.seats.invariant.items
+          ∙ append_assoc out before (entry (n (s - 1)) ∷ [])
+          ∙ ap (λ xs. out ++ xs) (sym (pushed o n s c.args.desk.now.seats c.seats-test.true c.seats.invariant.few
+          rises));
       room = c.push_reserved.ensures.capacity ∙ c.seats.invariant.room;
     }
 
@@ -55,6 +62,7 @@ seats-preserved c =
     let out : List Entry = c.args.out.now.items in
     record {
       few = omega (arith, c.seats.invariant.few);
-      items = c.seats.invariant.items ∙ ap (λ xs. out ++ xs) (sym (passed o n s c.args.desk.now.seats c.seats-test.true c.seats.invariant.few stays));
+      items = c.seats.invariant.items ∙ ap (λ xs. out ++ xs)
+          (sym (passed o n s c.args.desk.now.seats c.seats-test.true c.seats.invariant.few stays));
       room = c.seats.invariant.room;
     }

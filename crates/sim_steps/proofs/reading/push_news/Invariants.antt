@@ -7,7 +7,8 @@ invariant-seats l =
     record {
       few : l.seat ≤ l.desk.seats;
       items : l.out.items ≡ l.initial.out.items
-          ++ reverse (news (read_applied l.desk.seats l.desk.rows l.words l.old) (read_applied l.desk.seats l.desk.rows l.words l.new) l.seat (l.desk.seats - l.seat));
+          ++ reverse (news (read_applied l.desk.seats l.desk.rows l.words l.old)
+          (read_applied l.desk.seats l.desk.rows l.words l.new) l.seat (l.desk.seats - l.seat));
       room : vec_capacity l.out ≡ vec_capacity l.initial.out;
     }
 

@@ -9,7 +9,9 @@ push_news-requires-clause-room c =
     let d = c.args.desk.now in
     let b : ℕ = c.row_word-base.result in
     let some : 0 < b = omega (arith, c.row_word-base.ensures, c.row_word.ensures) in
-    let r = back_room d.seats d.rows c.args.words.now c.rows.more c.rows.row b c.rows-test.true c.row_word-base.ensures some (read_order d.seats d.rows c.args.words.now) c.rows.out.items c.rows.invariant.order in
+    let r = back_room d.seats d.rows c.args.words.now c.rows.more c.rows.row b c.rows-test.true
+    c.row_word-base.ensures some (read_order d.seats d.rows c.args.words.now) c.rows.out.items
+    c.rows.invariant.order in
     omega (arith, r, c.rows.out.ok.0, c.requires.room, c.rows.invariant.room)
 
 pub push_news-requires-clause-small : goal.push_news-requires-clause-small
@@ -17,7 +19,8 @@ push_news-requires-clause-small c =
     let d = c.args.desk.now in
     let b : ℕ = c.row_word-base.result in
     let some : 0 < b = omega (arith, c.row_word-base.ensures, c.row_word.ensures) in
-    back_small d.seats d.rows c.args.words.now c.rows.more c.rows.row b c.rows-test.true c.row_word-base.ensures some (λ entry. entry.1 < 2 ^ 32) (read_order d.seats d.rows c.args.words.now) c.rows.out.items
+    back_small d.seats d.rows c.args.words.now c.rows.more c.rows.row b c.rows-test.true c.row_word-base.ensures some
+    (λ entry. entry.1 < 2 ^ 32) (read_order d.seats d.rows c.args.words.now) c.rows.out.items
     c.rows.invariant.order c.requires.small
 
 pub rows-preserved : goal.rows-preserved
@@ -26,8 +29,11 @@ rows-preserved c =
     let b : ℕ = c.row_word-base.result in
     let some : 0 < b = omega (arith, c.row_word-base.ensures, c.row_word.ensures) in
     record {
-      order = back_order d.seats d.rows c.args.words.now c.rows.more c.rows.row b c.rows-test.true c.row_word-base.ensures some (read_order d.seats d.rows c.args.words.now) c.rows.out.items c.rows.invariant.order
-          ∙ ap (λ xs. read_order_to d.seats d.rows c.args.words.now (c.rows.more - 1) (b - 1) ++ reverse xs) (sym c.push_news.ensures.items);
+      order = back_order d.seats d.rows c.args.words.now c.rows.more c.rows.row b c.rows-test.true
+          c.row_word-base.ensures some (read_order d.seats d.rows c.args.words.now) c.rows.out.items
+          c.rows.invariant.order
+          ∙ ap (λ xs. read_order_to d.seats d.rows c.args.words.now (c.rows.more - 1) (b - 1) ++ reverse xs)
+          (sym c.push_news.ensures.items);
       room = c.push_news.ensures.capacity ∙ c.rows.invariant.room;
     }
 
@@ -35,5 +41,10 @@ pub returns : goal.returns
 returns c =
     let d = c.args.desk.now in
     let done : read_order_to d.seats d.rows c.args.words.now c.rows.more c.rows.row ≡ [] =
-    order_end d.seats d.rows c.args.words.now c.rows.more c.rows.row (λ h k. elim c.rows-test.branch [ then-rows-test+else-row_word-gt0 w ↦ omega (arith, w, k) | else-rows-test w ↦ omega (arith, w, h) ]) in
+    order_end d.seats d.rows c.args.words.now c.rows.more c.rows.row
+    (λ h k. elim c.rows-test.branch [
+      | then-rows-test+else-row_word-gt0 w ↦ omega
+          (arith, w, k)
+      | else-rows-test w ↦ omega (arith, w, h)
+    ]) in
     c.reverse.ensures.items ∙ sym (c.rows.invariant.order ∙ ap (λ xs. xs ++ reverse c.rows.out.items) done)

@@ -5,7 +5,8 @@ use Rattle.sim_steps.proofs.reading.read_order_into.Given as goal
 abbrev pub invariant-rows : goal.invariant-rows
 invariant-rows l =
     record {
-      order : read_order l.desk.seats l.desk.rows l.words ≡ read_order_to l.desk.seats l.desk.rows l.words l.more l.row ++ reverse l.out.items;
+      order : read_order l.desk.seats l.desk.rows l.words ≡ read_order_to l.desk.seats l.desk.rows l.words l.more
+          l.row ++ reverse l.out.items;
       room : vec_capacity l.out ≡ vec_capacity l.initial.out;
     }
 

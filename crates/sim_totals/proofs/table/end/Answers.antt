@@ -11,8 +11,11 @@ pub returns-clause-left : goal.returns-clause-left
 returns-clause-left c =
     let k : Settings = plain c.args.table.shared.key in
     let t : TableValue = record { table_id = c.args.table.shared.table_id; settings = k } in
-    let all : length c.args.adders.items ≡ seats_of k = omega (arith, c.args.adders.ok.0, c.requires.all, ap (λ d. d.seats) c.requires.desk) in
+    let all : length c.args.adders.items ≡ seats_of k =
+    omega (arith, c.args.adders.ok.0, c.requires.all, ap (λ d. d.seats) c.requires.desk) in
     let left : Left k (slots_items c.close_with-closed.result.words) c.args.adders.items =
-    ends k t c.gather-token.result.id c.args.adders.items c.gather-token.result (slots_items c.close_with-closed.result.words) (slots_items c.close_with-closed.result.slots) all c.gather-token.ensures
+    ends k t c.gather-token.result.id c.args.adders.items c.gather-token.result
+    (slots_items c.close_with-closed.result.words) (slots_items c.close_with-closed.result.slots) all
+    c.gather-token.ensures
     c.close_with-closed.ensures.values.2 in
     subst (λ (ws : List ℕ). Left k ws c.args.adders.items) (sym c.read_all.ensures) left

@@ -11,8 +11,13 @@ loop-adder-init c =
     let d : TableValue = record { table_id = c.args.words.now.table_id; settings = plain c.args.words.now.key } in
     let xs : List AdderValue = c.pop.new.self.items in
     let e : c.args.adders.items ≡ xs ++ c.in-Some.last ∷ [] = c.in-Some.ensures.items in
-    let o = all_of-end d xs c.in-Some.last (subst (All (IsOf d)) e c.requires.adders) in
-    (c.in-Some.last ∷ [], e, o.0, gathers_first d c.in-Some.last c.unseated-token.result o.1.table o.1.settings c.unseated-token.ensures.table c.unseated-token.ensures.me)
+    let o = all_of-end d xs c.in-Some.last (subst (All (IsOf d)) e c.requires.adders) in (
+      c.in-Some.last ∷ [],
+      e,
+      o.0,
+      gathers_first d c.in-Some.last c.unseated-token.result o.1.table o.1.settings
+          c.unseated-token.ensures.table c.unseated-token.ensures.me,
+    )
 
 pub join_seat-requires : goal.join_seat-requires
 join_seat-requires c =
@@ -21,8 +26,14 @@ join_seat-requires c =
     let x : AdderValue = c.in-Some-pop.adder in
     let e : c.loop-adder.adders.items ≡ xs ++ x ∷ [] = c.in-Some-pop.ensures.items in
     let o = all_of-end d xs x (subst (All (IsOf d)) e c.loop-adder.invariant.2) in
-    let h : HasAll d c.loop-adder.invariant.0 c.loop-adder.token = c.loop-adder.invariant.3 in
-    (h.table, c.unseated.ensures.table ∙ o.1.table, ap (λ m. m.1) c.unseated.ensures.me, c.requires.table, joins (plain c.args.words.now.key) _ _ _ _ (ap (λ m. m.0.settings) c.unseated.ensures.me ∙ o.1.settings ∙ sym (ap (λ m. m.0.settings) h.me)))
+    let h : HasAll d c.loop-adder.invariant.0 c.loop-adder.token = c.loop-adder.invariant.3 in (
+      h.table,
+      c.unseated.ensures.table ∙ o.1.table,
+      ap (λ m. m.1) c.unseated.ensures.me,
+      c.requires.table,
+      joins (plain c.args.words.now.key) _ _ _ _
+          (ap (λ m. m.0.settings) c.unseated.ensures.me ∙ o.1.settings ∙ sym (ap (λ m. m.0.settings) h.me)),
+    )
 
 pub loop-adder-preserved : goal.loop-adder-preserved
 loop-adder-preserved c =
@@ -36,5 +47,6 @@ loop-adder-preserved c =
       x ∷ done,
       c.loop-adder.invariant.1 ∙ ap (λ (ys : List AdderValue). ys ++ done) e ∙ l,
       o.0,
-      gathers d done x c.loop-adder.token c.unseated.result c.join_seat.new.seat c.loop-adder.invariant.3 o.1.settings c.unseated.ensures.me c.join_seat.ensures.0 c.join_seat.ensures.2,
+      gathers d done x c.loop-adder.token c.unseated.result c.join_seat.new.seat c.loop-adder.invariant.3
+          o.1.settings c.unseated.ensures.me c.join_seat.ensures.0 c.join_seat.ensures.2,
     )

@@ -8,7 +8,8 @@ use Rattle.sim_totals.proofs.tests.met.Goals as goal
 
 pub workers_of-requires-clause-count : goal.workers_of-requires-clause-count
 workers_of-requires-clause-count g c =
-    All-same (λ (room : ℕ). room ≡ c.args.count) c.in_ok-table.table.settings.adds c.args.adds.now (ap (λ (q : Settings). q.adds) c.in_ok-table.ensures.settings) c.requires.count
+    All-same (λ (room : ℕ). room ≡ c.args.count) c.in_ok-table.table.settings.adds c.args.adds.now
+    (ap (λ (q : Settings). q.adds) c.in_ok-table.ensures.settings) c.requires.count
 
 -- a list that was written whole
 written : {X : Type 0} (n : ℕ) (xs ys : List X) → length ys ≡ n → take n (ys ++ xs) ≡ ys
@@ -17,8 +18,22 @@ written n xs ys long = take-append-le n ys xs (omega arith) ∙ take_all n ys (o
 pub parts_of-requires : goal.parts_of-requires
 parts_of-requires g c =
     let ys : List Worker = c.all_work.new.workers in
-    let long : length ys ≡ c.in_ok-workers.workers.len = omega (arith, c.all_work.auto.workers, ap (length {A = Worker}) c.as_mut_slice.ensures.value, c.in_ok-workers.workers.ok.0) in
-    All-same (λ (w : Worker). IsOf c.in_ok-table.table w.adder) _ ys (written c.in_ok-workers.workers.len (drop (length ys) c.in_ok-workers.workers.items) ys long) c.all_work.ensures
+    let long : length ys ≡ c.in_ok-workers.workers.len =
+    omega (
+      arith,
+      c.all_work.auto.workers,
+      ap (length {A = Worker}) c.as_mut_slice.ensures.value,
+      c.in_ok-workers.workers.ok.0,
+    ) in
+    All-same (λ (w : Worker). IsOf c.in_ok-table.table w.adder) _ ys
+    (written c.in_ok-workers.workers.len (drop (length ys) c.in_ok-workers.workers.items) ys long)
+    c.all_work.ensures
 
 pub close-requires-clause-all : goal.close-requires-clause-all
-close-requires-clause-all g c = omega (arith, c.in_ok-adders.ensures.count, c.in_ok-workers.ensures.count, c.in_ok-table.ensures.count, ap seats_of c.in_ok-table.ensures.settings)
+close-requires-clause-all g c = omega (
+  arith,
+  c.in_ok-adders.ensures.count,
+  c.in_ok-workers.ensures.count,
+  c.in_ok-table.ensures.count,
+  ap seats_of c.in_ok-table.ensures.settings,
+)

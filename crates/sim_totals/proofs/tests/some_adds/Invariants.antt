@@ -4,4 +4,8 @@ use Rattle.sim_steps.specs.Totals.{IsAdd}
 use Rattle.sim_totals.proofs.tests.some_adds.Given as goal
 
 abbrev pub invariant-loop-packet : goal.invariant-loop-packet
-invariant-loop-packet l = record { adds : All IsAdd l.adds.items; len : vec_len l.adds ≡ l.packet; room : vec_capacity l.adds ≡ l.fn.count }
+invariant-loop-packet l = record {
+  adds : All IsAdd l.adds.items;
+  len : vec_len l.adds ≡ l.packet;
+  room : vec_capacity l.adds ≡ l.fn.count;
+}

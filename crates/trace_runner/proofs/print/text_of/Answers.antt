@@ -14,9 +14,12 @@ returns c =
     five_parts _ _ _ _ _ _ _ _ _ _ _
     c.new-text.ensures.items
     (c.in_ok-head_text.ensures.appended ∙ ap (λ h. c.new-text.result.items ++ head_line h) c.head_of.ensures)
-    (c.in_ok-put_outcomes.ensures ∙ ap (λ rs. c.head_text.new.out.items ++ flat_map (λ call. outcome_line plan.seats call.0 call.1) (outcomes_of rs)) c.deref.ensures.value)
+    (c.in_ok-put_outcomes.ensures ∙ ap (λ rs. c.head_text.new.out.items
+    ++ flat_map (λ call. outcome_line plan.seats call.0 call.1) (outcomes_of rs)) c.deref.ensures.value)
     (c.in_ok-order_text.ensures.appended ∙ ap (λ ids. c.put_outcomes.new.text.items ++ order_lines ids)
-    (c.deref-3.ensures.value ∙ c.in_ok-order.ensures ∙ ap (map (λ r. id_of (answered r))) c.deref-2.ensures.value ∙ sym (ids_of-answered records)))
+    (c.deref-3.ensures.value ∙ c.in_ok-order.ensures ∙ ap (map (λ r. id_of (answered r))) c.deref-2.ensures.value
+    ∙ sym (ids_of-answered records)))
     (c.in_ok-put_sessions.ensures ∙ ap (λ ps. c.order_text.new.out.items ++ flat_map session_line ps) c.pairs.ensures)
     (c.in_ok-tail_text.ensures.appended ∙ ap (λ t. c.put_sessions.new.text.items ++ tail_lines t) c.tail_of.ensures)
-    ∙ sym (report_of-run plan c.args.intake.now.packets records (map answered records) c.args.answers.now.map c.args.intake.now.ending)
+    ∙ sym (report_of-run plan c.args.intake.now.packets records
+    (map answered records) c.args.answers.now.map c.args.intake.now.ending)

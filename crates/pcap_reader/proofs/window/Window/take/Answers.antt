@@ -10,5 +10,11 @@ returns c =
     let count = c.args.count in
     let same : _ ≡ c.args.self.now.unread = ap (λ (h : Held). h.unread) c.self.view_is in
     let inside : w.end ≤ length w.buf.items = omega (arith, c.self.invariant.end, w.buf.ok.0) in
-    let within : w.start + count ≤ w.end = omega (arith, c.requires, ap length same, length-between w.buf.items w.start w.end inside) in
-    make_held _ _ _ _ (range_front w.buf.items w.start w.end count within ∙ ap (take count) same) (range_rest w.buf.items w.start w.end count ∙ ap (drop count) same)
+    let within : w.start + count ≤ w.end = omega (
+      arith,
+      c.requires,
+      ap length same,
+      length-between w.buf.items w.start w.end inside,
+    ) in
+    make_held _ _ _ _ (range_front w.buf.items w.start w.end count within ∙ ap (take count) same)
+    (range_rest w.buf.items w.start w.end count ∙ ap (drop count) same)

@@ -12,7 +12,8 @@ returns-clause-sooner c =
     let m : Machine = machine_of c.self.inside.program in
     let same : m ≡ c.args.self.now = c.self.view_is in
     let busy : m.phase ≢ Idle = λ h. c.requires (ap (λ (x : Machine). x.phase) (sym same) ∙ h) in
-    let less : left (takes m c.args.word) + 1 ≤ left m = left_less m.desk m.caller c.args.word m.phase c.self.invariant.fit.short busy in
+    let less : left (takes m c.args.word) + 1 ≤ left m =
+    left_less m.desk m.caller c.args.word m.phase c.self.invariant.fit.short busy in
     subst (λ x. left (machine_of c.take.new.self) + 1 ≤ left x) same
     (subst (λ x. left x + 1 ≤ left m) (sym c.take.ensures.value) less)
 
