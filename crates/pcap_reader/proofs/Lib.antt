@@ -1,6 +1,7 @@
 pub mod CaptureFacts
 pub mod EveryCapture
 pub mod MadeLemmas
+pub mod MakingLemmas
 pub mod OneCapture
 pub mod ReaderFacts
 pub mod WindowFacts
