@@ -5,14 +5,10 @@ use Rattle.std.specs.Prelude.{ℕ, ◌+◌, ◌*◌, ◌/◌, ◌%◌, ◌^◌, 
 use Rattle.std.specs.List.{flat_map, range_with_len}
 use Rattle.byteorder.specs.Endian.{little_bytes, big_bytes}
 use Rattle.hash_bits.specs.Spread.{spread}
+use Rattle.pcap_reader.specs.declared.made.Side.{Side}
 use Rattle.pcap_reader.specs.Capture.{microseconds}
 
 -- ---- frames
-
--- one side of a flow
-pub record Side : Type 0 where
-  pub address : ℕ
-  pub port : ℕ
 
 -- the head of a frame that carries IPv4: both addresses are this project's own, of cards that it administers itself
 abbrev pub ethernet : List ℕ
@@ -75,7 +71,7 @@ flags_by kind = if nat_lt kind 2 then 0x02 else (if nat_lt kind 3 then 0x11 else
 abbrev pub flags_in : ℕ → ℕ
 flags_in draw = flags_by (draw / 2 ^ 16 % 8)
 
-abbrev pub frame_in : ℕ → List ℕ
+unfoldable pub frame_in : ℕ → List ℕ
 frame_in draw =
     if nat_lt (flow_in draw) udp_flows then udp_frame (sides_in draw).0 (sides_in draw).1
     else tcp_frame (flags_in draw) (sides_in draw).0 (sides_in draw).1
