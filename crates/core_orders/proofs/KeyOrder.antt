@@ -62,7 +62,10 @@ first_below p ps sorted distinct = below_from p.key ps (λ k d h.
 
 -- the others are sorted
 sorted_tail : (p : Pair) (ps : List Pair) → IsSorted (p ∷ ps) → IsSorted ps
-sorted_tail p ps sorted k d low high = sorted (suc k) d (omega arith) (omega arith)
+sorted_tail p ps sorted k d low high =
+    let next : suc k + 1 ≡ suc (k + 1) = omega arith in
+    subst (λ n. is_lt (key_cmp (get_or (p ∷ ps) n d).key (get_or ps k d).key) ≡ false) next
+    (sorted (suc k) d (omega arith) (omega arith))
 
 -- so such pairs are in key order
 pub in_key_order : (ps : List Pair) → IsSorted ps → HasDistinctKeys ps → IsInKeyOrder ps

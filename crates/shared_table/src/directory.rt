@@ -4,7 +4,6 @@ ghost use Rattle.std.specs.Prelude.{◌≡◌, ℕ, ◌<◌, ◌^◌, [], All, E
 ghost use Rattle.plain_map.specs.declared.leaves.OpenFault.TheVariants.{NoRoom};
 ghost use Rattle.bucket_states.specs.Parts.{HasDistinctKeys};
 ghost use Rattle.word_rows.specs.Shape.{AreBelow};
-ghost use Rattle.std.specs.Mem.Slots.{IsFull, slots_items, slots_len};
 ghost use Rattle.word_rows.specs.Places.{word_count};
 ghost use Rattle.word_rows.specs.LayoutView.{shape_of};
 ghost use Rattle.core_model.specs.Setup.{IsFirstWithoutRoom, IsPair, IsSetup, rules_of, seats_of};
@@ -16,12 +15,14 @@ ghost use Rattle.shared_table.specs.Openings.{setup_of};
 ghost use Rattle.shared_table.specs.Gathered.{HasAll};
 
 use crate::closed::ClosedRows;
+use crate::in_place::ClosedTable;
 use crate::opening::first_words;
 use crate::rule::{Deal, Gather, OneRun, Plan};
 use crate::running::{Token, Words};
 use crate::seat::{Seat, seated, unseated};
 use crate::view::View;
-use atomic_table::{Closed, Table};
+use atomic_table::Table;
+use closed_words::Words as ClosedWords;
 use hash_bits::Hashing;
 use plain_map::{OpenFault, Pair};
 use seat_machine::Room;
@@ -109,12 +110,11 @@ fn gather(words: &Words, mut seats: Vec<Seat>) -> Token
 }
 
 // All words of a closed table.
-fn read_all(closed: &Closed<(), Global>, count: usize, out: &mut Vec<u64>)
-    requires words { (slots_len closed.now.words ≡ count) × IsFull closed.now.words }
-    requires out { (out.old.items ≡ []) × (vec_capacity out.old ≡ count) }
-    ensures { out.new.items ≡ slots_items closed.now.words }
+fn read_all(closed: &ClosedTable, out: &mut Vec<u64>)
+    requires out { (out.old.items ≡ []) × (vec_capacity out.old ≡ length closed.now.words) }
+    ensures { out.new.items ≡ closed.now.words }
 {
-    for i in 0..count {
+    for i in 0..closed.count() {
         out.push_reserved(closed.word(i));
     }
 }
@@ -200,16 +200,31 @@ impl Directory {
         ensures ran { IfOk result (λ rows. Ran self.setup rows.words.items seats.items) }
         ensures layout { IfOk result (λ rows. shape_of rows.layout ≡ self.setup.shape) }
     {
-        let count = self.layout.words() as usize;
-        let mut words = match Vec::with_capacity(alloc, count) {
+        let mut words = match Vec::with_capacity(alloc, self.layout.words() as usize) {
             Ok(words) => words,
             Err(failed) => return Err((failed, self, seats)),
         };
+        let closed = self.close_in_place(seats);
+        read_all(&closed, &mut words);
+        let layout = *closed.layout();
+        Ok(ClosedRows { layout, words })
+    }
+
+    /// Ends the run, and leaves its words where they stand. It takes all seats of the table, in any order, and no memory.
+    pub fn close_in_place(self, seats: Vec<Seat>) -> ClosedTable
+        requires seats { All (IsOf self) seats.items }
+        requires all { vec_len seats ≡ seats_of self.setup }
+        ensures ran { Ran self.setup result.words seats.items }
+        ensures shape { result.shape ≡ self.setup.shape }
+        ensures count { length result.words ≡ word_count self.setup.shape }
+    {
+        let count = self.layout.words() as usize;
         let Directory { table, layout } = self;
         let token = gather(&table.shared, seats);
-        let closed = table.close_with(token);
-        read_all(&closed, count, &mut words);
-        closed.free();
-        Ok(ClosedRows { layout, words })
+        ClosedTable {
+            layout,
+            table: table.close_with(token),
+            count,
+        }
     }
 }

@@ -4,6 +4,7 @@
 mod caller;
 mod closed;
 mod directory;
+mod in_place;
 mod opening;
 mod rule;
 mod running;
@@ -13,6 +14,7 @@ mod view;
 pub use caller::Caller;
 pub use closed::ClosedRows;
 pub use directory::Directory;
+pub use in_place::ClosedTable;
 pub use running::Running;
 pub use seat::Seat;
 

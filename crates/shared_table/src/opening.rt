@@ -21,12 +21,10 @@ ghost use Rattle.shared_table.specs.Rule.{plain};
 use crate::rule::Plan;
 use dir_states::{DirState, NewLeaf, Opening, opening};
 use plain_map::{BucketRow, OpenFault, Rules};
+use seat_machine::MOST_WORDS;
 use std::alloc::{AllocError, Global};
 use step_counts::{DIRECTORY_HEAD_WORDS, bucket_row_words};
 use word_rows::{Layout, place_laws};
-
-// The most words that a bucket row has.
-const MOST_WORDS: usize = 69;
 
 // Writes a row from this place on.
 fn put_row(words: &mut [u64], start: usize, row: &[u64])
