@@ -1,5 +1,5 @@
 -- Pairs with distinct keys that are sorted by them: they are in key order, and so the pairs of what they hold.
-use Rattle.std.proofs.Common.{◌≡◌, ℕ, zero, suc, ◌+◌, ◌<◌, ◌≤◌, Bool, true, false, cond, List, [], ◌∷◌, map, length, get_or, Some, refl, sym, ap, ◌∙◌, subst, arith}
+use Rattle.std.proofs.Common.{◌≡◌, ℕ, suc, ◌+◌, ◌<◌, Bool, true, false, cond, List, [], ◌∷◌, map, length, get_or, Some, refl, sym, ap, ◌∙◌, subst, arith}
 use Rattle.std.specs.Prelude.{T, ◌&&◌, IsPermutation}
 use Rattle.std.specs.List.{IsDistinct}
 use Rattle.std.specs.List.Sorted.{IsSortedByKey}
@@ -20,7 +20,6 @@ use Rattle.plain_map.proofs.SessionLemmas.{get-sessions_of, pairs_of-sessions_of
 use Rattle.bucket_states.specs.Items.{same_key, value_at}
 use Rattle.bucket_states.specs.Parts.{HasDistinctKeys}
 use Rattle.bucket_states.proofs.KeyTests.{Decides-same_key, eq_by_cmp-same_key, same_key-equiv}
-use Rattle.core_placing.proofs.Lists.{In}
 use Rattle.core_reading.proofs.HeldPairs.{apart_from}
 use Rattle.core_orders.proofs.Calls.{in_at}
 use Rattle.core_orders.proofs.Reopened.{keys_apart, value_is}

@@ -1,13 +1,12 @@
 //! The most that the settings of any table allow: the rooms of fixed size, and what a call's parts are bounded by.
 
 use plain_map::MOST_SEATS;
-use step_counts::{
-    BUCKET_HEAD_WORDS, ITEM_WORDS, MOST_DEPTH, MOST_ITEMS, OP_WORDS, SEAT_WORDS,
-};
+use step_counts::{BUCKET_HEAD_WORDS, ITEM_WORDS, MOST_DEPTH, MOST_ITEMS, OP_WORDS, SEAT_WORDS};
 
 /// The most words of a bucket row.
-pub const MOST_WORDS: usize =
-    BUCKET_HEAD_WORDS + ITEM_WORDS * MOST_ITEMS as usize + SEAT_WORDS * MOST_SEATS;
+pub const MOST_WORDS: usize = BUCKET_HEAD_WORDS
+    + ITEM_WORDS * MOST_ITEMS as usize
+    + SEAT_WORDS * MOST_SEATS;
 
 /// The most leaves that a directory change has room for: of each seat a bucket's two parts and a leaf for each split, and one.
 pub(crate) const MOST_LEAVES: usize = MOST_SEATS * (MOST_DEPTH as usize + 2) + 1;

@@ -80,6 +80,7 @@ pub record Ran (setup : Setup) (words : List ℕ) (seats : List SeatValue) : Typ
 abbrev pub new_seat : TableValue → (seat : ℕ) → SeatValue
 new_seat t seat = record { table_id = t.table_id; holding = fresh t.setup seat }
 
+-- and so many from one on
 abbrev pub new_seats : TableValue → (seat many : ℕ) → List SeatValue
 new_seats t seat zero = []
 new_seats t seat (suc many) = new_seat t seat ∷ new_seats t (suc seat) many

@@ -7,24 +7,28 @@ ghost use Rattle.word_rows.specs.Shape.{AreBelow};
 ghost use Rattle.word_rows.specs.Places.{word_count};
 ghost use Rattle.word_rows.specs.LayoutView.{shape_of};
 ghost use Rattle.core_model.specs.Setup.{IsFirstWithoutRoom, IsPair, IsSetup, rules_of, seats_of};
-ghost use Rattle.core_model.specs.Worlds.{opening_words};
+ghost use Rattle.core_model.specs.Opening.{opening_directory};
+ghost use Rattle.core_model.specs.Worlds.{first_leaves as leaves_of, opening_words};
+ghost use Rattle.dir_states.specs.Openings.{first_directory, first_leaves};
 ghost use Rattle.shared_table.specs.Rule.{plain};
 ghost use Rattle.shared_table.specs.Seating.{whole};
 ghost use Rattle.shared_table.specs.Values.{IsOf, Ran, new_seats};
 ghost use Rattle.shared_table.specs.Openings.{setup_of};
 ghost use Rattle.shared_table.specs.Gathered.{HasAll};
 
+use crate::blank::{Blank, clear_all};
 use crate::closed::ClosedRows;
 use crate::in_place::ClosedTable;
-use crate::opening::first_words;
+use crate::opening::{first_state, put_all};
 use crate::rule::{Deal, Gather, OneRun, Plan};
 use crate::running::{Token, Words};
 use crate::seat::{Seat, seated, unseated};
 use crate::view::View;
 use atomic_table::Table;
 use closed_words::Words as ClosedWords;
+use dir_states::Opening;
 use hash_bits::Hashing;
-use plain_map::{OpenFault, Pair};
+use plain_map::{BucketRow, OpenFault, Pair};
 use seat_machine::Room;
 use std::alloc::{AllocError, Global};
 use std::marker::Model;
@@ -141,6 +145,35 @@ impl Directory {
         ensures no_room { (place : ℕ) → result ≡ Err (NoRoom place) →
             IsFirstWithoutRoom (rules_of (setup_of settings.now hashing rows.now first.now)) first.now place }
     {
+        Directory::open_in(
+            alloc,
+            &mut Blank::new(alloc),
+            settings,
+            hashing,
+            rows,
+            first,
+        )
+    }
+
+    /// The same, from words that are kept from one opening to the next: what is 0 there is not written again.
+    pub fn open_in(
+        alloc: Global,
+        blank: &mut Blank,
+        settings: &Settings,
+        hashing: Hashing,
+        rows: &[SeatRows],
+        first: &[Pair],
+    ) -> Result<(Directory, Vec<Seat>), OpenFault>
+        requires each_seat { length rows.now ≡ settings.now.seats }
+        requires small { All (AreBelow (2 ^ 32)) rows.now }
+        requires pairs { All IsPair first.now }
+        requires distinct { HasDistinctKeys first.now }
+        ensures setup { IfOk result (λ r. r.0.setup ≡ setup_of settings.now hashing rows.now first.now) }
+        ensures seats { IfOk result (λ r. r.1.items ≡ new_seats r.0 0 settings.now.seats) }
+        ensures room { IfOk result (λ r. IsSetup r.0.setup) }
+        ensures no_room { (place : ℕ) → result ≡ Err (NoRoom place) →
+            IsFirstWithoutRoom (rules_of (setup_of settings.now hashing rows.now first.now)) first.now place }
+    {
         let (Ok(rows), Ok(first)) = (copied_rows(alloc, rows), copied_pairs(alloc, first)) else {
             return Err(OpenFault::Memory);
         };
@@ -151,11 +184,37 @@ impl Directory {
             first,
         };
         let layout = Layout::new(settings, &plan.rows);
-        let words = first_words(alloc, &layout, &plan)?;
-        match Directory::of_words(alloc, layout, &plan, &words) {
+        let made = first_state(alloc, &plan)?;
+        match Directory::of_opening(alloc, blank, layout, &plan, &made) {
             Ok(opened) => Ok(opened),
             Err(_) => Err(OpenFault::Memory),
         }
+    }
+
+    // A table with this opening, and its seats in order.
+    fn of_opening(
+        alloc: Global,
+        blank: &mut Blank,
+        layout: Layout,
+        plan: &Plan,
+        made: &Opening,
+    ) -> Result<(Directory, Vec<Seat>), AllocError>
+        requires setup { IsSetup (plain plan.now) }
+        requires shape { shape_of layout ≡ (plain plan.now).shape }
+        requires leaves { first_leaves made.now ≡ leaves_of (plain plan.now) }
+        requires directory { first_directory made.now ≡
+            opening_directory plan.now.settings.start (first_leaves made.now) }
+        ensures setup { IfOk result (λ r. r.0.setup ≡ plain plan.now) }
+        ensures seats { IfOk result (λ r. r.1.items ≡ new_seats r.0 0 plan.now.settings.seats) }
+    {
+        let mut row = BucketRow::with_room(alloc, layout.settings())?;
+        blank.resize(layout.words() as usize)?;
+        let mut words = blank.take(alloc);
+        put_all(&layout, plan, made, &mut row, &mut words);
+        let opened = Directory::of_words(alloc, layout, plan, &words);
+        clear_all(&layout, plan, made, &mut words);
+        blank.put_back(words);
+        opened
     }
 
     // A table over these words, which are those of the opening, and its seats in order.
