@@ -1,8 +1,7 @@
 -- Words that are all 0 but at some places: what writing adds to these places, and what clearing takes from them.
-use Rattle.std.proofs.Common.{◌≡◌, ℕ, zero, suc, ◌+◌, ◌<◌, ◌≤◌, List, [], ◌∷◌, length, get_or, set, replicate, map, inl, inr, refl, sym, ap, ◌∙◌, subst, arith, get_or-set_other}
-use Rattle.std.specs.Prelude.{◌⊎◌, None, Option}
+use Rattle.std.proofs.Common.{◌≡◌, ℕ, zero, suc, ◌+◌, ◌≤◌, List, [], ◌∷◌, length, get_or, set, replicate, inl, inr, refl, sym, ap, ◌∙◌, subst, arith, get_or-set_other}
+use Rattle.std.specs.Prelude.{◌⊎◌, None}
 use Rattle.std.proofs.lemmas.Bool.{cases_eq}
-use Rattle.std.proofs.lemmas.List.{length-map}
 use Rattle.std.proofs.lemmas.List.Sums.{fold-append}
 use Rattle.step_counts.specs.StepCounts.{bucket_row_words}
 use Rattle.word_rows.specs.Shape.{Shape}
@@ -12,7 +11,6 @@ use Rattle.word_rows.proofs.BucketLemmas.{length-bucket}
 use Rattle.bucket_states.specs.States.{row_of_state}
 use Rattle.core_model.specs.declared.events.Put.{Put}
 use Rattle.core_model.specs.Setup.{Setup}
-use Rattle.core_model.specs.Directories.{DirectoryState}
 use Rattle.core_model.specs.Leaves.{NewLeaf}
 use Rattle.core_model.specs.Opening.{opening_directory}
 use Rattle.core_model.specs.Stores.{with_puts, leaf_puts, row_puts, bucket_words, directory_words}

@@ -1,9 +1,9 @@
-use Rattle.std.proofs.Common.{◌≡◌, ℕ, ◌+◌, ◌∙◌, ◌^◌, ◌≤◌, List, length, map, set, replicate, sym, ap, subst, arith}
+use Rattle.std.proofs.Common.{◌≡◌, ℕ, ◌+◌, ◌∙◌, ◌^◌, List, length, map, set, replicate, sym, ap, subst, arith}
 use Rattle.std.proofs.lemmas.List.{length-map}
 use Rattle.step_counts.specs.StepCounts.{bucket_row_words}
 use Rattle.word_rows.specs.LayoutView.{shape_of}
 use Rattle.word_rows.specs.Shape.{Shape}
-use Rattle.word_rows.specs.Places.{place, word_count}
+use Rattle.word_rows.specs.Places.{place}
 use Rattle.word_rows.specs.declared.addresses.Address.TheVariants.{BucketRowWord, BucketWord, DirectoryWord}
 use Rattle.core_model.specs.Directories.{DirectoryState}
 use Rattle.core_model.specs.Opening.{opening_directory}

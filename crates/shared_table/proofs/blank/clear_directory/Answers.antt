@@ -1,4 +1,4 @@
-use Rattle.std.proofs.Common.{◌+◌, arith}
+use Rattle.std.proofs.Common.{arith}
 use Rattle.word_rows.specs.LayoutView.{shape_of}
 use Rattle.shared_table.proofs.OpeningLemmas.{directory_fits}
 use Rattle.shared_table.proofs.blank.clear_directory.Goals as goal

@@ -1,4 +1,4 @@
-use Rattle.std.proofs.Common.{◌≡◌, ℕ, suc, ◌+◌, ◌-◌, List, set, replicate, length-set, sym, ap, ◌∙◌, arith}
+use Rattle.std.proofs.Common.{◌≡◌, suc, ◌+◌, ◌-◌, set, replicate, length-set, sym, ap, ◌∙◌, arith}
 use Rattle.shared_table.specs.Openings.{written}
 use Rattle.shared_table.proofs.blank.clear_row.Goals as goal
 

@@ -1,5 +1,5 @@
-use Rattle.std.proofs.Common.{◌≡◌, ◌∙◌, ℕ, List, length, ap, sym, subst, arith}
-use Rattle.std.specs.Mem.Slots.{slots_counts, slots_items, slots_len}
+use Rattle.std.proofs.Common.{◌≡◌, ◌∙◌, length, ap, sym, subst, arith}
+use Rattle.std.specs.Mem.Slots.{slots_counts, slots_items}
 use Rattle.core_model.specs.Setup.{Setup, seats_of}
 use Rattle.word_rows.specs.Places.{word_count}
 use Rattle.shared_table.specs.Rule.{plain}

@@ -1,4 +1,4 @@
-use Rattle.std.proofs.Common.{◌≡◌, ℕ, ap, sym, ◌∙◌, get_or}
+use Rattle.std.proofs.Common.{ap, sym, ◌∙◌, get_or}
 use Rattle.std.specs.Mem.Slots.{slots_items}
 use Rattle.shared_table.specs.Values.{ClosedValue}
 use Rattle.shared_table.proofs.Lists.{at_place}
