@@ -1,0 +1,12 @@
+pub mod Reaching
+pub mod Choosing
+pub mod Counted
+pub mod Candidates
+pub mod Counts
+pub mod Looks
+pub mod Bases
+pub mod Aside
+pub mod Standing
+pub mod Marks
+pub mod Marking
+pub mod Units
