@@ -16,7 +16,8 @@ use Rattle.core_reading.proofs.Book.{Book, Written}
 use Rattle.core_reading.proofs.Ledger.{Ledger}
 use Rattle.core_reading.proofs.OneReady.{Stays, stays_step}
 use Rattle.history_order.proofs.Candidates.{IsUnits}
-use Rattle.history_order.proofs.Bases.{BringsNone, bases_of, version_base, base_was}
+use Rattle.history_order.specs.Parts.{bases_of, version_base}
+use Rattle.history_order.proofs.Bases.{BringsNone, base_was}
 
 module _ (setup : Setup) (closing : Closing) where
   -- the turn of a lookup touches the pieces that were made from its row
