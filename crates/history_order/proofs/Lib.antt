@@ -10,3 +10,5 @@ pub mod Standing
 pub mod Marks
 pub mod Marking
 pub mod Units
+pub mod Loops
+pub mod Writes

@@ -48,3 +48,10 @@ pub(crate) struct Progress {
     /// Bucket rows without calls that may have their base.
     pub aside: Vec<u64>,
 }
+
+/// All of them.
+#[derive(Debug, Drop)]
+pub(crate) struct Tables {
+    pub found: Found,
+    pub progress: Progress,
+}
