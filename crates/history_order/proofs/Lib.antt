@@ -12,3 +12,6 @@ pub mod Marking
 pub mod Units
 pub mod Loops
 pub mod Writes
+pub mod After
+pub mod Exchanges
+pub mod NewCalls

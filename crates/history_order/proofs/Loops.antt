@@ -1,11 +1,12 @@
 -- Steps of loops that make lists.
-use Rattle.std.proofs.Common.{◌≡◌, ℕ, zero, suc, ◌+◌, ◌-◌, ◌<◌, Bool, true, false, cond, not, List, [], ◌∷◌, ◌++◌, length, drop, get_or, reverse, map, Option, Some, None, refl, inl, inr, sym, ap, ◌∙◌, subst, arith, append_assoc, append-nil, eqb-true, eq-eqb, true≢false}
+use Rattle.std.proofs.Common.{◌≡◌, ℕ, zero, suc, ◌+◌, ◌-◌, ◌<◌, Bool, true, false, cond, not, List, [], ◌∷◌, ◌++◌, length, drop, get_or, reverse, map, Option, Some, None, refl, inl, inr, sym, ap, ◌∙◌, subst, arith, append_assoc, append-nil, Vec, Global, eqb-true, eq-eqb, true≢false}
 use Rattle.std.specs.Prelude.{◌==◌, ◌||◌, filter, filter_map, flat_map, slice_index_or}
 use Rattle.std.specs.List.{cons_option, list_any}
 use Rattle.std.proofs.lemmas.List.{at_drop_more, drop_more, reverse-append}
 use Rattle.std.proofs.lemmas.List.Folds.{list_any-append}
 use Rattle.std.proofs.lemmas.Bool.{cases_Bool, cases_eq}
 use Rattle.core_model.specs.Reading.{each_once, is_among, line}
+use Rattle.plain_map.specs.declared.records.Record.{Record}
 use Rattle.word_rows.specs.Shape.{Shape}
 use Rattle.history_order.specs.Filling.{AreMet, while_true, entries_of, new_beside, leaves_from}
 
@@ -199,3 +200,21 @@ leaves_go shape words known rows i done all done_then inside more were =
     (leaves_from shape words (known ++ entries_of shape words (get_or rows i 0)) (drop (i + 1) rows))
     (leaves_from shape words known (drop i rows)) all done_then more
     (at_drop_more (leaves_from shape words known) rows i 0 inside) were
+
+-- there are as many lists as rows
+pub length_leaves : (shape : Shape) (words met rows : List ℕ) → length (leaves_from shape words met rows) ≡ length rows
+length_leaves shape words met [] = refl
+length_leaves shape words met (row ∷ rows) =
+    ap suc (length_leaves shape words (met ++ entries_of shape words row) rows)
+
+-- the records of all seats, by their lists
+pub joined_items : (logs : List (Vec Record Global)) →
+    flat_map (λ (v : Vec Record Global). v.items) logs
+    ≡ flat_map (λ (log : List Record). log) (map (λ (v : Vec Record Global). v.items) logs)
+joined_items [] = refl
+joined_items (v ∷ vs) = ap (λ rest. v.items ++ rest) (joined_items vs)
+
+-- and as many images as members
+pub length_items : (lists : List (Vec ℕ Global)) → length (map (λ (v : Vec ℕ Global). v.items) lists) ≡ length lists
+length_items [] = refl
+length_items (v ∷ vs) = ap suc (length_items vs)
