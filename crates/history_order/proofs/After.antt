@@ -1,5 +1,5 @@
 -- What is read after writes: what one of those that were meant for the place wrote, or what stood there before.
-use Rattle.std.proofs.Common.{◌≡◌, ℕ, zero, suc, ◌+◌, ◌<◌, ◌⊎◌, Bool, true, false, cond, List, [], ◌∷◌, length, get_or, Option, Some, None, refl, inl, inr, sym, ap, ◌∙◌, subst, arith, eqb-true, eq-eqb, lt-ltb, true≢false}
+use Rattle.std.proofs.Common.{◌≡◌, ℕ, zero, suc, ◌+◌, ◌<◌, ◌⊎◌, Bool, true, false, cond, List, [], ◌∷◌, length, Option, Some, None, refl, inl, inr, sym, ap, ◌∙◌, subst, arith, eqb-true, eq-eqb, lt-ltb, true≢false}
 use Rattle.std.specs.Prelude.{◌&&◌, nat_lt, slice_get, filter}
 use Rattle.std.proofs.lemmas.Bool.{and_parts, and_from, cases_Bool}
 use Rattle.core_placing.proofs.Lists.{In}
@@ -35,19 +35,19 @@ module _ {A B : Type 0} (at : B → Option ℕ) (value : B → A) (place many : 
     | inl wrote ↦ inl (record { by = wrote.by; there = inr wrote.there; here = wrote.here; is = wrote.is })
     | inr kept ↦ elim (cases_Bool (hits (at x) place && nat_lt place many)) [
       | inl e ↦ inl (record {
-          by = x;
-          there = inl refl;
-          here = hit_is (at x) place (and_parts (hits (at x) place) (nat_lt place many) e).0;
-          is = kept.is ∙ ap (λ b. cond b (value x) before) e;
-        })
+        by = x;
+        there = inl refl;
+        here = hit_is (at x) place (and_parts (hits (at x) place) (nat_lt place many) e).0;
+        is = kept.is ∙ ap (λ b. cond b (value x) before) e;
+      })
       | inr e ↦ inr (record {
-          is = kept.is ∙ ap (λ b. cond b (value x) before) e;
-          none = λ y i h less. elim i [
-            | inl same ↦ true≢false (sym (and_from (hits (at x) place) (nat_lt place many)
-                (is_hit (at x) place (ap at (sym same) ∙ h)) (lt-ltb place many less)) ∙ e)
-            | inr j ↦ kept.none y j h less
-          ];
-        })
+        is = kept.is ∙ ap (λ b. cond b (value x) before) e;
+        none = λ y i h less. elim i [
+          | inl same ↦ true≢false (sym (and_from (hits (at x) place) (nat_lt place many)
+              (is_hit (at x) place (ap at (sym same) ∙ h)) (lt-ltb place many less)) ∙ e)
+          | inr j ↦ kept.none y j h less
+        ];
+      })
     ]
   ]
 

@@ -1,6 +1,6 @@
 -- The directory rows from the opening on, the buckets by where they were named first, and their exchanged rows.
-use Rattle.std.proofs.Common.{◌≡◌, ℕ, zero, suc, ◌+◌, ◌<◌, ◌≤◌, ◌⊎◌, Bool, true, false, cond, not, List, [], ◌∷◌, ◌++◌, length, get_or, reverse, map, Option, Some, None, refl, inl, inr, sym, ap, ◌∙◌, subst, arith, add-one, true≢false}
-use Rattle.std.specs.Prelude.{flat_map, filter}
+use Rattle.std.proofs.Common.{◌≡◌, ℕ, zero, suc, ◌+◌, ◌<◌, ◌≤◌, ◌⊎◌, true, cond, not, List, [], ◌∷◌, ◌++◌, get_or, reverse, map, Option, Some, None, refl, inl, inr, sym, ap, ◌∙◌, subst, arith, add-one}
+use Rattle.std.specs.Prelude.{flat_map}
 use Rattle.std.specs.List.{range_with_len}
 use Rattle.std.proofs.lemmas.Bool.{cases_Bool, cases_lt, cases_eq}
 use Rattle.std.proofs.lemmas.List.{reverse-append}
@@ -8,8 +8,7 @@ use Rattle.plain_map.specs.declared.full.FullKind.TheVariants.{BucketRows, DirRo
 use Rattle.word_rows.specs.Shape.{count_of}
 use Rattle.core_model.specs.Setup.{Setup}
 use Rattle.core_model.specs.Directories.{DirectoryState}
-use Rattle.core_model.specs.Reading.{bucket_row, directory_row, directory_at, line, is_exchanged, is_among, each_once, directory_rows, bucket_line, row_of, leaves_beside, leaves_new_in}
-use Rattle.core_model.specs.Order.{Closing, ByBucketRow, pieces_of}
+use Rattle.core_model.specs.Reading.{bucket_row, directory_row, line, is_exchanged, is_among, each_once, directory_rows, bucket_line, leaves_beside, leaves_new_in}
 use Rattle.core_placing.proofs.Lists.{In, in_left, in_right, in_both, in_filter, filter_in, in_flat_map, flat_map_in}
 use Rattle.core_reading.proofs.Book.{Book, Written}
 use Rattle.core_reading.proofs.Lines.{among_is_in, in_is_among, each_in, in_each}
@@ -71,7 +70,7 @@ module _ (setup : Setup) (words : List ℕ) (k : Book) (w : Written setup words 
   entries_at v = entries_of setup.shape words (k.dir_row v)
 
   -- they are the book's
-  entry_from : (v b : ℕ) → v ≤ k.dir_top → In b (entries_at v) → In b (k.dir_at v).entries
+  pub entry_from : (v b : ℕ) → v ≤ k.dir_top → In b (entries_at v) → In b (k.dir_at v).entries
   entry_from v b o = subst (λ (d : DirectoryState). In b d.entries) (directory_is setup words k w v o)
 
   -- and back
@@ -103,13 +102,13 @@ module _ (setup : Setup) (words : List ℕ) (k : Book) (w : Written setup words 
       ]
 
   -- the new ones of a version are named by it
-  new_named : (v : ℕ) (known : List ℕ) (b : ℕ) → v ≤ k.dir_top → In b (new_beside setup.shape words known (k.dir_row v)) →
+  pub new_named : (v : ℕ) (known : List ℕ) (b : ℕ) → v ≤ k.dir_top → In b (new_beside setup.shape words known (k.dir_row v)) →
       In b (entries_at v)
   new_named v known b o i =
       each_in (entries_at v) b (in_filter (λ x. not (is_among known x)) (each_once (entries_at v)) b i).0
 
   -- and each bucket is new where it was born
-  new_born : (known : List ℕ) (b : ℕ) → k.named b ≡ true → Before (k.born b) known →
+  pub new_born : (known : List ℕ) (b : ℕ) → k.named b ≡ true → Before (k.born b) known →
       In b (new_beside setup.shape words known (k.dir_row (k.born b)))
   new_born known b n h =
       let o = w.born_within b n in

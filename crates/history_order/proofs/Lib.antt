@@ -15,3 +15,5 @@ pub mod Writes
 pub mod After
 pub mod Exchanges
 pub mod NewCalls
+pub mod TableUnits
+pub mod TablesTell

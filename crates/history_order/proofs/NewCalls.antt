@@ -1,19 +1,15 @@
 -- The seats whose updates are new in rows are those that have a call in the rows' piece.
-use Rattle.std.proofs.Common.{◌≡◌, ℕ, zero, suc, ◌+◌, ◌<◌, ◌≤◌, Bool, true, false, not, List, [], ◌∷◌, length, map, Option, Some, None, refl, inl, inr, sym, ap, ◌∙◌, subst, arith, add-one, true≢false, eqb-true, eq-eqb, lt-ltb, ltb-true}
-use Rattle.std.specs.Prelude.{◌==◌, ◌&&◌, nat_lt, is_some, flat_map, option_to_list, find, slice_get, slice_index_or}
-use Rattle.std.specs.Option.{option_map_or}
-use Rattle.std.specs.List.{list_all, range_with_len}
+use Rattle.std.proofs.Common.{◌≡◌, ℕ, ◌+◌, ◌<◌, true, not, List, [], ◌∷◌, Option, Some, None, refl, inl, inr, sym, ap, ◌∙◌, subst, arith, true≢false, eqb-true, eq-eqb, lt-ltb, ltb-true}
+use Rattle.std.specs.Prelude.{◌==◌, nat_lt, is_some}
+use Rattle.std.specs.List.{range_with_len}
 use Rattle.std.proofs.lemmas.Bool.{and_parts, and_from, cases_Bool, not-true}
-use Rattle.plain_map.specs.declared.records.Record.{Record}
-use Rattle.plain_map.specs.declared.records.Pending.{Pending}
-use Rattle.plain_map.specs.History.{Placed, answered, pending, seat_of, number_of}
+use Rattle.plain_map.specs.History.{Placed, seat_of, number_of}
 use Rattle.core_model.specs.Setup.{Setup, seats_of}
-use Rattle.core_model.specs.Order.{Closing, Piece, ByBucketRow, ByDirectoryRow, ByLookup, calls_in, calls_of, is_call, updates_in_rows, new_number, new_in_rows, first_rows}
+use Rattle.core_model.specs.Order.{Closing, updates_in_rows, new_number, new_in_rows, first_rows}
 use Rattle.core_model.specs.Turns.{has_call_of}
-use Rattle.core_placing.proofs.Lists.{In, any_at, any_from, all_at, all_from, in_flat_map, flat_map_in, in_range, range_in, in_both, in_map}
+use Rattle.core_placing.proofs.Lists.{In, any_at, any_from, all_at, all_from, in_flat_map, flat_map_in, in_range, range_in}
 use Rattle.core_reading.proofs.Book.{Book, Written}
-use Rattle.core_reading.proofs.Ledger.{Ledger, NewInRow, NewInVersion, IsCallOf, call_at, call_at_in, in_call_at, new_from, row_new, version_new}
-use Rattle.core_reading.proofs.Pieces.{PieceAt, RowAt, DirAt, piece_at}
+use Rattle.core_reading.proofs.Ledger.{Ledger, IsCallOf, call_at, call_at_in, in_call_at, new_from, row_new, version_new}
 use Rattle.history_order.specs.Columns.{is_caller, is_free}
 use Rattle.history_order.proofs.After.{both_ways}
 

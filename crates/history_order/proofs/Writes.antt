@@ -1,6 +1,6 @@
 -- Steps of loops that write columns.
-use Rattle.std.proofs.Common.{◌≡◌, ℕ, zero, suc, ◌+◌, ◌-◌, ◌<◌, ◌≤◌, ◌⊎◌, Bool, true, false, cond, not, List, [], ◌∷◌, ◌++◌, length, drop, get_or, replicate, Option, Some, None, refl, inl, inr, sym, ap, ◌∙◌, subst, arith, lt-ltb, ltb-true, true≢false}
-use Rattle.std.specs.Prelude.{◌&&◌, nat_lt, slice_get, is_some}
+use Rattle.std.proofs.Common.{◌≡◌, ℕ, zero, suc, ◌+◌, ◌-◌, ◌<◌, ◌≤◌, ◌⊎◌, Bool, true, false, cond, List, [], ◌∷◌, ◌++◌, length, drop, get_or, replicate, Option, Some, refl, inl, inr, sym, ap, ◌∙◌, arith, lt-ltb, ltb-true}
+use Rattle.std.specs.Prelude.{◌&&◌, nat_lt, slice_get}
 use Rattle.std.specs.List.{list_all, range_with_len}
 use Rattle.std.proofs.Math.ListN.{set}
 use Rattle.std.proofs.lemmas.List.{at_drop_more, get_or-set_same, get_or-set_other, get_or_past}

@@ -1,5 +1,5 @@
 -- What a column of a table reads after writes.
-use Rattle.std.specs.Prelude.{◌≡◌, ℕ, zero, suc, ◌+◌, ◌==◌, ◌&&◌, nat_lt, Bool, false, if◌then◌else◌, not, is_some, filter, slice_index_or, List, [], ◌∷◌, ◌++◌, length, map, Option, Some, None}
+use Rattle.std.specs.Prelude.{◌≡◌, ℕ, zero, suc, ◌+◌, ◌==◌, ◌&&◌, nat_lt, Bool, false, if◌then◌else◌, not, is_some, filter, slice_index_or, List, [], ◌∷◌, length, Option, Some, None}
 use Rattle.std.specs.List.{list_all, count_by, range_with_len}
 use Rattle.plain_map.specs.declared.records.Record.{Record}
 use Rattle.word_rows.specs.Shape.{Shape}

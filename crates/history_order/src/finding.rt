@@ -105,9 +105,5 @@ fn begin<W: Words>(
 fn opening(leaves: &[Vec<u64>]) -> &[u64]
     ensures { result.now ≡ slice_index_or (map (λ buckets. buckets.items) leaves.now) 0 [] }
 {
-    if leaves.is_empty() {
-        &[]
-    } else {
-        &leaves[0]
-    }
+    if leaves.is_empty() { &[] } else { &leaves[0] }
 }

@@ -1,7 +1,6 @@
-use Rattle.std.proofs.Common.{◌≡◌, ◌<◌, ℕ, length, ap, ◌∙◌, arith}
+use Rattle.std.proofs.Common.{◌<◌, length, ap, ◌∙◌, arith}
 use Rattle.std.specs.Prelude.{is_some}
 use Rattle.std.proofs.lemmas.List.{length-set}
-use Rattle.step_counts.specs.declared.settings.Settings.{Settings}
 use Rattle.word_rows.specs.LayoutView.{shape_of}
 use Rattle.core_model.specs.Order.{new_in_rows}
 use Rattle.history_order.proofs.Writes.{flag_set}

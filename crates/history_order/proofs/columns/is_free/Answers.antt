@@ -1,4 +1,4 @@
-use Rattle.std.proofs.Common.{◌≡◌, ◌<◌, ℕ, Bool, not, ap, ◌∙◌, sym, arith, true, false}
+use Rattle.std.proofs.Common.{◌<◌, ℕ, not, ap, ◌∙◌, sym, arith}
 use Rattle.std.specs.Prelude.{is_some}
 use Rattle.step_counts.specs.declared.settings.Settings.{Settings}
 use Rattle.word_rows.specs.LayoutView.{shape_of}

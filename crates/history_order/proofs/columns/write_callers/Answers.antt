@@ -1,5 +1,5 @@
 -- A column of flags more.
-use Rattle.std.proofs.Common.{◌≡◌, ◌<◌, ◌∷◌, [], ℕ, List, Bool, false, length, get_or, Some, ap, ◌∙◌}
+use Rattle.std.proofs.Common.{◌∷◌, [], ℕ, List, Bool, false, length, get_or, Some, ap, ◌∙◌}
 use Rattle.word_rows.specs.Shape.{Shape}
 use Rattle.word_rows.specs.LayoutView.{shape_of}
 use Rattle.history_order.specs.Columns.{is_caller, written}

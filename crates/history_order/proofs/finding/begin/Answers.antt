@@ -1,6 +1,5 @@
 -- Each list is what the lists before it make.
 use Rattle.std.proofs.Common.{◌≡◌, ◌∷◌, ℕ, [], List, Some, true, false, refl, Vec, Global, map, get_or, ap, ◌∙◌, filter}
-use Rattle.std.specs.Prelude.{flat_map}
 use Rattle.plain_map.specs.declared.records.Record.{Record}
 use Rattle.plain_map.specs.declared.full.FullKind.TheVariants.{BucketRows}
 use Rattle.word_rows.specs.Shape.{Shape, count_of}

@@ -7,7 +7,7 @@ use Rattle.word_rows.specs.LayoutView.{shape_of}
 use Rattle.history_order.specs.Closing.{log_of}
 use Rattle.history_order.specs.Filling.{leaves_from, exchanged_in}
 use Rattle.history_order.specs.Columns.{IsMade, after_all, base_in, is_caller, unit_at}
-use Rattle.history_order.specs.Fills.{version_rows, version_leaves, exchanged_rows}
+use Rattle.history_order.specs.Fills.{version_leaves, exchanged_rows}
 use Rattle.history_order.specs.declared.tables.Version.{Version}
 use Rattle.history_order.proofs.Loops.{length_leaves, length_items}
 use Rattle.history_order.proofs.finding.find.Goals as goal

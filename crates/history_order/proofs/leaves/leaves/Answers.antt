@@ -7,7 +7,6 @@ use Rattle.history_order.specs.Filling.{entries_of}
 use Rattle.history_order.proofs.Loops.{leaves_go}
 use Rattle.history_order.proofs.leaves.leaves.Goals as goal
 
-
 pub loop-row-preserved : goal.loop-row-preserved
 loop-row-preserved g c =
     let shape : Shape = shape_of c.args.starts.now.layout in

@@ -1,5 +1,5 @@
 -- Row by row, as the list is defined.
-use Rattle.std.proofs.Common.{◌≡◌, ℕ, ◌-◌, ◌<◌, List, Bool, Option, ◌++◌, sym, ap, ◌∙◌, arith, append-nil}
+use Rattle.std.proofs.Common.{◌≡◌, ℕ, ◌-◌, ◌<◌, List, ◌++◌, sym, ap, ◌∙◌, arith, append-nil}
 use Rattle.plain_map.specs.declared.full.FullKind.TheVariants.{BucketRows}
 use Rattle.word_rows.specs.Shape.{Shape, count_of}
 use Rattle.word_rows.specs.LayoutView.{shape_of}

@@ -1,5 +1,5 @@
 -- A version more.
-use Rattle.std.proofs.Common.{◌+◌, ◌≡◌, ◌∷◌, ◌++◌, [], ℕ, ◌<◌, List, Vec, Global, length, map, get_or, Some, inl, inr, sym, ap, ◌∙◌, subst, arith}
+use Rattle.std.proofs.Common.{◌+◌, ◌≡◌, ◌∷◌, ◌++◌, [], ℕ, ◌<◌, List, Vec, Global, length, map, get_or, inl, inr, sym, ap, ◌∙◌, subst, arith}
 use Rattle.std.specs.Prelude.{slice_get}
 use Rattle.std.proofs.lemmas.List.{get_or-map}
 use Rattle.word_rows.specs.Shape.{Shape}
