@@ -17,3 +17,4 @@ pub mod Exchanges
 pub mod NewCalls
 pub mod TableUnits
 pub mod TablesTell
+pub mod ToldOfRun
