@@ -10,3 +10,7 @@ pub mod Standing
 pub mod Marks
 pub mod Marking
 pub mod Units
+pub mod Ranges
+pub mod Steps
+pub mod Firsts
+pub mod Based

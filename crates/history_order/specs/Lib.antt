@@ -3,3 +3,5 @@ pub mod Closing
 pub mod Parts
 pub mod Told
 pub mod Filled
+pub mod Calls
+pub mod Tables
