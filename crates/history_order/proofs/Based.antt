@@ -76,6 +76,14 @@ module _ (words : List ℕ) (logs : List (List Record)) (begun : List Pending) (
       let same = t.written.dir_once v i.0 inside (omega (arith, r.1, few)) i.2 in
       omega (arith, r.1, same)
 
+  -- the version that is found
+  pub found_version : (found : Found) → Filled words logs begun t found → (d : ℕ) → d ≤ t.book.dir_top →
+      (v : Version) × (slice_get found.versions.items d ≡ Some v) × IsVersion words logs begun t d v
+  found_version found f d inside = elim (slice_get_cases found.versions.items d).1 [
+    | inl h ↦ (h.0, h.2, f.versions d h.0 h.2)
+    | inr h ↦ absurd (omega (arith, h.0, f.many, inside))
+  ]
+
   module _ (progress : Progress) (p : Placing) (m : MarksOf progress p) where
     -- a row is done as it is marked
     pub done_same : (row : ℕ) →
@@ -114,14 +122,6 @@ module _ (words : List ℕ) (logs : List (List Record)) (begun : List Pending) (
         d.marked (eq-eqb (slice_index progress.looks.items row) 0 d.none)
 
     module _ (found : Found) (f : Filled words logs begun t found) (few : progress.latest ≤ t.book.dir_top + 1) where
-      -- the version that is found
-      pub version_found : (d : ℕ) → d ≤ t.book.dir_top →
-          (v : Version) × (slice_get found.versions.items d ≡ Some v) × IsVersion words logs begun t d v
-      version_found d inside = elim (slice_get_cases found.versions.items d).1 [
-        | inl h ↦ (h.0, h.2, f.versions d h.0 h.2)
-        | inr h ↦ absurd (omega (arith, h.0, f.many, inside))
-      ]
-
       -- the base of a version, as it is found
       base_list : (d : ℕ) (v : Version) → slice_get found.versions.items d ≡ Some v →
           has_marked_base t.setup.shape words found progress (VersionAt d)
@@ -145,7 +145,7 @@ module _ (words : List ℕ) (logs : List (List Record)) (begun : List Pending) (
           has_marked_base t.setup.shape words found progress (VersionAt d) ≡ true →
           has_base t.setup.shape cl p (ByDirectoryRow (t.book.dir_row d)) ≡ true
       version_from d one inside h =
-          let v = version_found d inside in
+          let v = found_version found f d inside in
           let parts = and_parts (d == progress.latest)
           (list_all (is_marked_done progress.placed.items progress.looks.items) v.0.bases.items)
           (sym (base_list d v.0 v.1) ∙ h) in
@@ -170,7 +170,7 @@ module _ (words : List ℕ) (logs : List (List Record)) (begun : List Pending) (
           has_base t.setup.shape cl p (ByDirectoryRow (t.book.dir_row d)) ≡ true →
           (d ≡ progress.latest) × (has_marked_base t.setup.shape words found progress (VersionAt d) ≡ true)
       version_to d one inside alone i h =
-          let v = version_found d inside in
+          let v = found_version found f d inside in
           let is = version_base_to t.setup cl (is_marked progress.placed.items)
           (first_versions t.book progress.latest) (λ r. slice_index progress.looks.items r) p m
           (t.book.dir_row d) h in

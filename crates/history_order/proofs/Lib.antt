@@ -14,3 +14,6 @@ pub mod Ranges
 pub mod Steps
 pub mod Firsts
 pub mod Based
+pub mod Rising
+pub mod Numbered
+pub mod Nexts

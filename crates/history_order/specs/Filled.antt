@@ -34,7 +34,7 @@ module _ (words : List ℕ) (logs : List (List Record)) (begun : List Pending) (
     pub row : version.row ≡ t.book.dir_row v
     pub firsts : 1 ≤ v → version.firsts.items ≡ first_rows t.setup.shape words (t.book.dir_row v)
     pub bases : 1 ≤ v → version.bases.items ≡ bases_of t.setup closing_told (ByDirectoryRow (t.book.dir_row v))
-    pub callers : (seat : ℕ) → 1 ≤ v → seat < seats_of t.setup →
+    pub callers : (seat : ℕ) → 1 ≤ v →
         slice_index_or version.callers seat false
         ≡ has_call_of seat (calls_in t.setup.shape closing_told (ByDirectoryRow (t.book.dir_row v)))
 
@@ -45,7 +45,6 @@ module _ (words : List ℕ) (logs : List (List Record)) (begun : List Pending) (
     pub rows : length found.next.items ≡ count_of t.setup.shape BucketRows
     pub row_callers : length found.callers.items ≡ count_of t.setup.shape BucketRows
     pub callers : (row seat : ℕ) → In (ByBucketRow row) (pieces_of t.setup.shape closing_told) →
-        seat < seats_of t.setup →
         slice_index_or (slice_index_or found.callers.items row []) seat false
         ≡ has_call_of seat (calls_in t.setup.shape closing_told (ByBucketRow row))
     -- a bucket row that was made from this one by an exchange
