@@ -17,3 +17,6 @@ pub mod Based
 pub mod Rising
 pub mod Numbered
 pub mod Nexts
+pub mod Moved
+pub mod Going
+pub mod Freed

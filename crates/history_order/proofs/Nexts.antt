@@ -35,7 +35,7 @@ use Rattle.history_order.proofs.Rising.{calls_rise, rising_one}
 use Rattle.history_order.proofs.Numbered as N
 
 -- what is found and passes
-some_passes : {A : Type 0} → (g : A → Bool) (o : Option A) → option_map_or g o false ≡ true →
+pub some_passes : {A : Type 0} → (g : A → Bool) (o : Option A) → option_map_or g o false ≡ true →
     (y : A) × (o ≡ Some y) × (g y ≡ true)
 some_passes g None h = absurd (true≢false (sym h))
 some_passes g (Some y) h = (y, refl, h)

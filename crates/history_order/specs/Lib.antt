@@ -5,3 +5,4 @@ pub mod Told
 pub mod Filled
 pub mod Calls
 pub mod Tables
+pub mod Begins

@@ -1,5 +1,5 @@
 -- What the tables of the turns say. Past its end a table says nothing.
-use Rattle.std.specs.Prelude.{ℕ, ◌+◌, ◌-◌, ◌==◌, ◌&&◌, ◌||◌, nat_le, Bool, true, false, not, List, [], ◌∷◌, if◌then◌else◌, Option, Some, None, slice_get, slice_index, slice_index_or, slice_set, fold, map, option_map, option_to_list, flat_map, find}
+use Rattle.std.specs.Prelude.{◌≡◌, ℕ, ◌+◌, ◌-◌, ◌<◌, ◌++◌, length, sum, count_by, ◌==◌, ◌&&◌, ◌||◌, nat_le, Bool, true, false, not, List, [], ◌∷◌, if◌then◌else◌, Option, Some, None, slice_get, slice_index, slice_index_or, slice_set, fold, map, option_map, option_to_list, flat_map, find}
 use Rattle.std.specs.Option.{option_map_or}
 use Rattle.std.specs.List.{list_all, range_with_len}
 use Rattle.plain_map.specs.declared.records.TheConstants.{MOST_SEATS}
@@ -8,6 +8,7 @@ use Rattle.plain_map.specs.declared.records.Pending.{Pending}
 use Rattle.plain_map.specs.declared.records.CallId.{CallId}
 use Rattle.plain_map.specs.History.{number_of, id_of}
 use Rattle.word_rows.specs.Shape.{Shape}
+use Rattle.core_placing.proofs.Lists.{In}
 use Rattle.core_model.specs.Reading.{bucket_row}
 use Rattle.history_order.specs.Calls.{call_at, record_at, seen_in}
 use Rattle.history_order.specs.declared.tables.Unit.{Unit}
@@ -143,3 +144,48 @@ all_told logs begun found count seat unit from many =
 -- the first rows of a version
 abbrev pub firsts_of : Found → (version : ℕ) → List ℕ
 firsts_of found version = option_map_or (λ v. v.firsts.items) (slice_get found.versions.items version) []
+
+-- with this turn the bucket row is placed
+pub record RowIsPlaced (found : Found) (row : ℕ) (old new : Progress) : Type 0 where
+  pub placed : new.placed.items ≡ slice_set old.placed.items row true
+  pub looks : new.looks.items ≡ old.looks.items
+  pub latest : new.latest ≡ old.latest
+  pub aside : new.aside.items ≡ old.aside.items ++ brought found old.looks.items row
+
+-- with this one a lookup of the row
+pub record LookIsPlaced (found : Found) (row : ℕ) (old new : Progress) : Type 0 where
+  pub placed : new.placed.items ≡ old.placed.items
+  pub looks : new.looks.items ≡ slice_set old.looks.items row (slice_index old.looks.items row - 1)
+  pub latest : new.latest ≡ old.latest
+  pub aside : new.aside.items ≡ old.aside.items
+      ++ (if is_marked_done new.placed.items new.looks.items row then free_next found row else [])
+
+-- and with this one the next version
+pub record VersionIsPlaced (found : Found) (old new : Progress) : Type 0 where
+  pub placed : new.placed.items ≡ marked old.placed.items (firsts_of found old.latest)
+  pub looks : new.looks.items ≡ old.looks.items
+  pub latest : new.latest ≡ old.latest + 1
+  pub aside : new.aside.items ≡ old.aside.items
+      ++ flat_map (brought found old.looks.items) (firsts_of found old.latest)
+
+-- the unit of the seat's call at this place can be placed
+abbrev pub CanBePlaced : List (List Record) → Found → (seat at : ℕ) → Unit → Progress → Type 0
+CanBePlaced logs found seat at Lookup old =
+    (r : Record) × (record_at logs seat at ≡ Some r) × (r.place < length old.looks.items)
+CanBePlaced logs found seat at (Row row) old = row < length old.placed.items
+CanBePlaced logs found seat at (Version d) old =
+    (old.latest < length found.versions.items)
+    × ((row : ℕ) → In row (firsts_of found old.latest) → row < length old.placed.items)
+
+-- and is placed
+abbrev pub IsPlaced : List (List Record) → Found → (seat at : ℕ) → Unit → (old new : Progress) → Type 0
+IsPlaced logs found seat at Lookup old new =
+    (r : Record) → record_at logs seat at ≡ Some r → LookIsPlaced found r.place old new
+IsPlaced logs found seat at (Row row) old new = RowIsPlaced found row old new
+IsPlaced logs found seat at (Version d) old new = VersionIsPlaced found old new
+
+-- so much is left: bucket rows, lookups and versions
+abbrev pub left_of : Found → Progress → ℕ
+left_of found progress =
+    count_by not progress.placed.items + sum progress.looks.items
+    + (length found.versions.items - progress.latest)

@@ -7,17 +7,20 @@ ghost use Rattle.std.specs.List.{range_with_len};
 ghost use Rattle.core_placing.proofs.Lists.{In};
 ghost use Rattle.plain_map.specs.declared.records.TheConstants.{MOST_SEATS};
 ghost use Rattle.history_order.specs.Tables.{
+  CanBePlaced,
+  IsPlaced,
+  LookIsPlaced,
+  RowIsPlaced,
+  VersionIsPlaced,
   all_told,
-  brought,
   count_with,
   firsts_of,
   free_next,
   is_marked_done,
-  marked,
   told_with,
 };
 
-use crate::calls::{Closed, id_at};
+use crate::calls::{Closed, id_at, place_at};
 use crate::ready::{has_call_in, is_free, is_marked_done};
 use crate::tables::{Found, Progress, Unit};
 use closed_words::Words;
@@ -48,11 +51,7 @@ fn set_aside(
 /// The bucket row is placed.
 pub(crate) fn place_row(found: &Found, progress: &mut Progress, row: u64) -> Result<(), AllocError>
     requires { row < length progress.old.placed.items }
-    ensures placed { IfOk result (λ _. progress.new.placed.items ≡ slice_set progress.old.placed.items row true) }
-    ensures looks { IfOk result (λ _. progress.new.looks.items ≡ progress.old.looks.items) }
-    ensures latest { IfOk result (λ _. progress.new.latest ≡ progress.old.latest) }
-    ensures aside { IfOk result (λ _. progress.new.aside.items
-        ≡ progress.old.aside.items ++ brought found.now progress.old.looks.items row) }
+    ensures { IfOk result (λ _. RowIsPlaced found.now row progress.old progress.new) }
 {
     progress.placed[row as usize] = true;
     set_aside(
@@ -64,16 +63,10 @@ pub(crate) fn place_row(found: &Found, progress: &mut Progress, row: u64) -> Res
     )
 }
 
-/// The lookup of this row is placed.
-pub(crate) fn place_look(found: &Found, progress: &mut Progress, row: u64) -> Result<(), AllocError>
+/// A lookup of this row is placed.
+fn place_look(found: &Found, progress: &mut Progress, row: u64) -> Result<(), AllocError>
     requires { row < length progress.old.looks.items }
-    ensures placed { IfOk result (λ _. progress.new.placed.items ≡ progress.old.placed.items) }
-    ensures looks { IfOk result (λ _. progress.new.looks.items
-        ≡ slice_set progress.old.looks.items row (slice_index progress.old.looks.items row - 1)) }
-    ensures latest { IfOk result (λ _. progress.new.latest ≡ progress.old.latest) }
-    ensures aside { IfOk result (λ _. progress.new.aside.items ≡ progress.old.aside.items
-        ++ (if is_marked_done progress.new.placed.items progress.new.looks.items row
-            then free_next found.now row else [])) }
+    ensures { IfOk result (λ _. LookIsPlaced found.now row progress.old progress.new) }
 {
     let left = progress.looks[row as usize];
     progress.looks[row as usize] = left.saturating_sub(1);
@@ -91,12 +84,7 @@ pub(crate) fn place_version(found: &Found, progress: &mut Progress) -> Result<()
     requires there { progress.old.latest < length found.now.versions.items }
     requires firsts { (row : ℕ) → In row (firsts_of found.now progress.old.latest) →
         row < length progress.old.placed.items }
-    ensures placed { IfOk result (λ _. progress.new.placed.items
-        ≡ marked progress.old.placed.items (firsts_of found.now progress.old.latest)) }
-    ensures looks { IfOk result (λ _. progress.new.looks.items ≡ progress.old.looks.items) }
-    ensures latest { IfOk result (λ _. progress.new.latest ≡ progress.old.latest + 1) }
-    ensures aside { IfOk result (λ _. progress.new.aside.items ≡ progress.old.aside.items
-        ++ flat_map (brought found.now progress.old.looks.items) (firsts_of found.now progress.old.latest)) }
+    ensures { IfOk result (λ _. VersionIsPlaced found.now progress.old progress.new) }
 {
     let version = progress.latest;
     for row in &found.versions[version].firsts {
@@ -104,6 +92,29 @@ pub(crate) fn place_version(found: &Found, progress: &mut Progress) -> Result<()
     }
     progress.latest = version + 1;
     Ok(())
+}
+
+/// The unit of the seat's call at this place is placed.
+pub(crate) fn place<W: Words>(
+    closed: &Closed<W>,
+    found: &Found,
+    progress: &mut Progress,
+    seat: usize,
+    at: usize,
+    unit: Unit,
+) -> Result<(), AllocError>
+    requires { CanBePlaced (map (λ log. log.items) closed.now.logs.now) found.now seat at unit progress.old }
+    ensures { IfOk result (λ _. IsPlaced (map (λ log. log.items) closed.now.logs.now) found.now seat at unit
+        progress.old progress.new) }
+{
+    match unit {
+        Unit::Lookup => match place_at(closed.logs, seat, at) {
+            Some(row) => place_look(found, progress, row),
+            None => Ok(()),
+        },
+        Unit::Row(row) => place_row(found, progress, row),
+        Unit::Version(_) => place_version(found, progress),
+    }
 }
 
 // The call of the other seat that comes with the unit is told.

@@ -1,4 +1,4 @@
-use Rattle.std.proofs.Common.{ℕ, List, ◌≡◌, ◌+◌, ◌<◌, ◌≤◌, ◌∙◌, ◌++◌, length, take, get_or, sym, ap, subst, arith}
+use Rattle.std.proofs.Common.{ℕ, List, ◌≡◌, ◌+◌, ◌<◌, ◌≤◌, ◌∙◌, ◌++◌, length, take, get_or, refl, sym, ap, subst, arith}
 use Rattle.std.specs.Prelude.{slice_set, true, flat_map}
 use Rattle.std.proofs.lemmas.List.{length-set, take_all}
 use Rattle.core_placing.proofs.Lists.{In}
@@ -45,22 +45,19 @@ loop-row-preserved c =
           ++ brought c.args.found.now c.args.progress.now.looks.items r) row);
     }
 
-pub returns-clause-placed : goal.returns-clause-placed
-returns-clause-placed c =
+pub returns : goal.returns
+returns c =
     let latest : ℕ = c.args.progress.now.latest in
     let firsts : List ℕ = firsts_of c.args.found.now latest in
     let is = firsts_are c.args.found.now latest c.index.result.now c.deref-row-items.result.now c.requires.there
     c.index.ensures c.deref-row-items.ensures.value in
-    c.loop-row.invariant.placed ∙ ap (marked c.args.progress.now.placed.items)
-    (take_all c.loop-row.row-index firsts (subst (λ (xs : List ℕ). length xs ≤ c.loop-row.row-index) is (omega arith)))
-
-pub returns-clause-aside : goal.returns-clause-aside
-returns-clause-aside c =
-    let latest : ℕ = c.args.progress.now.latest in
-    let firsts : List ℕ = firsts_of c.args.found.now latest in
-    let is = firsts_are c.args.found.now latest c.index.result.now c.deref-row-items.result.now c.requires.there
-    c.index.ensures c.deref-row-items.ensures.value in
-    c.loop-row.invariant.aside
-    ∙ ap (λ rows. c.args.progress.now.aside.items ++ flat_map (brought c.args.found.now c.args.progress.now.looks.items)
-    rows)
-    (take_all c.loop-row.row-index firsts (subst (λ (xs : List ℕ). length xs ≤ c.loop-row.row-index) is (omega arith)))
+    let all : take c.loop-row.row-index firsts ≡ firsts =
+    take_all c.loop-row.row-index firsts (subst (λ (xs : List ℕ). length xs ≤ c.loop-row.row-index) is (omega arith)) in
+    record {
+      placed = c.loop-row.invariant.placed ∙ ap (marked c.args.progress.now.placed.items) all;
+      looks = c.loop-row.invariant.looks;
+      latest = refl;
+      aside = c.loop-row.invariant.aside
+          ∙ ap (λ rows. c.args.progress.now.aside.items ++ flat_map (brought c.args.found.now
+          c.args.progress.now.looks.items) rows) all;
+    }
