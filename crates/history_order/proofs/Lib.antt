@@ -18,3 +18,13 @@ pub mod NewCalls
 pub mod TableUnits
 pub mod TablesTell
 pub mod ToldOfRun
+pub mod Ranges
+pub mod Steps
+pub mod Firsts
+pub mod Based
+pub mod Rising
+pub mod Numbered
+pub mod Nexts
+pub mod Moved
+pub mod Going
+pub mod Freed

@@ -16,7 +16,7 @@ use Rattle.history_order.specs.Parts.{unit_of}
 use Rattle.history_order.proofs.Candidates.{IsUnits}
 
 -- where none is found none passes
-find_none : {A : Type 0} → (f : A → Bool) (xs : List A) (x : A) → find f xs ≡ None → In x xs → f x ≡ false
+pub find_none : {A : Type 0} → (f : A → Bool) (xs : List A) (x : A) → find f xs ≡ None → In x xs → f x ≡ false
 find_none f [] x h i = elim i [ ]
 find_none f (y ∷ xs) x h i = elim (cases_Bool (f y)) [
   | inl passes ↦ let bad : Some y ≡ None = sym (ap (λ b. cond b (Some y) (find f xs)) passes) ∙ h in cc

@@ -6,3 +6,6 @@ pub mod Columns
 pub mod Told
 pub mod Filled
 pub mod Fills
+pub mod Calls
+pub mod Tables
+pub mod Begins
