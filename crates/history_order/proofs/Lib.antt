@@ -20,3 +20,7 @@ pub mod Nexts
 pub mod Moved
 pub mod Going
 pub mod Freed
+pub mod Called
+pub mod Spoken
+pub mod Falls
+pub mod Runs
