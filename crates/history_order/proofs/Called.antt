@@ -1,5 +1,5 @@
 -- The turn of the first seat's unit that may be placed; and where there is none, the one order is made.
-use Rattle.std.proofs.Common.{◌≡◌, ◌≢◌, ℕ, zero, suc, ◌+◌, ◌-◌, ◌<◌, ◌≤◌, Bool, true, false, List, [], ◌∷◌, ◌++◌, length, map, Option, Some, None, true≢false, refl, inl, inr, sym, ap, ◌∙◌, subst, arith, eqb-true, append-nil}
+use Rattle.std.proofs.Common.{◌≡◌, ◌≢◌, ℕ, zero, suc, ◌+◌, ◌-◌, ◌^◌, ◌<◌, ◌≤◌, Bool, true, false, List, [], ◌∷◌, ◌++◌, length, map, Option, Some, None, true≢false, refl, inl, inr, sym, ap, ◌∙◌, subst, arith, eqb-true, append-nil}
 use Rattle.std.specs.Prelude.{◌==◌, ◌&&◌, if◌then◌else◌, slice_get, slice_index, slice_set, find, flat_map, option_map, option_to_list}
 use Rattle.std.specs.Option.{option_map_or}
 use Rattle.std.specs.List.{list_all, range_with_len}
@@ -26,7 +26,7 @@ use Rattle.history_order.specs.Told.{Told}
 use Rattle.history_order.specs.Parts.{unit_of, base_of_row}
 use Rattle.history_order.specs.Filled.{Filled, IsUnit}
 use Rattle.history_order.specs.Calls.{call_at, record_at}
-use Rattle.history_order.specs.Tables.{unit_in, has_call_in, is_marked, is_marked_done, has_marked_base, is_version_due, is_free, is_ready_in, free_next, brought, firsts_of, told_with, count_with, all_told, RowIsPlaced, LookIsPlaced, VersionIsPlaced, CanBePlaced, IsPlaced}
+use Rattle.history_order.specs.Tables.{unit_in, has_call_in, is_marked, is_marked_done, has_marked_base, is_version_due, is_free, is_ready_in, free_next, brought, firsts_of, told_with, count_with, all_told, RowIsPlaced, LookIsPlaced, VersionIsPlaced, CanBePlaced, IsPlaced, left_of}
 use Rattle.history_order.specs.declared.tables.Unit.{Unit}
 use Rattle.history_order.specs.declared.tables.Unit.TheVariants.{Lookup, Row, Version as VersionAt}
 use Rattle.history_order.specs.declared.tables.Found.{Found}
@@ -35,6 +35,8 @@ use Rattle.history_order.proofs.Candidates.{NoneOf, candidate_left, ready_candid
 use Rattle.history_order.proofs.Counted.{is_the_next, more_of}
 use Rattle.history_order.proofs.Standing.{Stands, SetAside, set_less, stands_same, next_on, order_made}
 use Rattle.history_order.proofs.Based.{MarksOf, done_same, version_to}
+use Rattle.history_order.proofs.Looks.{look_closes}
+use Rattle.history_order.proofs.Falls.{row_falls, look_falls, version_falls, row_aside_few, look_aside_few, version_aside_few, firsts_few}
 use Rattle.history_order.proofs.Rising.{calls_rise, rising_rank, told_in_order}
 use Rattle.history_order.proofs.Nexts.{unit_facts, calls_are, calls_same, seats_few, next_at, ready_same}
 use Rattle.history_order.proofs.Moved.{row_inside, firsts_found, calls_free, next_there, next_is, brought_is, row_marks, version_marks, look_marks, marked_long, marked_inside}
@@ -248,6 +250,51 @@ module _ (words : List ℕ) (logs : List (List Record)) (begun : List Pending) (
       look_inside r e =
           let marked = g.marks.rows r.place ∙ (ap (has_base t.setup.shape turns_closing p) (sym e) ∙ based) in
           omega (arith, marked_inside old.placed.items r.place marked, g.placed, g.looks)
+
+      -- a lookup that may be placed is open
+      look_open : (r : Record) → x ≡ ByLookup r → 1 ≤ slice_index old.looks.items r.place
+      look_open r e = omega (arith, g.marks.left r.place, look_closes t.setup turns_closing t.book t.written t.ledger
+          (unit_of t.setup turns_closing) (unit_facts words logs begun t found f) p 0 r known not_yet)
+        where
+          known : In r (lookups_of turns_closing)
+          known = piece_at t.setup turns_closing t.book t.written t.ledger (ByLookup r)
+              (subst (λ z. In z (pieces_of t.setup.shape turns_closing)) e c.known)
+
+          not_yet : is_placed p.order r.seat r.number ≡ false
+          not_yet = elim (cases_Bool (is_placed p.order r.seat r.number)) [
+            | inr fails ↦ fails
+            | inl is ↦ absurd ((st.alone.fresh (ByLookup r) (subst (λ z. In z p.left) e c.left)).calls (answered r)
+                r.seat r.number (inl refl) refl refl is)
+          ]
+
+      -- a bucket row that may be placed is not
+      row_new : (row : ℕ) → x ≡ ByBucketRow row → is_marked old.placed.items row ≡ false
+      row_new row e = elim (cases_Bool (is_marked old.placed.items row)) [
+        | inr fails ↦ fails
+        | inl is ↦ absurd ((st.alone.fresh (ByBucketRow row) (subst (λ z. In z p.left) e c.left)).rows row (inl refl)
+            (sym (g.marks.rows row) ∙ is))
+      ]
+
+      -- so with its turn less is left, and few rows are set aside
+      pub less_left : (new : Progress) (u : Unit) → IsUnit words logs begun t seat (placed_of seat) u x →
+          IsPlaced logs found seat (placed_of seat) u old new →
+          (left_of found new < left_of found old) × (length new.aside.items ≤ length old.aside.items + 2 ^ 64)
+      less_left new Lookup i w =
+          let is = w i.0 i.1 in (
+            look_falls found old new i.0.place is (look_inside i.0 i.2) (look_open i.0 i.2),
+            omega (arith, look_aside_few found old new i.0.place is),
+          )
+      less_left new (Row row) i w = (
+        row_falls found old new row w (omega (arith, row_inside words logs begun t found f row
+            (subst (λ z. In z (pieces_of t.setup.shape turns_closing)) i c.known), g.placed)) (row_new row i),
+        omega (arith, row_aside_few found old new row w),
+      )
+      less_left new (VersionAt v) i w =
+          let same = version_now v i in (
+            version_falls found old new w (omega (arith, same, i.1, f.many))
+                (version_firsts words logs begun t found f old g.one (omega (arith, same, i.1)) g.placed),
+            omega (arith, version_aside_few found old new w, firsts_few found old.latest),
+          )
 
       -- so it can be placed
       pub can_be : (u : Unit) → IsUnit words logs begun t seat (placed_of seat) u x →

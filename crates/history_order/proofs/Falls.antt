@@ -1,6 +1,6 @@
 -- With each turn less is left.
-use Rattle.std.proofs.Common.{◌≡◌, ℕ, suc, ◌+◌, ◌-◌, ◌<◌, ◌≤◌, Bool, true, false, cond, List, [], ◌∷◌, ◌++◌, length, Option, Some, None, refl, inl, inr, sym, ap, ◌∙◌, arith, length-append}
-use Rattle.std.specs.Prelude.{◌==◌, not, sum, count_by, if◌then◌else◌, flat_map, slice_index, slice_index_or, slice_set}
+use Rattle.std.proofs.Common.{◌≡◌, ℕ, suc, ◌+◌, ◌-◌, ◌*◌, ◌^◌, ◌<◌, ◌≤◌, Bool, true, false, cond, List, [], ◌∷◌, ◌++◌, length, Option, Some, None, refl, inl, inr, sym, ap, ◌∙◌, arith, length-append}
+use Rattle.std.specs.Prelude.{◌==◌, not, sum, count_by, if◌then◌else◌, flat_map, slice_get, slice_index, slice_index_or, slice_set}
 use Rattle.std.specs.List.{sum_by}
 use Rattle.std.specs.Option.{option_map_or}
 use Rattle.std.proofs.lemmas.Bool.{cases_Bool}
@@ -9,6 +9,7 @@ use Rattle.std.proofs.lemmas.List.Sums.{sum_by-set}
 use Rattle.core_placing.proofs.Lists.{In}
 use Rattle.history_order.specs.Tables.{is_marked, is_marked_done, is_free, marked, free_next, brought, firsts_of, left_of, RowIsPlaced, LookIsPlaced, VersionIsPlaced}
 use Rattle.history_order.specs.declared.tables.Unit.TheVariants.{Row}
+use Rattle.history_order.specs.declared.tables.Version.{Version}
 use Rattle.history_order.specs.declared.tables.Found.{Found}
 use Rattle.history_order.specs.declared.tables.Progress.{Progress}
 
@@ -102,3 +103,15 @@ module _ (found : Found) (old new : Progress) where
       omega (arith, ap length w.aside,
       length-append old.aside.items (flat_map (brought found old.looks.items) (firsts_of found old.latest)),
       all_few found old.looks.items (firsts_of found old.latest))
+
+-- a version has few first rows
+pub firsts_few : (found : Found) (latest : ℕ) → length (firsts_of found latest) < 2 ^ 64
+firsts_few found latest = go (slice_get found.versions.items latest)
+  where
+    go : (o : Option Version) → length (option_map_or (λ v. v.firsts.items) o []) < 2 ^ 64
+    go None = omega arith
+    go (Some v) = omega (arith, v.firsts.small, v.firsts.ok)
+
+-- so the measure falls
+pub falls : (a b x y : ℕ) → a < b → x ≤ y + 2 ^ 64 → 2 ^ 65 * a + x < 2 ^ 65 * b + y
+falls a b x y less few = omega (arith, less, few)

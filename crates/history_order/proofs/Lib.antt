@@ -24,3 +24,4 @@ pub mod Called
 pub mod Spoken
 pub mod Falls
 pub mod Runs
+pub mod Zeros

@@ -1,5 +1,5 @@
 -- The loop over turns, whatever is told: it keeps that its tables tell a placing that is reached.
-use Rattle.std.proofs.Common.{◌≡◌, ℕ, ◌+◌, ◌-◌, ◌<◌, ◌≤◌, Bool, true, false, List, [], ◌∷◌, ◌++◌, length, Option, Some, None, true≢false, refl, inl, inr, sym, ap, ◌∙◌, subst, arith, append-nil, append_assoc}
+use Rattle.std.proofs.Common.{◌≡◌, ℕ, ◌+◌, ◌-◌, ◌^◌, ◌<◌, ◌≤◌, Bool, true, false, List, [], ◌∷◌, ◌++◌, length, Option, Some, None, true≢false, refl, inl, inr, sym, ap, ◌∙◌, subst, arith, append-nil, append_assoc}
 use Rattle.std.specs.Prelude.{◌&&◌, not, slice_index, find}
 use Rattle.std.specs.List.{range_with_len}
 use Rattle.std.specs.Option.{option_map_or}
@@ -24,13 +24,13 @@ use Rattle.history_order.specs.declared.tables.Unit.TheVariants.{Lookup, Row, Ve
 use Rattle.history_order.specs.declared.tables.Found.{Found}
 use Rattle.history_order.specs.declared.tables.Progress.{Progress}
 use Rattle.history_order.proofs.Standing.{Stands}
-use Rattle.history_order.proofs.Moved.{row_inside}
+use Rattle.history_order.proofs.Moved.{row_inside, not_true}
 use Rattle.history_order.proofs.Going.{Going, going_start, going_drop}
-use Rattle.history_order.proofs.Freed.{Goes, going_row, going_version, version_is, version_firsts}
-use Rattle.history_order.proofs.Nexts.{some_passes}
-use Rattle.history_order.proofs.Called.{Chosen, chosen, can_be, first_found, nothing_aside, all_made, next_placing}
+use Rattle.history_order.proofs.Freed.{Goes, going_same, going_row, going_version, version_is, version_firsts}
+use Rattle.history_order.proofs.Nexts.{seats_few}
+use Rattle.history_order.proofs.Called.{Chosen, chosen, can_be, less_left, first_found, nothing_aside, all_made, next_placing}
 use Rattle.history_order.proofs.Spoken.{going_call, going_tells}
-use Rattle.history_order.proofs.Falls.{row_falls, look_falls, version_falls}
+use Rattle.history_order.proofs.Falls.{row_falls, version_falls, row_aside_few, version_aside_few, firsts_few}
 
 -- how it stands
 pub record Runs (shape : Shape) (words : List ℕ) (logs : List (List Record)) (begun : List Pending) (found : Found)
@@ -97,6 +97,31 @@ module _ (shape : Shape) (words : List ℕ) (logs : List (List Record)) (begun :
           out = r.out ∙ ap (λ order. start ++ ids_of order) (sym go.order);
         }
 
+    -- its tables may be named anew
+    pub runs_same : (now : Progress) → now.placed.items ≡ old.placed.items → now.looks.items ≡ old.looks.items →
+        now.latest ≡ old.latest → now.aside.items ≡ old.aside.items →
+        Runs shape words logs begun found now count start out
+    runs_same now placed looks latest aside = record {
+      told = r.told;
+      shape_is = r.shape_is;
+      filled = r.filled;
+      placing = r.placing;
+      going = going_same words logs begun r.told found r.filled old now count r.placing r.going placed looks latest aside;
+      out = r.out;
+    }
+
+    -- with a row that is due less is left
+    pub row_less : (now new : Progress) (row : ℕ) → now.placed.items ≡ old.placed.items →
+        old.aside.items ≡ now.aside.items ++ row ∷ [] → is_due shape words found now row ≡ true →
+        RowIsPlaced found row now new →
+        (left_of found new < left_of found now) × (length new.aside.items ≤ length now.aside.items + 1)
+    row_less now new row placed aside due w = (
+      row_falls found now new row w (popped_inside now row placed aside)
+          (not_true (is_marked now.placed.items row)
+          (and_parts (not (is_marked now.placed.items row)) (has_marked_base shape words found now (Row row)) due).0),
+      row_aside_few found now new row w,
+    )
+
     -- the next version is due
     version_due : is_version_due shape words found old ≡ true →
         is_version_due r.told.setup.shape words found old ≡ true
@@ -115,6 +140,15 @@ module _ (shape : Shape) (words : List ℕ) (logs : List (List Record)) (begun :
         row < length old.placed.items
     version_rows due = version_firsts words logs begun r.told found r.filled old r.going.one (version_there due)
         r.going.placed
+
+    -- with it less is left
+    pub version_less : (new : Progress) → is_version_due shape words found old ≡ true →
+        VersionIsPlaced found old new →
+        (left_of found new < left_of found old) × (length new.aside.items ≤ length old.aside.items + 2 ^ 64)
+    version_less new due w = (
+      version_falls found old new w (version_inside due) (version_rows due),
+      omega (arith, version_aside_few found old new w, firsts_few found old.latest),
+    )
 
     -- and has its turn
     pub runs_version : (new : Progress) → is_version_due shape words found old ≡ true →
@@ -168,6 +202,9 @@ module _ (shape : Shape) (words : List ℕ) (logs : List (List Record)) (begun :
         pub seat_inside : seat < seats_of r.told.setup
         seat_inside = omega (arith, the_first.1)
 
+        pub seat_few : seat < MOST_SEATS
+        seat_few = omega (arith, seat_inside, seats_few words logs begun r.told found r.filled)
+
         -- and it has a unit
         pub unit_there : unit_in found seat (slice_index count seat) ≡ None → ⊥
         unit_there none = true≢false (sym (the_first.0) ∙ ap (λ (o : Option Unit). option_map_or
@@ -190,6 +227,12 @@ module _ (shape : Shape) (words : List ℕ) (logs : List (List Record)) (begun :
           pub unit_can : CanBePlaced logs found seat (slice_index count seat) unit old
           unit_can = can_be words logs begun r.told found r.filled old count r.placing r.going free seat unit seat_inside
               the ready none_before unit the.is
+
+          -- with it less is left
+          pub call_less : (new : Progress) → IsPlaced logs found seat (slice_index count seat) unit old new →
+              (left_of found new < left_of found old) × (length new.aside.items ≤ length old.aside.items + 2 ^ 64)
+          call_less new w = less_left words logs begun r.told found r.filled old count r.placing r.going free seat unit
+              seat_inside the ready none_before new unit the.is w
 
           -- and has its turn
           pub runs_call : (new : Progress) (now : List ℕ) (told : List CallId) →
