@@ -49,6 +49,24 @@ module _ (words : List ℕ) (logs : List (List Record)) (begun : List Pending) (
     left = λ r. ap (λ xs. slice_index xs r) looks ∙ m.left r;
   }
 
+  -- so tables may be named anew
+  pub going_same : (old now : Progress) (count : List ℕ) (p : Placing) →
+      Going words logs begun t found f old count p → now.placed.items ≡ old.placed.items →
+      now.looks.items ≡ old.looks.items → now.latest ≡ old.latest → now.aside.items ≡ old.aside.items →
+      Going words logs begun t found f now count p
+  going_same old now count p g placed looks latest aside = record {
+    stands = subst (λ xs. Stands t.setup closing_of_turns (λ seat. slice_index count seat) xs p)
+        (ap (λ xs. map ByBucketRow xs ++ next_version words logs begun t found f old.latest) (sym aside)
+        ∙ ap (λ n. map ByBucketRow now.aside.items ++ next_version words logs begun t found f n) (sym latest)) g.stands;
+    marks = marks_same old now p g.marks placed looks latest;
+    one = omega (arith, g.one, latest);
+    few = omega (arith, g.few, latest);
+    sound = λ row i. g.sound row (subst (In row) aside i);
+    placed = ap length placed ∙ g.placed;
+    looks = ap length looks ∙ g.looks;
+    seats = g.seats;
+  }
+
   -- what comes of a row that is done is brought
   pub bring_in : (looks : List ℕ) (base row : ℕ) → (slice_index looks base == 0) ≡ true →
       In row (free_next found base) → In row (brought found looks base)

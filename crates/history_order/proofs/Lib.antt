@@ -28,3 +28,8 @@ pub mod Nexts
 pub mod Moved
 pub mod Going
 pub mod Freed
+pub mod Called
+pub mod Spoken
+pub mod Falls
+pub mod Runs
+pub mod Zeros

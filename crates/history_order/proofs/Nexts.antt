@@ -163,7 +163,7 @@ module _ (words : List ℕ) (logs : List (List Record)) (begun : List Pending) (
     many other = slice_index count other
 
     -- where a call has the next number, it stands at its seat's next place
-    next_at : (c : Placed) (other : ℕ) → In c (calls_in t.setup.shape closing x) → seat_of c ≡ other →
+    pub next_at : (c : Placed) (other : ℕ) → In c (calls_in t.setup.shape closing x) → seat_of c ≡ other →
         number_of c ≡ many other + 1 → call_at logs begun other (many other) ≡ Some c
     next_at c other i of number =
         let at : number_of c - 1 ≡ many other = omega (arith, number) in
