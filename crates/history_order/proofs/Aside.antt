@@ -7,7 +7,7 @@ use Rattle.std.proofs.lemmas.Bool.{cases_Bool}
 use Rattle.plain_map.specs.History.{answered}
 use Rattle.core_model.specs.Setup.{Setup}
 use Rattle.core_model.specs.Reading.{is_among}
-use Rattle.core_model.specs.Order.{Closing, Piece, ByBucketRow, ByDirectoryRow, ByLookup, Placing, calls_in, has_base, rows_with, directories_with, pieces_of, is_call}
+use Rattle.core_model.specs.Order.{Closing, Piece, ByBucketRow, ByDirectoryRow, ByLookup, Placing, calls_in, has_base, rows_with, directories_with, is_call}
 use Rattle.core_placing.proofs.Lists.{In, in_at, in_without, in_right, any_from, without_is}
 use Rattle.core_placing.proofs.Turns.{Turn, after}
 use Rattle.core_placing.proofs.Stuck.{among_in, is_call_at}

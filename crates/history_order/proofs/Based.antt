@@ -1,15 +1,14 @@
 -- Whether what a unit was made from is there, as the tables tell it: it is as it is of its piece.
-use Rattle.std.proofs.Common.{◌≡◌, ℕ, zero, suc, ◌+◌, ◌-◌, ◌<◌, ◌≤◌, Bool, true, false, List, [], ◌∷◌, length, map, Option, Some, None, true≢false, refl, inl, inr, sym, ap, ◌∙◌, subst, arith, eqb-true, eq-eqb}
-use Rattle.std.specs.Prelude.{◌==◌, ◌&&◌, slice_get, slice_index, not}
+use Rattle.std.proofs.Common.{◌≡◌, ℕ, suc, ◌+◌, ◌-◌, ◌<◌, ◌≤◌, Bool, true, false, List, [], ◌∷◌, map, Option, Some, None, refl, inl, inr, sym, ap, ◌∙◌, subst, arith, eqb-true, eq-eqb}
+use Rattle.std.specs.Prelude.{◌==◌, ◌&&◌, slice_get, slice_index}
 use Rattle.std.specs.Option.{option_map_or}
 use Rattle.std.specs.List.{list_all, range_with_len}
-use Rattle.std.proofs.lemmas.Bool.{and_parts, and_from, cases_Bool, cases_lt}
+use Rattle.std.proofs.lemmas.Bool.{and_parts, and_from, cases_lt}
 use Rattle.std.proofs.lemmas.Option.{slice_get_cases}
 use Rattle.plain_map.specs.declared.records.Record.{Record}
 use Rattle.plain_map.specs.declared.records.Pending.{Pending}
-use Rattle.core_model.specs.Setup.{Setup}
-use Rattle.core_model.specs.Reading.{bucket_row, directory_row, is_among}
-use Rattle.core_model.specs.Order.{Closing, Piece, ByBucketRow, ByDirectoryRow, Placing, is_done, has_base}
+use Rattle.core_model.specs.Reading.{bucket_row, is_among}
+use Rattle.core_model.specs.Order.{Closing, ByBucketRow, ByDirectoryRow, Placing, is_done, has_base}
 use Rattle.core_placing.proofs.Lists.{In, all_at, all_from, any_at, in_map, map_in, in_range, range_in}
 use Rattle.core_placing.proofs.Stuck.{among_in}
 use Rattle.core_placing.proofs.Alone.{Alone}
@@ -17,7 +16,7 @@ use Rattle.core_reading.proofs.Book.{Book}
 use Rattle.core_reading.proofs.Read.{dir_base_is}
 use Rattle.history_order.specs.Closing.{closing_with}
 use Rattle.history_order.specs.Told.{Told}
-use Rattle.history_order.specs.Parts.{base_of_row, bases_of, version_base, Marks}
+use Rattle.history_order.specs.Parts.{version_base, Marks}
 use Rattle.history_order.specs.Filled.{Filled, IsVersion}
 use Rattle.history_order.specs.Tables.{is_marked, is_marked_done, has_marked_base}
 use Rattle.history_order.specs.declared.tables.Unit.TheVariants.{Row, Version as VersionAt}
@@ -25,7 +24,7 @@ use Rattle.history_order.specs.declared.tables.Version.{Version}
 use Rattle.history_order.specs.declared.tables.Found.{Found}
 use Rattle.history_order.specs.declared.tables.Progress.{Progress}
 use Rattle.history_order.proofs.Looks.{done_from, done_to}
-use Rattle.history_order.proofs.Marks.{IsMarkedDone, IsMarked, base_from, version_base_to}
+use Rattle.history_order.proofs.Marks.{IsMarkedDone, base_from, version_base_to}
 use Rattle.history_order.proofs.Standing.{version_had}
 
 -- two tests are one where each passes with the other

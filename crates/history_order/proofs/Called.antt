@@ -1,47 +1,41 @@
 -- The turn of the first seat's unit that may be placed; and where there is none, the one order is made.
-use Rattle.std.proofs.Common.{◌≡◌, ◌≢◌, ℕ, zero, suc, ◌+◌, ◌-◌, ◌^◌, ◌<◌, ◌≤◌, Bool, true, false, List, [], ◌∷◌, ◌++◌, length, map, Option, Some, None, true≢false, refl, inl, inr, sym, ap, ◌∙◌, subst, arith, eqb-true, append-nil}
-use Rattle.std.specs.Prelude.{◌==◌, ◌&&◌, if◌then◌else◌, slice_get, slice_index, slice_set, find, flat_map, option_map, option_to_list}
-use Rattle.std.specs.Option.{option_map_or}
+use Rattle.std.proofs.Common.{◌≡◌, ℕ, zero, suc, ◌+◌, ◌-◌, ◌^◌, ◌<◌, ◌≤◌, Bool, true, false, List, [], ◌∷◌, length, map, Option, Some, None, true≢false, refl, inl, inr, sym, ap, ◌∙◌, subst, arith}
+use Rattle.std.specs.Prelude.{◌==◌, if◌then◌else◌, slice_index, find}
 use Rattle.std.specs.List.{list_all, range_with_len}
 use Rattle.std.proofs.lemmas.Bool.{and_parts, and_from, cases_Bool, cases_lt}
-use Rattle.std.proofs.lemmas.List.{length-set, map-append, get_or_past}
+use Rattle.std.proofs.lemmas.List.{length-set}
 use Rattle.plain_map.specs.declared.records.Record.{Record}
 use Rattle.plain_map.specs.declared.records.Pending.{Pending}
-use Rattle.plain_map.specs.declared.records.CallId.{CallId}
-use Rattle.plain_map.specs.declared.records.TheConstants.{MOST_SEATS}
 use Rattle.plain_map.specs.declared.full.FullKind.TheVariants.{BucketRows}
-use Rattle.plain_map.specs.History.{Placed, answered, seat_of, number_of, id_of, ids_of}
+use Rattle.plain_map.specs.History.{Placed, answered, seat_of}
 use Rattle.word_rows.specs.Shape.{count_of}
-use Rattle.core_model.specs.Setup.{Setup, seats_of}
-use Rattle.core_model.specs.Order.{Closing, Piece, ByBucketRow, ByDirectoryRow, ByLookup, Placing, calls_in, is_call, is_next, is_placed, rows_with, has_base, is_ready, rank_of_calls, pieces_of, lookups_of, order_of}
-use Rattle.core_model.specs.Turns.{has_call_of}
-use Rattle.core_placing.proofs.Lists.{In, any_at, any_from, in_left, in_right, in_both, in_map}
+use Rattle.core_model.specs.Setup.{seats_of}
+use Rattle.core_model.specs.Order.{Closing, Piece, ByBucketRow, ByDirectoryRow, ByLookup, Placing, calls_in, is_next, is_placed, has_base, is_ready, rank_of_calls, pieces_of, lookups_of, order_of}
+use Rattle.core_placing.proofs.Lists.{In, in_right, in_both}
 use Rattle.core_placing.proofs.Turns.{Turn, after}
 use Rattle.core_placing.proofs.Stuck.{least_in, least_ready}
 use Rattle.core_reading.proofs.Pieces.{piece_at}
 use Rattle.core_reading.proofs.OneReady.{Stays, stays_step}
 use Rattle.history_order.specs.Turns.{rank_in}
-use Rattle.history_order.specs.Closing.{closing_with, log_of}
+use Rattle.history_order.specs.Closing.{closing_with}
 use Rattle.history_order.specs.Told.{Told}
 use Rattle.history_order.specs.Parts.{unit_of, base_of_row}
 use Rattle.history_order.specs.Filled.{Filled, IsUnit}
-use Rattle.history_order.specs.Calls.{call_at, record_at}
-use Rattle.history_order.specs.Tables.{unit_in, has_call_in, is_marked, is_marked_done, has_marked_base, is_version_due, is_free, is_ready_in, free_next, brought, firsts_of, told_with, count_with, all_told, RowIsPlaced, LookIsPlaced, VersionIsPlaced, CanBePlaced, IsPlaced, left_of}
+use Rattle.history_order.specs.Tables.{unit_in, is_marked, is_marked_done, has_marked_base, is_version_due, is_free, is_ready_in, free_next, brought, firsts_of, RowIsPlaced, LookIsPlaced, VersionIsPlaced, CanBePlaced, IsPlaced, left_of}
 use Rattle.history_order.specs.declared.tables.Unit.{Unit}
 use Rattle.history_order.specs.declared.tables.Unit.TheVariants.{Lookup, Row, Version as VersionAt}
 use Rattle.history_order.specs.declared.tables.Found.{Found}
 use Rattle.history_order.specs.declared.tables.Progress.{Progress}
 use Rattle.history_order.proofs.Candidates.{NoneOf, candidate_left, ready_candidate}
-use Rattle.history_order.proofs.Counted.{is_the_next, more_of}
-use Rattle.history_order.proofs.Standing.{Stands, SetAside, set_less, stands_same, next_on, order_made}
-use Rattle.history_order.proofs.Based.{MarksOf, done_same, version_to}
+use Rattle.history_order.proofs.Standing.{Stands, set_less, order_made}
+use Rattle.history_order.proofs.Based.{MarksOf, version_to}
 use Rattle.history_order.proofs.Looks.{look_closes}
 use Rattle.history_order.proofs.Falls.{row_falls, look_falls, version_falls, row_aside_few, look_aside_few, version_aside_few, firsts_few}
-use Rattle.history_order.proofs.Rising.{calls_rise, rising_rank, told_in_order}
-use Rattle.history_order.proofs.Nexts.{unit_facts, calls_are, calls_same, seats_few, next_at, ready_same}
-use Rattle.history_order.proofs.Moved.{row_inside, firsts_found, calls_free, next_there, next_is, brought_is, row_marks, version_marks, look_marks, marked_long, marked_inside}
-use Rattle.history_order.proofs.Going.{Going, aside_of, next_version, in_next, stays, new_aside, TouchesRow, look_calls}
-use Rattle.history_order.proofs.Freed.{is_left, turn_of, bring_in, done_looks, version_known, version_firsts, version_bring, version_sound}
+use Rattle.history_order.proofs.Rising.{calls_rise, rising_rank}
+use Rattle.history_order.proofs.Nexts.{unit_facts, ready_same}
+use Rattle.history_order.proofs.Moved.{row_inside, calls_free, next_there, next_is, brought_is, row_marks, version_marks, look_marks, marked_long, marked_inside}
+use Rattle.history_order.proofs.Going.{Going, aside_of, next_version, in_next, stays, TouchesRow}
+use Rattle.history_order.proofs.Freed.{turn_of, bring_in, done_looks, version_known, version_firsts, version_bring, version_sound}
 
 -- the first number that passes
 pub first_found : (g : ℕ → Bool) (from many q : ℕ) → find g (range_with_len from many) ≡ Some q →

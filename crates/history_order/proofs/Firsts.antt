@@ -1,6 +1,6 @@
 -- The first rows of a version, placed one after the other.
-use Rattle.std.proofs.Common.{◌≡◌, ℕ, zero, suc, ◌+◌, ◌<◌, Bool, true, List, [], ◌∷◌, ◌++◌, length, take, get_or, Option, Some, refl, inl, inr, sym, ap, ◌∙◌, arith, append_assoc}
-use Rattle.std.specs.Prelude.{flat_map, slice_get, slice_set}
+use Rattle.std.proofs.Common.{◌≡◌, ℕ, ◌+◌, ◌<◌, Bool, true, List, [], ◌++◌, length, take, get_or, Option, Some, sym, ap, ◌∙◌, append_assoc}
+use Rattle.std.specs.Prelude.{flat_map, slice_set}
 use Rattle.std.specs.Option.{option_map_or}
 use Rattle.std.proofs.lemmas.List.Sums.{fold_more}
 use Rattle.std.proofs.lemmas.Option.{slice_get-get_or}

@@ -1,18 +1,16 @@
 -- The turns of a bucket row and of a version without calls.
-use Rattle.std.proofs.Common.{◌≡◌, ◌≢◌, ℕ, ◌+◌, ◌-◌, ◌<◌, ◌≤◌, Bool, true, false, List, [], ◌∷◌, ◌++◌, length, map, Option, Some, None, true≢false, refl, inl, inr, sym, ap, ◌∙◌, subst, arith, append-nil}
-use Rattle.std.specs.Prelude.{◌==◌, ◌&&◌, not, if◌then◌else◌, slice_get, slice_index, flat_map}
+use Rattle.std.proofs.Common.{◌≡◌, ◌≢◌, ℕ, ◌+◌, ◌-◌, ◌<◌, ◌≤◌, Bool, true, false, List, [], ◌∷◌, ◌++◌, length, map, Some, true≢false, refl, inl, inr, sym, ap, ◌∙◌, subst, arith, append-nil}
+use Rattle.std.specs.Prelude.{◌==◌, not, if◌then◌else◌, slice_get, slice_index, flat_map}
 use Rattle.std.specs.Option.{option_map_or}
 use Rattle.std.specs.List.{list_all}
-use Rattle.std.proofs.lemmas.Bool.{and_parts, cases_Bool}
+use Rattle.std.proofs.lemmas.Bool.{and_parts}
 use Rattle.std.proofs.lemmas.List.{length-set}
 use Rattle.std.proofs.lemmas.Option.{slice_get_within}
 use Rattle.plain_map.specs.declared.records.Record.{Record}
 use Rattle.plain_map.specs.declared.records.Pending.{Pending}
 use Rattle.plain_map.specs.declared.full.FullKind.TheVariants.{BucketRows}
-use Rattle.plain_map.specs.History.{Placed}
 use Rattle.word_rows.specs.Shape.{count_of}
-use Rattle.core_model.specs.Setup.{Setup}
-use Rattle.core_model.specs.Order.{Closing, Piece, ByBucketRow, ByDirectoryRow, ByLookup, Placing, calls_in, first_rows, rows_with, has_base, pieces_of}
+use Rattle.core_model.specs.Order.{Closing, Piece, ByBucketRow, ByDirectoryRow, ByLookup, Placing, calls_in, pieces_of}
 use Rattle.core_placing.proofs.Lists.{In, in_left, in_right, in_both, in_map, flat_map_in, in_flat_map}
 use Rattle.core_placing.proofs.Turns.{Turn, after}
 use Rattle.core_placing.proofs.Stuck.{Has}
@@ -27,11 +25,11 @@ use Rattle.history_order.specs.declared.tables.Unit.TheVariants.{Row, Version as
 use Rattle.history_order.specs.declared.tables.Version.{Version}
 use Rattle.history_order.specs.declared.tables.Found.{Found}
 use Rattle.history_order.specs.declared.tables.Progress.{Progress}
-use Rattle.history_order.proofs.Standing.{Stands, SetAside, free_on, free_ready}
+use Rattle.history_order.proofs.Standing.{Stands, free_on, free_ready}
 use Rattle.history_order.proofs.Based.{MarksOf, first_versions, row_base_same, version_from, there_version, in_place}
 use Rattle.history_order.proofs.Nexts.{unit_facts, some_passes}
 use Rattle.history_order.proofs.Moved.{row_inside, firsts_inside, firsts_found, free_calls, next_there, brought_is, row_marks, version_marks, marked_long, not_true}
-use Rattle.history_order.proofs.Going.{Going, aside_of, next_version, in_next, next_is_there, row_aside, stays, new_aside, TouchesRow}
+use Rattle.history_order.proofs.Going.{Going, aside_of, next_version, in_next, row_aside, stays, new_aside, TouchesRow}
 
 module _ (words : List ℕ) (logs : List (List Record)) (begun : List Pending) (t : Told words logs begun)
     (found : Found) (f : Filled words logs begun t found) where

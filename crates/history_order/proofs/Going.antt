@@ -1,40 +1,36 @@
 -- How the loop over turns stands, by its tables; each kind of turn keeps it, and where none may be placed the one order
 -- is made.
-use Rattle.std.proofs.Common.{◌≡◌, ◌≢◌, ℕ, zero, suc, ◌+◌, ◌-◌, ◌<◌, ◌≤◌, ◌⊎◌, Bool, true, false, List, [], ◌∷◌, ◌++◌, length, map, Option, Some, None, true≢false, refl, inl, inr, sym, ap, ◌∙◌, subst, arith, eqb-true, eq-eqb, le-leb, leb-true}
-use Rattle.std.specs.Prelude.{◌==◌, ◌&&◌, not, nat_le, if◌then◌else◌, slice_get, slice_index, flat_map}
-use Rattle.std.specs.Option.{option_map_or}
-use Rattle.std.proofs.lemmas.Bool.{and_parts, and_from, cases_Bool, cases_lt}
+use Rattle.std.proofs.Common.{◌≡◌, ℕ, ◌+◌, ◌≤◌, ◌⊎◌, Bool, true, false, List, [], ◌∷◌, ◌++◌, length, map, Some, true≢false, refl, inl, inr, sym, ap, ◌∙◌, subst, arith, le-leb, leb-true}
+use Rattle.std.specs.Prelude.{not, nat_le, if◌then◌else◌, slice_index}
+use Rattle.std.proofs.lemmas.Bool.{and_from, cases_Bool}
 use Rattle.plain_map.specs.declared.records.Record.{Record}
 use Rattle.plain_map.specs.declared.records.Pending.{Pending}
 use Rattle.plain_map.specs.declared.records.TheConstants.{MOST_SEATS}
 use Rattle.plain_map.specs.declared.full.FullKind.TheVariants.{BucketRows}
-use Rattle.plain_map.specs.History.{Placed, answered}
+use Rattle.plain_map.specs.History.{answered}
 use Rattle.word_rows.specs.Shape.{count_of}
-use Rattle.core_model.specs.Setup.{Setup, seats_of}
-use Rattle.core_model.specs.Reading.{bucket_row, is_among}
-use Rattle.core_model.specs.Order.{Closing, Piece, ByBucketRow, ByDirectoryRow, ByLookup, Placing, calls_in, rows_with, is_done, has_base, lookups_of, pieces_of, start_of}
-use Rattle.core_placing.proofs.Lists.{In, any_at, in_left, in_right, in_both, in_map, map_in, in_flat_map, flat_map_in}
-use Rattle.core_placing.proofs.Turns.{Turn, after}
-use Rattle.core_placing.proofs.Alone.{Alone}
+use Rattle.core_model.specs.Reading.{is_among}
+use Rattle.core_model.specs.Order.{Closing, Piece, ByBucketRow, ByDirectoryRow, ByLookup, Placing, calls_in, rows_with, is_done, has_base, pieces_of, start_of}
+use Rattle.core_placing.proofs.Lists.{In, any_at, in_left, in_right, in_both, in_map, map_in}
+use Rattle.core_placing.proofs.Turns.{after}
 use Rattle.core_reading.proofs.Pieces.{piece_at}
 use Rattle.core_reading.proofs.OneReady.{Stays}
 use Rattle.history_order.specs.Closing.{closing_with}
 use Rattle.history_order.specs.Told.{Told}
 use Rattle.history_order.specs.Parts.{unit_of, base_of_row, bases_of}
-use Rattle.history_order.specs.Filled.{Filled, Begun, IsUnit}
-use Rattle.history_order.specs.Tables.{is_marked, is_marked_done, has_marked_base, is_due, is_version_due, is_free, free_next, brought, firsts_of, RowIsPlaced, LookIsPlaced, VersionIsPlaced}
-use Rattle.history_order.specs.declared.tables.Unit.TheVariants.{Row, Version as VersionAt}
+use Rattle.history_order.specs.Filled.{Filled, Begun}
+use Rattle.history_order.specs.Tables.{is_marked, is_marked_done, has_marked_base, is_due}
+use Rattle.history_order.specs.declared.tables.Unit.TheVariants.{Row}
 use Rattle.history_order.specs.declared.tables.Found.{Found}
 use Rattle.history_order.specs.declared.tables.Progress.{Progress}
 use Rattle.history_order.proofs.Reaching.{leads_start}
 use Rattle.history_order.proofs.Counted.{counted_start}
 use Rattle.history_order.proofs.Candidates.{reached_stays}
 use Rattle.history_order.proofs.Aside.{Touches, by_row, by_version, by_look, looks_at}
-use Rattle.history_order.proofs.Standing.{Stands, SetAside, set_less, stands_same, free_on, free_ready, row_had, version_had}
-use Rattle.history_order.proofs.Based.{MarksOf, first_versions, done_same, row_base_same, version_from, version_to, version_there, in_among, in_place}
+use Rattle.history_order.proofs.Standing.{Stands, set_less, stands_same, row_had}
+use Rattle.history_order.proofs.Based.{MarksOf, first_versions, done_same, row_base_same, version_to, in_among}
 use Rattle.history_order.proofs.Nexts.{unit_facts}
-use Rattle.history_order.proofs.Moved.{row_inside, firsts_inside, firsts_found, free_calls, next_there, next_is, brought_is, option_in, row_marks, version_marks, marked_long, not_true}
-use Rattle.std.proofs.lemmas.List.{length-set}
+use Rattle.history_order.proofs.Moved.{option_in}
 
 module _ (words : List ℕ) (logs : List (List Record)) (begun : List Pending) (t : Told words logs begun)
     (found : Found) (f : Filled words logs begun t found) where

@@ -1,9 +1,9 @@
 -- What a turn changes in the tables: the marks tell the placing after it, and what it brings is set aside.
-use Rattle.std.proofs.Common.{◌≡◌, ◌≢◌, ℕ, zero, suc, ◌+◌, ◌-◌, ◌<◌, ◌≤◌, ◌⊎◌, Bool, true, false, cond, List, [], ◌∷◌, ◌++◌, length, map, Option, Some, None, true≢false, refl, inl, inr, sym, ap, ◌∙◌, subst, arith, eqb-true, eq-eqb, le-leb, leb-true}
-use Rattle.std.specs.Prelude.{◌==◌, ◌&&◌, ◌||◌, not, nat_le, if◌then◌else◌, slice_get, slice_index, slice_index_or, slice_set, fold, flat_map, option_to_list}
+use Rattle.std.proofs.Common.{◌≡◌, ℕ, ◌+◌, ◌-◌, ◌<◌, ◌≤◌, Bool, true, false, List, [], ◌∷◌, length, map, Option, Some, None, true≢false, refl, inl, inr, sym, ap, ◌∙◌, subst, arith, eqb-true, eq-eqb}
+use Rattle.std.specs.Prelude.{◌==◌, ◌||◌, not, if◌then◌else◌, slice_index, slice_index_or, slice_set, option_to_list}
 use Rattle.std.specs.Option.{option_map_or}
-use Rattle.std.specs.List.{list_all, list_any, range_with_len}
-use Rattle.std.proofs.lemmas.Bool.{and_parts, and_from, cases_Bool, cases_eq, cases_lt}
+use Rattle.std.specs.List.{range_with_len}
+use Rattle.std.proofs.lemmas.Bool.{cases_Bool, cases_eq, cases_lt}
 use Rattle.std.proofs.lemmas.List.{get_or-set_same, get_or-set_other, get_or_past, length-set}
 use Rattle.std.proofs.lemmas.List.Folds.{list_any-append}
 use Rattle.std.proofs.lemmas.List.FromFn.{map-range_with_len_more}
@@ -11,30 +11,27 @@ use Rattle.plain_map.specs.declared.records.Record.{Record}
 use Rattle.plain_map.specs.declared.records.Pending.{Pending}
 use Rattle.plain_map.specs.declared.records.TheConstants.{MOST_SEATS}
 use Rattle.plain_map.specs.declared.full.FullKind.TheVariants.{BucketRows}
-use Rattle.plain_map.specs.History.{Placed, answered, seat_of, number_of}
+use Rattle.plain_map.specs.History.{Placed, seat_of}
 use Rattle.word_rows.specs.Shape.{count_of}
-use Rattle.core_model.specs.Setup.{Setup, seats_of}
-use Rattle.core_model.specs.Reading.{bucket_row, is_among}
-use Rattle.core_model.specs.Order.{Closing, Piece, ByBucketRow, ByDirectoryRow, ByLookup, Placing, calls_in, first_rows, rows_with, is_placed, is_done, has_base, lookups_of, pieces_of}
+use Rattle.core_model.specs.Reading.{is_among}
+use Rattle.core_model.specs.Order.{Closing, Piece, ByBucketRow, ByDirectoryRow, ByLookup, Placing, calls_in, first_rows, is_placed, lookups_of, pieces_of}
 use Rattle.core_model.specs.Turns.{has_call_of}
-use Rattle.core_placing.proofs.Lists.{In, all_at, all_from, any_at, any_from, in_left, in_right, in_both, in_range, range_in, flat_map_in, in_flat_map}
+use Rattle.core_placing.proofs.Lists.{In, all_at, all_from, any_from, range_in}
 use Rattle.core_placing.proofs.Turns.{after}
-use Rattle.core_placing.proofs.Alone.{Alone}
 use Rattle.core_reading.proofs.Pieces.{piece_at, first_has}
 use Rattle.history_order.specs.Closing.{closing_with}
 use Rattle.history_order.specs.Told.{Told}
-use Rattle.history_order.specs.Parts.{unit_of, base_of_row, bases_of, Marks}
-use Rattle.history_order.specs.Filled.{Filled, IsUnit, IsVersion}
-use Rattle.history_order.specs.Tables.{is_marked, is_marked_done, is_free, has_call_in, free_next, brought, marked, firsts_of, RowIsPlaced, LookIsPlaced, VersionIsPlaced}
+use Rattle.history_order.specs.Parts.{unit_of, base_of_row}
+use Rattle.history_order.specs.Filled.{Filled, IsUnit}
+use Rattle.history_order.specs.Tables.{is_marked, is_free, has_call_in, free_next, brought, marked, firsts_of, RowIsPlaced, LookIsPlaced, VersionIsPlaced}
 use Rattle.history_order.specs.declared.tables.Unit.{Unit}
-use Rattle.history_order.specs.declared.tables.Unit.TheVariants.{Lookup, Row, Version as VersionAt}
+use Rattle.history_order.specs.declared.tables.Unit.TheVariants.{Row}
 use Rattle.history_order.specs.declared.tables.Version.{Version}
 use Rattle.history_order.specs.declared.tables.Found.{Found}
 use Rattle.history_order.specs.declared.tables.Progress.{Progress}
 use Rattle.history_order.proofs.Looks.{look_closes}
-use Rattle.history_order.proofs.Aside.{Touches, by_row, by_version, by_look, brings_row, looks_at}
-use Rattle.history_order.proofs.Marking.{AreMarked, marks_on, marks_look}
-use Rattle.history_order.proofs.Based.{MarksOf, done_same, found_version, version_to, first_versions, in_among}
+use Rattle.history_order.proofs.Marking.{marks_on, marks_look}
+use Rattle.history_order.proofs.Based.{MarksOf, found_version, first_versions}
 use Rattle.history_order.proofs.Nexts.{seats_few, unit_facts, calls_are, calls_same}
 
 -- nothing is added

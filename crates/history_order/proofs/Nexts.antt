@@ -1,17 +1,17 @@
 -- Whether the unit of a seat's next call is ready, as the tables tell it: it is where its piece is.
-use Rattle.std.proofs.Common.{◌≡◌, ℕ, ◌+◌, ◌-◌, ◌<◌, ◌≤◌, Bool, true, false, List, [], ◌∷◌, Option, Some, None, true≢false, refl, inl, inr, sym, ap, ◌∙◌, subst, arith, eqb-true, eq-eqb, le-leb, leb-true}
+use Rattle.std.proofs.Common.{◌≡◌, ℕ, ◌+◌, ◌-◌, ◌<◌, ◌≤◌, Bool, true, false, List, Option, Some, None, true≢false, refl, inl, inr, sym, ap, ◌∙◌, subst, arith, eqb-true, eq-eqb, le-leb, leb-true}
 use Rattle.std.specs.Prelude.{◌==◌, ◌&&◌, ◌||◌, not, nat_le, slice_get, slice_index, slice_index_or}
 use Rattle.std.specs.Option.{option_map_or}
-use Rattle.std.specs.List.{list_all, list_any, range_with_len}
+use Rattle.std.specs.List.{list_all, range_with_len}
 use Rattle.std.proofs.lemmas.Bool.{and_parts, and_from, cases_Bool, cases_lt}
 use Rattle.plain_map.specs.declared.records.Record.{Record}
 use Rattle.plain_map.specs.declared.records.Pending.{Pending}
 use Rattle.plain_map.specs.declared.records.TheConstants.{MOST_SEATS}
 use Rattle.plain_map.specs.History.{Placed, answered, pending, seat_of, number_of, seen_of}
-use Rattle.core_model.specs.Setup.{Setup, seats_of}
+use Rattle.core_model.specs.Setup.{seats_of}
 use Rattle.core_model.specs.Order.{Closing, Piece, ByBucketRow, ByDirectoryRow, ByLookup, Placing, calls_in, calls_of, is_next, has_base, is_ready, pieces_of}
 use Rattle.core_model.specs.Turns.{has_call_of}
-use Rattle.core_placing.proofs.Lists.{In, all_at, all_from, any_at, any_from, in_range, range_in}
+use Rattle.core_placing.proofs.Lists.{In, all_at, all_from, any_at, any_from, range_in}
 use Rattle.core_placing.proofs.Alone.{Alone}
 use Rattle.core_reading.proofs.Pieces.{piece_at}
 use Rattle.core_reading.proofs.Ends.{call_there}
@@ -20,14 +20,14 @@ use Rattle.history_order.specs.Told.{Told}
 use Rattle.history_order.specs.Parts.{unit_of}
 use Rattle.history_order.specs.Filled.{Filled, IsUnit, IsVersion}
 use Rattle.history_order.specs.Calls.{call_at, record_at, seen_in}
-use Rattle.history_order.specs.Tables.{unit_in, is_unit, has_call_in, is_marked, has_marked_base, has_come, is_next_in, is_none_or_next, are_next_in, has_base_in, is_ready_in}
+use Rattle.history_order.specs.Tables.{unit_in, is_unit, has_call_in, is_marked, has_come, is_next_in, is_none_or_next, are_next_in, has_base_in, is_ready_in}
 use Rattle.history_order.specs.declared.tables.Unit.{Unit}
 use Rattle.history_order.specs.declared.tables.Unit.TheVariants.{Lookup, Row, Version as VersionAt}
 use Rattle.history_order.specs.declared.tables.Version.{Version}
 use Rattle.history_order.specs.declared.tables.Found.{Found}
 use Rattle.history_order.specs.declared.tables.Progress.{Progress}
 use Rattle.history_order.proofs.Candidates.{IsUnits}
-use Rattle.history_order.proofs.Counted.{Counted, Comes, next_comes, comes_next, is_the_next}
+use Rattle.history_order.proofs.Counted.{Counted, next_comes, comes_next, is_the_next}
 use Rattle.history_order.proofs.Units.{units}
 use Rattle.history_order.proofs.Based as B
 use Rattle.history_order.proofs.Based.{MarksOf, version_from, version_to, row_base_same, same_bool}

@@ -1,5 +1,5 @@
 -- Tests of each number of a range, from the first on.
-use Rattle.std.proofs.Common.{◌≡◌, ℕ, suc, ◌+◌, ◌-◌, ◌≤◌, arith, Bool, true, false, cond, List, [], ◌++◌, Option, Some, None, ap, ◌∙◌}
+use Rattle.std.proofs.Common.{◌≡◌, ℕ, suc, ◌+◌, ◌-◌, ◌≤◌, arith, Bool, true, false, cond, List, [], ◌++◌, Some, None, ap, ◌∙◌}
 use Rattle.std.specs.Prelude.{◌&&◌, find, flat_map}
 use Rattle.std.specs.List.{list_all, range_with_len}
 

@@ -1,15 +1,15 @@
 -- The calls of a piece stand in the order of their seats, one of each seat at most. So what is told seat by seat is told
 -- in their order.
-use Rattle.std.proofs.Common.{◌≡◌, ℕ, zero, suc, ◌+◌, ◌<◌, ◌≤◌, ◌⊎◌, true, false, Bool, List, [], ◌∷◌, ◌++◌, map, Option, Some, None, true≢false, refl, inl, inr, sym, ap, ◌∙◌, subst, arith, eqb-true, eq-eqb}
+use Rattle.std.proofs.Common.{◌≡◌, ℕ, zero, suc, ◌+◌, ◌<◌, ◌≤◌, ◌⊎◌, false, List, [], ◌∷◌, ◌++◌, map, Option, Some, None, refl, inl, inr, sym, ap, ◌∙◌, subst, arith, eqb-true}
 use Rattle.std.specs.Prelude.{◌==◌, ◌||◌, flat_map, find, option_to_list}
 use Rattle.std.specs.Option.{option_map_or}
-use Rattle.std.specs.List.{list_any, range_with_len}
+use Rattle.std.specs.List.{range_with_len}
 use Rattle.std.proofs.lemmas.Bool.{cases_Bool, cases_eq}
-use Rattle.plain_map.specs.History.{Placed, seat_of, number_of, answered}
+use Rattle.plain_map.specs.History.{Placed, seat_of}
 use Rattle.core_model.specs.Setup.{Setup, seats_of}
 use Rattle.core_model.specs.Order.{Closing, Piece, ByBucketRow, ByDirectoryRow, ByLookup, is_call, calls_in, calls_of, first_rows, new_in_rows, rank_of_calls}
 use Rattle.core_model.specs.Turns.{has_call_of}
-use Rattle.core_placing.proofs.Lists.{In, any_from}
+use Rattle.core_placing.proofs.Lists.{In}
 use Rattle.core_reading.proofs.Book.{Book, Written}
 use Rattle.core_reading.proofs.Ledger.{Ledger, call_at_in}
 use Rattle.core_reading.proofs.Ledger as L

@@ -1,10 +1,9 @@
 -- The loop over turns, whatever is told: it keeps that its tables tell a placing that is reached.
-use Rattle.std.proofs.Common.{◌≡◌, ℕ, ◌+◌, ◌-◌, ◌^◌, ◌<◌, ◌≤◌, Bool, true, false, List, [], ◌∷◌, ◌++◌, length, Option, Some, None, true≢false, refl, inl, inr, sym, ap, ◌∙◌, subst, arith, append-nil, append_assoc}
+use Rattle.std.proofs.Common.{◌≡◌, ℕ, ◌+◌, ◌^◌, ◌<◌, ◌≤◌, true, false, List, [], ◌∷◌, ◌++◌, length, Option, Some, None, true≢false, refl, inl, sym, ap, ◌∙◌, subst, arith, append-nil, append_assoc}
 use Rattle.std.specs.Prelude.{◌&&◌, not, slice_index, find}
 use Rattle.std.specs.List.{range_with_len}
 use Rattle.std.specs.Option.{option_map_or}
 use Rattle.std.proofs.lemmas.Bool.{and_parts}
-use Rattle.std.proofs.lemmas.Option.{slice_get_within}
 use Rattle.plain_map.specs.declared.records.Record.{Record}
 use Rattle.plain_map.specs.declared.records.Pending.{Pending}
 use Rattle.plain_map.specs.declared.records.CallId.{CallId}
@@ -12,21 +11,21 @@ use Rattle.plain_map.specs.declared.records.TheConstants.{MOST_SEATS}
 use Rattle.plain_map.specs.History.{ids_of}
 use Rattle.word_rows.specs.Shape.{Shape}
 use Rattle.core_model.specs.Setup.{seats_of}
-use Rattle.core_model.specs.Order.{Piece, Placing, is_ready, start_of, order_of}
+use Rattle.core_model.specs.Order.{Placing, is_ready, start_of, order_of}
 use Rattle.core_placing.proofs.Lists.{In, in_right}
-use Rattle.history_order.specs.Closing.{closing_with, log_of}
+use Rattle.history_order.specs.Closing.{closing_with}
 use Rattle.history_order.specs.Told.{Told}
-use Rattle.history_order.specs.Filled.{Filled, Begun, IsUnit}
+use Rattle.history_order.specs.Filled.{Filled}
 use Rattle.history_order.specs.Begins.{Begins}
-use Rattle.history_order.specs.Tables.{unit_in, has_base_in, are_next_in, has_marked_base, is_marked, is_due, is_version_due, is_free, is_ready_in, firsts_of, count_with, all_told, left_of, RowIsPlaced, LookIsPlaced, VersionIsPlaced, CanBePlaced, IsPlaced}
+use Rattle.history_order.specs.Tables.{unit_in, has_base_in, are_next_in, has_marked_base, is_marked, is_due, is_version_due, is_free, is_ready_in, firsts_of, count_with, all_told, left_of, RowIsPlaced, VersionIsPlaced, CanBePlaced, IsPlaced}
 use Rattle.history_order.specs.declared.tables.Unit.{Unit}
-use Rattle.history_order.specs.declared.tables.Unit.TheVariants.{Lookup, Row, Version as VersionAt}
+use Rattle.history_order.specs.declared.tables.Unit.TheVariants.{Row, Version as VersionAt}
 use Rattle.history_order.specs.declared.tables.Found.{Found}
 use Rattle.history_order.specs.declared.tables.Progress.{Progress}
 use Rattle.history_order.proofs.Standing.{Stands}
 use Rattle.history_order.proofs.Moved.{row_inside, not_true}
 use Rattle.history_order.proofs.Going.{Going, going_start, going_drop}
-use Rattle.history_order.proofs.Freed.{Goes, going_same, going_row, going_version, version_is, version_firsts}
+use Rattle.history_order.proofs.Freed.{going_same, going_row, going_version, version_is, version_firsts}
 use Rattle.history_order.proofs.Nexts.{seats_few}
 use Rattle.history_order.proofs.Called.{Chosen, chosen, can_be, less_left, first_found, nothing_aside, all_made, next_placing}
 use Rattle.history_order.proofs.Spoken.{going_call, going_tells}

@@ -1,35 +1,32 @@
 -- After the turn of a unit with calls: the numbers count its calls, and they are told in the one order.
-use Rattle.std.proofs.Common.{◌≡◌, ℕ, suc, ◌+◌, ◌-◌, ◌<◌, ◌≤◌, Bool, true, false, List, [], ◌∷◌, ◌++◌, length, map, Option, Some, None, refl, inl, inr, sym, ap, ◌∙◌, arith, eqb-true, eq-eqb, ◌⊎◌}
-use Rattle.std.specs.Prelude.{◌==◌, if◌then◌else◌, slice_index, flat_map, option_map, option_to_list}
+use Rattle.std.proofs.Common.{◌≡◌, ℕ, ◌+◌, ◌<◌, ◌≤◌, true, false, List, [], ◌∷◌, ◌++◌, length, Some, refl, inl, inr, sym, ap, ◌∙◌, arith, eqb-true, eq-eqb, ◌⊎◌}
+use Rattle.std.specs.Prelude.{◌==◌, if◌then◌else◌, slice_index, option_map, option_to_list}
 use Rattle.std.specs.Option.{option_map_or}
-use Rattle.std.specs.List.{range_with_len}
 use Rattle.std.proofs.lemmas.Bool.{cases_Bool, cases_lt}
 use Rattle.std.proofs.lemmas.List.{map-append, get_or_past}
 use Rattle.plain_map.specs.declared.records.Record.{Record}
 use Rattle.plain_map.specs.declared.records.Pending.{Pending}
-use Rattle.plain_map.specs.declared.records.CallId.{CallId}
 use Rattle.plain_map.specs.declared.records.TheConstants.{MOST_SEATS}
 use Rattle.plain_map.specs.History.{Placed, seat_of, number_of, id_of, ids_of}
 use Rattle.core_model.specs.Setup.{seats_of}
-use Rattle.core_model.specs.Order.{Piece, Placing, calls_in, is_ready}
+use Rattle.core_model.specs.Order.{Placing, calls_in, is_ready}
 use Rattle.core_model.specs.Turns.{has_call_of}
 use Rattle.core_placing.proofs.Lists.{In, any_at, any_from}
-use Rattle.core_placing.proofs.Turns.{after}
 use Rattle.history_order.specs.Told.{Told}
 use Rattle.history_order.specs.Parts.{unit_of}
-use Rattle.history_order.specs.Filled.{Filled, IsUnit}
+use Rattle.history_order.specs.Filled.{Filled}
 use Rattle.history_order.specs.Calls.{call_at}
 use Rattle.history_order.specs.Tables.{has_call_in, is_ready_in, told_with, count_with, all_told, IsPlaced}
 use Rattle.history_order.specs.declared.tables.Unit.{Unit}
 use Rattle.history_order.specs.declared.tables.Found.{Found}
 use Rattle.history_order.specs.declared.tables.Progress.{Progress}
 use Rattle.history_order.proofs.Counted.{is_the_next, more_of}
-use Rattle.history_order.proofs.Standing.{Stands, SetAside, stands_same, next_on}
+use Rattle.history_order.proofs.Standing.{Stands, stands_same, next_on}
 use Rattle.history_order.proofs.Rising.{calls_rise, told_in_order}
 use Rattle.history_order.proofs.Nexts.{unit_facts, calls_are, calls_same, seats_few, next_at}
 use Rattle.history_order.proofs.Going.{Going, aside_of, new_aside}
 use Rattle.history_order.proofs.Freed.{turn_of}
-use Rattle.history_order.proofs.Called.{Chosen, Then, then_unit, turns_closing, placed_of, st, next_placing, none_before, rank_is, turn, still}
+use Rattle.history_order.proofs.Called.{Chosen, then_unit, turns_closing, placed_of, st, next_placing, none_before, rank_is, turn, still}
 
 module _ (words : List ℕ) (logs : List (List Record)) (begun : List Pending) (t : Told words logs begun)
     (found : Found) (f : Filled words logs begun t found) (old : Progress) (count : List ℕ) (p : Placing)

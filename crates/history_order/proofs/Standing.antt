@@ -6,7 +6,7 @@ use Rattle.std.proofs.lemmas.Bool.{and_parts, and_from}
 use Rattle.std.specs.List.{list_all}
 use Rattle.core_model.specs.Setup.{Setup, seats_of}
 use Rattle.core_model.specs.Reading.{is_among}
-use Rattle.core_model.specs.Order.{Closing, Piece, ByBucketRow, ByDirectoryRow, Placing, calls_in, is_next, has_base, is_ready, is_placed, start_of, pieces_of, order_of}
+use Rattle.core_model.specs.Order.{Closing, Piece, ByBucketRow, ByDirectoryRow, Placing, calls_in, is_next, has_base, is_ready, is_placed, start_of, order_of}
 use Rattle.core_placing.proofs.Lists.{In, in_at}
 use Rattle.core_placing.proofs.Turns.{Turn, after}
 use Rattle.core_placing.proofs.Alone.{Alone}

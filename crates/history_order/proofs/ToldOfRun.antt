@@ -1,5 +1,5 @@
 -- What a run leaves is told.
-use Rattle.std.proofs.Common.{◌≡◌, ℕ, zero, suc, ◌+◌, ◌<◌, ◌≤◌, List, [], ◌∷◌, ◌++◌, length, get_or, map, take, drop, Option, Some, None, refl, inl, inr, sym, ap, ◌∙◌, subst, arith}
+use Rattle.std.proofs.Common.{◌≡◌, ℕ, zero, suc, ◌+◌, ◌<◌, List, [], ◌∷◌, ◌++◌, length, map, take, drop, Some, None, refl, inl, inr, sym, ap, ◌∙◌, subst, arith}
 use Rattle.std.specs.Prelude.{flat_map, slice_get}
 use Rattle.std.specs.List.{enumerate_from}
 use Rattle.std.proofs.lemmas.Bool.{cases_lt}
@@ -13,7 +13,7 @@ use Rattle.core_model.specs.Setup.{Setup, seats_of}
 use Rattle.core_model.specs.Phases.{Phase}
 use Rattle.core_model.specs.SeatStates.{SeatState, Stand, Idle, InFlight, Flight, pending_of, fresh_seat}
 use Rattle.core_model.specs.Worlds.{World, IsRun, world_after, seat_in}
-use Rattle.core_model.specs.Closed.{begun_by, begun_of, records_of, closing_of}
+use Rattle.core_model.specs.Closed.{begun_by, begun_of}
 use Rattle.core_model.specs.Order.{Closing}
 use Rattle.core_model.specs.Histories.{closed}
 use Rattle.core_placing.proofs.Lists.{In, in_flat_map, with_it}
@@ -152,8 +152,9 @@ module _ (setup : Setup) (events : List Event) (run : IsRun setup events) where
 -- of whatever a run left
 pub told_of_run : (shape : Shape) (words : List ℕ) (logs : List (List Record)) (begun : List Pending) →
     IsOfARun shape words logs begun → (t : Told words logs begun) × (t.setup.shape ≡ shape)
-told_of_run shape words logs begun r =
-    subst (λ b. (t : Told words logs b) × (t.setup.shape ≡ shape)) r.begun_are
+unfolding told_after
+told_of_run shape words all begun r =
+    subst (λ b. (t : Told words all b) × (t.setup.shape ≡ shape)) r.begun_are
     (subst (λ ls. (t : Told words ls (begun_of (world_after r.setup r.events))) × (t.setup.shape ≡ shape)) r.logs_are
     (subst (λ ws. (t : Told ws (map (λ (state : SeatState). state.account.records)
     (world_after r.setup r.events).seats) (begun_of (world_after r.setup r.events))) × (t.setup.shape ≡ shape)) r.words_are

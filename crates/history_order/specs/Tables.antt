@@ -1,5 +1,5 @@
 -- What the tables of the turns say. Past its end a table says nothing.
-use Rattle.std.specs.Prelude.{◌≡◌, ℕ, ◌+◌, ◌-◌, ◌<◌, ◌++◌, length, sum, count_by, ◌==◌, ◌&&◌, ◌||◌, nat_le, Bool, true, false, not, List, [], ◌∷◌, if◌then◌else◌, Option, Some, None, slice_get, slice_index, slice_index_or, slice_set, fold, map, option_map, option_to_list, flat_map, find}
+use Rattle.std.specs.Prelude.{◌≡◌, ℕ, ◌+◌, ◌-◌, ◌<◌, ◌++◌, length, sum, count_by, ◌==◌, ◌&&◌, ◌||◌, nat_le, Bool, true, false, not, List, [], ◌∷◌, if◌then◌else◌, Option, Some, None, slice_get, slice_index, slice_index_or, slice_set, fold, map, option_map, option_to_list, flat_map}
 use Rattle.std.specs.Option.{option_map_or}
 use Rattle.std.specs.List.{list_all, range_with_len}
 use Rattle.plain_map.specs.declared.records.TheConstants.{MOST_SEATS}

@@ -7,7 +7,6 @@ mod finding;
 mod laws;
 mod leaves;
 mod moves;
-
 mod ready;
 mod run_order;
 mod tables;

@@ -1,4 +1,4 @@
-use Rattle.std.proofs.Common.{ℕ, Bool, false, ◌≡◌, ◌+◌, ◌-◌, ◌∙◌, sym, ap, map, arith}
+use Rattle.std.proofs.Common.{ℕ, Bool, ◌+◌, ◌-◌, ◌∙◌, sym, map, arith}
 use Rattle.plain_map.specs.declared.records.TheConstants.{MOST_SEATS}
 use Rattle.history_order.specs.Tables.{is_none_or_next}
 use Rattle.history_order.proofs.Ranges.{range_goes, range_stops, all_ends}

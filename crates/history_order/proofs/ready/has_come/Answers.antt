@@ -1,4 +1,4 @@
-use Rattle.std.proofs.Common.{ℕ, Bool, true, ◌≡◌, ◌+◌, ◌-◌, ◌≤◌, ◌∙◌, sym, ap, arith, le-leb}
+use Rattle.std.proofs.Common.{ℕ, Bool, ◌+◌, ◌-◌, ◌∙◌, sym, arith, le-leb}
 use Rattle.std.specs.Prelude.{nat_le, slice_index}
 use Rattle.plain_map.specs.declared.records.TheConstants.{MOST_SEATS}
 use Rattle.history_order.proofs.Ranges.{range_goes}

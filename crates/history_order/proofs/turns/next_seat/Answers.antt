@@ -1,4 +1,4 @@
-use Rattle.std.proofs.Common.{ℕ, Bool, false, ◌≡◌, ◌+◌, ◌-◌, ◌∙◌, sym, ap, map, arith}
+use Rattle.std.proofs.Common.{ℕ, Bool, ◌+◌, ◌-◌, ◌∙◌, sym, map, arith}
 use Rattle.word_rows.specs.LayoutView.{shape_of}
 use Rattle.history_order.specs.Tables.{is_ready_in}
 use Rattle.history_order.proofs.Ranges.{find_here, find_later, find_ends}

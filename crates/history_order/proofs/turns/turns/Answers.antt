@@ -1,5 +1,4 @@
-use Rattle.std.proofs.Common.{◌≡◌, ℕ, ◌+◌, ◌<◌, List, [], ◌∷◌, ◌++◌, length, map, Option, Some, None, refl, sym, ap, ◌∙◌, arith, append-nil, length-append}
-use Rattle.std.specs.Prelude.{slice_index}
+use Rattle.std.proofs.Common.{◌≡◌, [], ◌∷◌, length, map, refl, sym, ap, ◌∙◌, arith, append-nil, length-append}
 use Rattle.word_rows.specs.LayoutView.{shape_of}
 use Rattle.history_order.specs.declared.tables.Progress.{Progress}
 use Rattle.history_order.specs.Tables.{left_of}

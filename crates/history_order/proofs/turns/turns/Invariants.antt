@@ -1,4 +1,4 @@
-use Rattle.std.proofs.Common.{ℕ, ◌+◌, ◌*◌, ◌^◌, length, map}
+use Rattle.std.proofs.Common.{◌+◌, ◌*◌, ◌^◌, length, map}
 use Rattle.word_rows.specs.LayoutView.{shape_of}
 use Rattle.history_order.specs.Tables.{left_of}
 use Rattle.history_order.proofs.Runs.{Runs}
