@@ -7,7 +7,7 @@ use Rattle.std.proofs.lemmas.Bool.{cases_Bool}
 use Rattle.plain_map.specs.History.{answered}
 use Rattle.core_model.specs.Setup.{Setup}
 use Rattle.core_model.specs.Reading.{is_among}
-use Rattle.core_model.specs.Order.{Closing, Piece, ByBucketRow, ByDirectoryRow, ByLookup, Placing, calls_in, has_base, rows_with, directories_with, pieces_of, is_call}
+use Rattle.core_model.specs.Order.{Closing, Piece, ByBucketRow, ByDirectoryRow, ByLookup, Placing, calls_in, has_base, rows_with, directories_with, is_call}
 use Rattle.core_placing.proofs.Lists.{In, in_at, in_without, in_right, any_from, without_is}
 use Rattle.core_placing.proofs.Turns.{Turn, after}
 use Rattle.core_placing.proofs.Stuck.{among_in, is_call_at}
@@ -16,7 +16,8 @@ use Rattle.core_reading.proofs.Book.{Book, Written}
 use Rattle.core_reading.proofs.Ledger.{Ledger}
 use Rattle.core_reading.proofs.OneReady.{Stays, stays_step}
 use Rattle.history_order.proofs.Candidates.{IsUnits}
-use Rattle.history_order.proofs.Bases.{BringsNone, bases_of, version_base, base_was}
+use Rattle.history_order.specs.Parts.{bases_of, version_base}
+use Rattle.history_order.proofs.Bases.{BringsNone, base_was}
 
 module _ (setup : Setup) (closing : Closing) where
   -- the turn of a lookup touches the pieces that were made from its row
@@ -87,14 +88,14 @@ module _ (setup : Setup) (closing : Closing) (k : Book) (w : Written setup closi
   -- with the turn of y, those that were aside but for y, and all that it touches, are all
   pub aside_on : (A B : Piece → Type 0) (p : Placing) (at : ℕ) (y : Piece) → Stays setup closing p →
       Turn setup closing p at y → AllAside setup closing A p → ((x : Piece) → x ≢ y → A x → B x) →
-      ((x : Piece) → In x (pieces_of setup.shape closing) → calls_in setup.shape closing x ≡ [] →
+      ((x : Piece) → In x (after setup closing p at y).left → calls_in setup.shape closing x ≡ [] →
       Touches setup closing y x → has_base setup.shape closing (after setup closing p at y) x ≡ true → B x) →
       AllAside setup closing B (after setup closing p at y)
   aside_on A B p at y s t all keep new x i free base =
       let then = stays_step setup closing p at y t s in
       let there = s.kept.known y (in_at p.left at y t.stands) in
       elim (touched setup closing y x) [
-        | inl h ↦ new x (then.kept.known x i) free h base
+        | inl h ↦ new x i free h base
         | inr none ↦
             keep x (λ e. not_left setup closing p at y then.alone
             (subst (λ z. In z (after setup closing p at y).left) e i))

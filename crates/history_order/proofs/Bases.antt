@@ -1,44 +1,29 @@
 -- When what a piece was made from becomes there: by a turn that brings one of its base rows, or its base directory row,
 -- or that places a lookup of one of its base rows. Any other turn leaves it as it was.
-use Rattle.std.proofs.Common.{◌≡◌, ◌≢◌, ℕ, true, List, [], ◌∷◌, Option, Some, None, refl, inl, inr, sym, ◌∙◌, subst}
-use Rattle.std.specs.Prelude.{option_to_list, filter_map}
+use Rattle.std.proofs.Common.{◌≡◌, ◌≢◌, ℕ, true, Option, Some, None, refl, inl, inr, sym, ◌∙◌, subst}
+use Rattle.std.specs.Prelude.{option_to_list}
 use Rattle.std.specs.Option.{option_map_or}
 use Rattle.std.specs.List.{list_all}
 use Rattle.std.proofs.lemmas.Bool.{and_parts, and_from}
 use Rattle.plain_map.specs.declared.records.Record.{Record}
 use Rattle.core_model.specs.Setup.{Setup}
-use Rattle.core_model.specs.Reading.{bucket_row, directory_row, is_among}
+use Rattle.core_model.specs.Reading.{directory_row, is_among}
 use Rattle.core_model.specs.Order.{Closing, Piece, ByBucketRow, ByDirectoryRow, ByLookup, Placing, first_rows, is_done, has_base, rows_with, directories_with, lookups_of, pieces_of}
 use Rattle.core_placing.proofs.Lists.{In, all_at, all_from, filter_map_in}
 use Rattle.core_placing.proofs.Turns.{after}
 use Rattle.core_placing.proofs.Alone.{among_both}
 use Rattle.core_reading.proofs.Book.{Book, Written}
 use Rattle.core_reading.proofs.Ledger.{Ledger}
+use Rattle.history_order.specs.Parts.{base_of_row, bases_of, version_base}
 use Rattle.history_order.proofs.Candidates.{IsUnits}
 use Rattle.history_order.proofs.Looks.{done_from, done_to, looks_stay}
 
 module _ (setup : Setup) (closing : Closing) where
-  -- the row that a bucket row was made from
-  abbrev pub base_of_row : ℕ → Option ℕ
-  base_of_row row = (bucket_row setup.shape closing.words row).base
-
-  -- the rows that a piece was made from; a lookup waits for its row
-  abbrev pub bases_of : Piece → List ℕ
-  bases_of (ByBucketRow row) = option_to_list (base_of_row row)
-  bases_of (ByDirectoryRow row) = filter_map base_of_row (first_rows setup.shape closing.words row)
-  bases_of (ByLookup r) = r.place ∷ []
-
-  -- the directory row that it was made from
-  abbrev pub version_base : Piece → Option ℕ
-  version_base (ByBucketRow row) = None
-  version_base (ByDirectoryRow row) = (directory_row setup.shape closing.words row).base
-  version_base (ByLookup r) = None
-
   -- the turn of y brings nothing that x was made from
   pub record BringsNone (y x : Piece) : Type 0 where
-    pub rows : (row : ℕ) → In row (bases_of x) → In row (rows_with setup.shape closing y) → ⊥
-    pub version : (row : ℕ) → version_base x ≡ Some row → In row (directories_with y) → ⊥
-    pub looks : (r : Record) → In r (lookups_of closing) → In r.place (bases_of x) → y ≢ ByLookup r
+    pub rows : (row : ℕ) → In row (bases_of setup closing x) → In row (rows_with setup.shape closing y) → ⊥
+    pub version : (row : ℕ) → version_base setup closing x ≡ Some row → In row (directories_with y) → ⊥
+    pub looks : (r : Record) → In r (lookups_of closing) → In r.place (bases_of setup closing x) → y ≢ ByLookup r
 
 module _ (setup : Setup) (closing : Closing) (k : Book) (w : Written setup closing.words k)
     (l : Ledger setup closing k) (unit_of : ℕ → ℕ → Option Piece) (u : IsUnits setup closing unit_of)

@@ -2,7 +2,7 @@
 -- one of them is placed, and no other turn changes how many there are.
 use Rattle.std.proofs.Common.{◌≡◌, ◌≢◌, ℕ, suc, Bool, true, false, not, ◌++◌, Some, true≢false, refl, inl, inr, sym, ap, ◌∙◌, subst, eqb-true, eq-eqb}
 use Rattle.std.specs.Prelude.{◌==◌, ◌&&◌, filter, map, Option}
-use Rattle.std.specs.List.{count_by, list_all}
+use Rattle.std.specs.List.{list_all}
 use Rattle.std.proofs.lemmas.Bool.{and_parts, and_from, cases_Bool}
 use Rattle.plain_map.specs.declared.records.Record.{Record}
 use Rattle.plain_map.specs.History.{Placed, answered, pending, seat_of, number_of}
@@ -16,18 +16,11 @@ use Rattle.core_placing.proofs.Stuck.{is_call_at, call_is_at}
 use Rattle.core_reading.proofs.Book.{Book, Written}
 use Rattle.core_reading.proofs.Ledger.{Ledger}
 use Rattle.core_reading.proofs.Pieces.{look_piece, once_filter, once_left, once_of_map}
+use Rattle.history_order.specs.Parts.{is_open, open_looks}
 use Rattle.history_order.proofs.Counts.{count_none, none_at, count_same, count_more}
 use Rattle.history_order.proofs.Candidates.{IsUnits}
 
 module _ (setup : Setup) (closing : Closing) where
-  -- a lookup of the row that is not placed
-  abbrev pub is_open : Placing → (row : ℕ) → Record → Bool
-  is_open p row r = (r.place == row) && not (is_placed p.order r.seat r.number)
-
-  -- how many there are
-  abbrev pub open_looks : Placing → (row : ℕ) → ℕ
-  open_looks p row = count_by (is_open p row) (lookups_of closing)
-
   -- the opposite of what does not hold
   not_false : (b : Bool) → not b ≡ false → b ≡ true
   not_false true e = refl
@@ -44,7 +37,7 @@ module _ (setup : Setup) (closing : Closing) where
   never_both false b h = refl
 
   -- a row is done where it is placed and no lookup of it is open
-  pub done_from : (p : Placing) (row : ℕ) → is_among p.rows row ≡ true → open_looks p row ≡ 0 →
+  pub done_from : (p : Placing) (row : ℕ) → is_among p.rows row ≡ true → open_looks setup closing p row ≡ 0 →
       is_done closing p (Some row) ≡ true
   done_from p row placed none =
       let looks = filter (λ (r : Record). r.place == row) (lookups_of closing) in
@@ -53,17 +46,17 @@ module _ (setup : Setup) (closing : Closing) where
       let of = in_filter (λ (q : Record). q.place == row) (lookups_of closing) r m in
       not_false (is_placed p.order r.seat r.number)
       (both_false (r.place == row) (not (is_placed p.order r.seat r.number))
-      (none_at (is_open p row) (lookups_of closing) r none of.0) of.1)))
+      (none_at (is_open setup closing p row) (lookups_of closing) r none of.0) of.1)))
 
   -- and only there
   pub done_to : (p : Placing) (row : ℕ) → is_done closing p (Some row) ≡ true →
-      (is_among p.rows row ≡ true) × (open_looks p row ≡ 0)
+      (is_among p.rows row ≡ true) × (open_looks setup closing p row ≡ 0)
   done_to p row h =
       let looks = filter (λ (r : Record). r.place == row) (lookups_of closing) in
       let parts = and_parts (is_among p.rows row)
       (list_all (λ (r : Record). is_placed p.order r.seat r.number) looks) h in (
         parts.0,
-        count_none (is_open p row) (lookups_of closing) (λ r m.
+        count_none (is_open setup closing p row) (lookups_of closing) (λ r m.
             never_both (r.place == row) (not (is_placed p.order r.seat r.number)) (λ e.
             ap not (all_at (λ (q : Record). is_placed p.order q.seat q.number) looks r parts.1
             (filter_in (λ (q : Record). q.place == row) (lookups_of closing) r m e)))),

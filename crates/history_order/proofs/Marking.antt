@@ -14,8 +14,8 @@ use Rattle.core_reading.proofs.Book.{Book, Written}
 use Rattle.core_reading.proofs.Ledger.{Ledger}
 use Rattle.core_reading.proofs.Pieces.{look_piece}
 use Rattle.history_order.proofs.Candidates.{IsUnits}
-use Rattle.history_order.proofs.Looks.{open_looks, looks_stay, look_closes}
-use Rattle.history_order.proofs.Marks.{Marks}
+use Rattle.history_order.specs.Parts.{open_looks, Marks}
+use Rattle.history_order.proofs.Looks.{looks_stay, look_closes}
 
 module _ (setup : Setup) (closing : Closing) where
   -- with the turn of y: its rows are marked beside those that were

@@ -9,22 +9,17 @@ use Rattle.core_model.specs.Setup.{Setup}
 use Rattle.core_model.specs.Reading.{directory_row, is_among}
 use Rattle.core_model.specs.Order.{Closing, Piece, ByBucketRow, ByDirectoryRow, ByLookup, Placing, first_rows, is_done, has_base}
 use Rattle.core_placing.proofs.Lists.{In, all_at, all_from, filter_map_in, in_filter_map}
-use Rattle.history_order.proofs.Looks.{open_looks, done_from, done_to}
-use Rattle.history_order.proofs.Bases.{base_of_row, bases_of, version_base, in_option}
+use Rattle.history_order.specs.Parts.{base_of_row, bases_of, version_base, open_looks, Marks}
+use Rattle.history_order.proofs.Looks.{done_from, done_to}
+use Rattle.history_order.proofs.Bases.{in_option}
 
 module _ (setup : Setup) (closing : Closing) where
-  -- the marks tell the placing
-  pub record Marks (placed there : ℕ → Bool) (looks : ℕ → ℕ) (p : Placing) : Type 0 where
-    pub rows : (row : ℕ) → placed row ≡ is_among p.rows row
-    pub versions : (row : ℕ) → there row ≡ is_among p.directories row
-    pub left : (row : ℕ) → looks row ≡ open_looks setup closing p row
-
   -- by them a row is done
   pub record IsMarkedDone (placed : ℕ → Bool) (looks : ℕ → ℕ) (row : ℕ) : Type 0 where
     pub marked : placed row ≡ true
     pub none : looks row ≡ 0
 
-  module _ (placed there : ℕ → Bool) (looks : ℕ → ℕ) (p : Placing) (m : Marks placed there looks p) where
+  module _ (placed there : ℕ → Bool) (looks : ℕ → ℕ) (p : Placing) (m : Marks setup closing placed there looks p) where
     -- so it is
     done_by : (o : Option ℕ) → ((row : ℕ) → o ≡ Some row → IsMarkedDone placed looks row) →
         is_done closing p o ≡ true

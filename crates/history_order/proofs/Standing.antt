@@ -6,7 +6,7 @@ use Rattle.std.proofs.lemmas.Bool.{and_parts, and_from}
 use Rattle.std.specs.List.{list_all}
 use Rattle.core_model.specs.Setup.{Setup, seats_of}
 use Rattle.core_model.specs.Reading.{is_among}
-use Rattle.core_model.specs.Order.{Closing, Piece, ByBucketRow, ByDirectoryRow, Placing, calls_in, is_next, has_base, is_ready, is_placed, start_of, pieces_of, order_of}
+use Rattle.core_model.specs.Order.{Closing, Piece, ByBucketRow, ByDirectoryRow, Placing, calls_in, is_next, has_base, is_ready, is_placed, start_of, order_of}
 use Rattle.core_placing.proofs.Lists.{In, in_at}
 use Rattle.core_placing.proofs.Turns.{Turn, after}
 use Rattle.core_placing.proofs.Alone.{Alone}
@@ -38,6 +38,28 @@ module _ (setup : Setup) (closing : Closing) where
         (subst (λ z. has_base setup.shape closing p z ≡ true) e base)) (s.all x i free base);
   }
 
+  -- only those that are left, have no calls and have their base need be aside
+  pub set_less : (many : ℕ → ℕ) (aside then : List Piece) (p : Placing) → Stands many aside p →
+      ((x : Piece) → In x p.left → calls_in setup.shape closing x ≡ [] → has_base setup.shape closing p x ≡ true →
+      In x aside → In x then) → Stands many then p
+  set_less many aside then p s keep = record {
+    reaches = s.reaches;
+    counted = s.counted;
+    all = λ x i free base. keep x i free base (s.all x i free base);
+  }
+
+  -- and the numbers count by their values
+  pub stands_same : (many now : ℕ → ℕ) (aside : List Piece) (p : Placing) → ((seat : ℕ) → many seat ≡ now seat) →
+      Stands many aside p → Stands now aside p
+  stands_same many now aside p same s = record {
+    reaches = s.reaches;
+    counted = record {
+      has = λ seat n one few. s.counted.has seat n one (omega (arith, few, same seat));
+      only = λ seat n h. let r = s.counted.only seat n h in (r.0, omega (arith, r.1, same seat));
+    };
+    all = s.all;
+  }
+
   -- a bucket row that is placed has had its turn
   pub row_had : (p : Placing) (row : ℕ) → Alone setup closing p → is_among p.rows row ≡ true →
       In (ByBucketRow row) p.left → ⊥
@@ -51,7 +73,7 @@ module _ (setup : Setup) (closing : Closing) where
   -- these are set aside after the turn of y: those that were, but for y, and all that it touches
   pub record SetAside (p : Placing) (at : ℕ) (y : Piece) (before then : List Piece) : Type 0 where
     pub kept : (x : Piece) → x ≢ y → In x before → In x then
-    pub new : (x : Piece) → In x (pieces_of setup.shape closing) → calls_in setup.shape closing x ≡ [] →
+    pub new : (x : Piece) → In x (after setup closing p at y).left → calls_in setup.shape closing x ≡ [] →
         Touches setup closing y x → has_base setup.shape closing (after setup closing p at y) x ≡ true → In x then
 
   -- a piece without calls leaves the order

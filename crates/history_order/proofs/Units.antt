@@ -1,5 +1,5 @@
 -- The piece of each call: there is one at most, so it can be looked up.
-use Rattle.std.proofs.Common.{◌≡◌, ℕ, Bool, false, cond, List, [], ◌∷◌, Option, Some, None, true≢false, refl, inl, inr, sym, ap, ◌∙◌, subst}
+use Rattle.std.proofs.Common.{◌≡◌, Bool, false, cond, List, [], ◌∷◌, Option, Some, None, true≢false, refl, inl, inr, sym, ap, ◌∙◌, subst}
 use Rattle.std.specs.Prelude.{find}
 use Rattle.std.specs.List.{list_any}
 use Rattle.std.proofs.lemmas.Bool.{cases_Bool}
@@ -12,10 +12,11 @@ use Rattle.core_placing.proofs.Alone.{Apart}
 use Rattle.core_reading.proofs.Book.{Book, Written}
 use Rattle.core_reading.proofs.Ledger.{Ledger}
 use Rattle.core_reading.proofs.Pieces.{separate}
+use Rattle.history_order.specs.Parts.{unit_of}
 use Rattle.history_order.proofs.Candidates.{IsUnits}
 
 -- where none is found none passes
-find_none : {A : Type 0} → (f : A → Bool) (xs : List A) (x : A) → find f xs ≡ None → In x xs → f x ≡ false
+pub find_none : {A : Type 0} → (f : A → Bool) (xs : List A) (x : A) → find f xs ≡ None → In x xs → f x ≡ false
 find_none f [] x h i = elim i [ ]
 find_none f (y ∷ xs) x h i = elim (cases_Bool (f y)) [
   | inl passes ↦ let bad : Some y ≡ None = sym (ap (λ b. cond b (Some y) (find f xs)) passes) ∙ h in cc
@@ -37,11 +38,6 @@ module _ (setup : Setup) (closing : Closing) where
   apart_one (z ∷ xs) x y c d a (inr i) (inl f) m n s t =
       absurd ((a.0 x i).calls d c (subst (λ q. In d (calls_in setup.shape closing q)) f n) m (sym s) (sym t))
   apart_one (z ∷ xs) x y c d a (inr i) (inr j) m n s t = apart_one xs x y c d a.1 i j m n s t
-
-  -- the piece with the seat's call of the number
-  abbrev pub unit_of : ℕ → ℕ → Option Piece
-  unit_of seat n = find (λ x. list_any (is_call seat n) (calls_in setup.shape closing x))
-      (pieces_of setup.shape closing)
 
 module _ (setup : Setup) (closing : Closing) (k : Book) (w : Written setup closing.words k)
     (l : Ledger setup closing k) where
