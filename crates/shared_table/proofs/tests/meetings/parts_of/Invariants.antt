@@ -1,7 +1,7 @@
 use Rattle.std.proofs.Common.{◌≡◌, ◌+◌, vec_len}
 use Rattle.std.specs.Prelude.{All}
 use Rattle.shared_table.specs.Values.{IsOf}
-use Rattle.shared_table.proofs.tests.parts_of.Given as goal
+use Rattle.shared_table.proofs.tests.meetings.parts_of.Given as goal
 
 abbrev pub invariant-loop-worker : goal.invariant-loop-worker
 invariant-loop-worker l = record {

@@ -3,7 +3,7 @@ use Rattle.std.specs.Prelude.{All}
 use Rattle.plain_map.specs.Serving.{IsAskable}
 use Rattle.shared_table.specs.SeatValues.{account_of}
 use Rattle.shared_table.specs.Values.{IsNew, IsOf}
-use Rattle.shared_table.proofs.tests.workers_of.Given as goal
+use Rattle.shared_table.proofs.tests.meetings.workers_of.Given as goal
 
 abbrev pub invariant-loop-seat : goal.invariant-loop-seat
 invariant-loop-seat l = record {

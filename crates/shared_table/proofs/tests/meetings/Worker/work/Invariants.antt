@@ -1,7 +1,7 @@
 use Rattle.std.proofs.Common.{◌≡◌, ◌+◌, ◌≤◌, length, vec_len, vec_capacity}
 use Rattle.shared_table.specs.SeatValues.{account_of}
 use Rattle.shared_table.specs.Values.{IsSame}
-use Rattle.shared_table.proofs.tests.Worker.work.Given as goal
+use Rattle.shared_table.proofs.tests.meetings.Worker.work.Given as goal
 
 abbrev pub invariant-loop-i : goal.invariant-loop-i
 invariant-loop-i l = record {

@@ -1,8 +1,8 @@
 use Rattle.std.proofs.Common.{[], ◌∷◌, ◌++◌, Some, arith}
 use Rattle.std.proofs.lemmas.List.Elements.{All-pop, All-push, All-same}
-use Rattle.shared_table.specs.declared.tests.Worker.{Worker}
+use Rattle.shared_table.specs.declared.tests.meetings.Worker.{Worker}
 use Rattle.shared_table.specs.Values.{IsOf}
-use Rattle.shared_table.proofs.tests.parts_of.Goals as goal
+use Rattle.shared_table.proofs.tests.meetings.parts_of.Goals as goal
 
 pub loop-worker-preserved : goal.loop-worker-preserved
 loop-worker-preserved c =

@@ -1,17 +1,18 @@
 use Rattle.std.proofs.Common.{◌≡◌, ℕ, List, ◌++◌, length, take, drop, ap, ◌∙◌, arith}
 use Rattle.std.proofs.lemmas.List.{take-append-le, take_all}
 use Rattle.std.proofs.lemmas.List.Elements.{All-same}
-use Rattle.shared_table.specs.declared.tests.Worker.{Worker}
+use Rattle.shared_table.specs.declared.tests.meetings.Worker.{Worker}
 use Rattle.shared_table.specs.SeatValues.{SeatValue}
 use Rattle.shared_table.specs.Values.{IsNew, IsOf, new_seats}
 use Rattle.shared_table.proofs.TestLemmas.{all_new, length-new_seats}
-use Rattle.shared_table.proofs.tests.met.Goals as goal
+use Rattle.shared_table.proofs.tests.meetings.met.Goals as goal
 
-pub workers_of-requires-clause-seats : goal.workers_of-requires-clause-seats
-workers_of-requires-clause-seats g c =
-    All-same (IsNew c.in-Some.directory) c.in-Some.seats.items
-    (new_seats c.in-Some.directory 0 c.args.settings.now.seats)
-    c.in-Some.ensures.seats (all_new c.in-Some.directory 0 c.args.settings.now.seats)
+pub workers_of-requires : goal.workers_of-requires
+workers_of-requires g c = record {
+  seats = All-same (IsNew c.in-Ok.directory) c.in-Ok.seats.items
+      (new_seats c.in-Ok.directory 0 c.args.settings.now.seats)
+      c.in-Ok.ensures.seats (all_new c.in-Ok.directory 0 c.args.settings.now.seats);
+}
 
 -- a list that was written whole
 written : {X : Type 0} (n : ℕ) (xs ys : List X) → length ys ≡ n → take n (ys ++ xs) ≡ ys
@@ -27,7 +28,7 @@ parts_of-requires g c =
       ap (length {A = Worker}) c.as_mut_slice.ensures.value,
       c.in_ok-workers.workers.ok.0,
     ) in
-    All-same (λ (w : Worker). IsOf c.in-Some.directory w.seat) _ ys
+    All-same (λ (w : Worker). IsOf c.in-Ok.directory w.seat) _ ys
     (written c.in_ok-workers.workers.len (drop (length ys) c.in_ok-workers.workers.items) ys long)
     c.all_work.ensures
 
@@ -36,8 +37,8 @@ close-requires-clause-all g c = omega (
   arith,
   c.in_ok-seats.ensures.count,
   c.in_ok-workers.ensures.count,
-  c.in-Some.seats.ok.0,
-  ap (length {A = SeatValue}) c.in-Some.ensures.seats,
-  length-new_seats c.in-Some.directory 0 c.args.settings.now.seats,
-  c.in-Some.ensures.setup,
+  c.in-Ok.seats.ok.0,
+  ap (length {A = SeatValue}) c.in-Ok.ensures.seats,
+  length-new_seats c.in-Ok.directory 0 c.args.settings.now.seats,
+  c.in-Ok.ensures.setup,
 )
