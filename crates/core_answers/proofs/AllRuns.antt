@@ -1,5 +1,5 @@
 -- All runs: at the opening all this holds, and each event keeps it.
-use Rattle.std.proofs.Common.{◌≡◌, ℕ, zero, suc, ◌+◌, ◌<◌, ◌≤◌, true, List, [], length, Some, None, inl, inr, refl, sym, ap, ◌∙◌, subst, arith, get_or-set_same, get_or-set_other}
+use Rattle.std.proofs.Common.{◌≡◌, ℕ, zero, suc, ◌+◌, ◌<◌, ◌≤◌, true, List, [], length, None, inl, inr, refl, sym, ap, ◌∙◌, subst, arith, get_or-set_same, get_or-set_other}
 use Rattle.std.proofs.lemmas.Bool.{cases_eq}
 use Rattle.std.proofs.lemmas.List.{get_or-replicate}
 use Rattle.step_counts.specs.declared.rows.SeatRows.{SeatRows}
@@ -26,7 +26,9 @@ use Rattle.core_reading.proofs.Units.{InRow, InVersion, NewAt}
 use Rattle.core_answers.proofs.Tale.{past_of, Tale, tally, Told, Seated}
 use Rattle.core_answers.proofs.Grows.{seated_stays}
 use Rattle.core_answers.proofs.Phases.{Went}
-use Rattle.core_answers.proofs.Moments.{begin, grows_both}
+use Rattle.core_answers.proofs.Options.{none_some}
+use Rattle.core_answers.proofs.Moments.{grows_both}
+use Rattle.core_answers.proofs.Begins.{begin}
 use Rattle.core_answers.proofs.Steps.{went}
 
 -- what is told of a world, and known of its seats
@@ -167,10 +169,6 @@ module _ (setup : Setup) (s : IsSetup setup) where
   -- its history
   abbrev c : Common
   c = fresh.holds.common
-
-  -- nothing is not something
-  none_some : {A : Type 0} {x : A} → None ≡ Some x → ⊥
-  none_some e = cc
 
   -- each bucket has one row
   top_is : (b : ℕ) → c.named b ≡ true → c.top b ≡ 0

@@ -22,10 +22,7 @@ use Rattle.core_changes.proofs.Walk.{loaded-is, loaded-good, leaf-loaded, announ
 use Rattle.core_changes.proofs.Weak.{leaves_are_good, frozen_are_replaced, ops_are_in_leaves}
 use Rattle.core_changes.proofs.NewDirectory.{directory_names_leaves, directory_stays_right, replaced_are_left}
 use Rattle.core_history.proofs.Change.{leaf_at, no_leaf}
-
--- what is there is one thing
-some_same : {A : Type 0} {x y : A} → Some x ≡ Some y → x ≡ y
-some_same e = cc
+use Rattle.core_answers.proofs.Options.{some_same}
 
 -- what is there at an index
 at_index : {A : Type 0} (P : A → Type 0) (xs : List A) (i : ℕ) (d : A) → i < length xs → IfSome (slice_get xs i) P →

@@ -18,10 +18,7 @@ use Rattle.core_rounds.proofs.Won.{all_found}
 use Rattle.core_book.proofs.Leadings.{bits_fewer}
 use Rattle.core_reading.proofs.Units.{NewAt}
 use Rattle.core_answers.proofs.Tale.{Past, Tale, tally, look_at, StandsAfter, IsAnnounced, IsLoadedAt, leaves_of, Told}
-
--- what is there is one thing
-some_same : {A : Type 0} {x y : A} → Some x ≡ Some y → x ≡ y
-some_same e = cc
+use Rattle.core_answers.proofs.Options.{some_same}
 
 -- a bucket to which a version leads is that of each key of its prefix
 pub led : (setup : Setup) (c : Common) → Shared setup c → (v : ℕ) (key other : Key) → v ≤ c.dir_top →

@@ -1,3 +1,5 @@
+pub mod Options
+pub mod OnceLoaded
 pub mod Tale
 pub mod Grows
 pub mod Facts
@@ -7,6 +9,7 @@ pub mod Grown
 pub mod VersionPublished
 pub mod Phases
 pub mod Moments
+pub mod Begins
 pub mod Steps
 pub mod AllRuns
 pub mod Answered

@@ -27,14 +27,7 @@ use Rattle.core_reading.proofs.Units.{Tally, NewAt, Exchanges, counts_kept, new_
 use Rattle.core_answers.proofs.Tale.{past_of, Tale, frame, tally, lists, IsAnnounced, RowMade, Told}
 use Rattle.core_answers.proofs.Grows.{Grows, grows_moved, row_made, version_made}
 use Rattle.core_answers.proofs.Facts.{open_leads, from_frozen, IsCall, is_call, unplaced, ready}
-
--- what is there is one thing
-some_same : {A : Type 0} {x y : A} → Some x ≡ Some y → x ≡ y
-some_same e = cc
-
--- nothing is not something
-none_some : {A : Type 0} {x : A} → None ≡ Some x → ⊥
-none_some e = cc
+use Rattle.core_answers.proofs.Options.{some_same, none_some}
 
 module _ (setup : Setup) (me : ℕ) (c : Common) (account : Account) (flight : Flight) (local : Local)
     (h : me < seats_of setup) (s : Shared setup c) (round : Round) (attempt : BucketTry) (found : List (Option Op))

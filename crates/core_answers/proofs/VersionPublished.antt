@@ -2,7 +2,7 @@
 -- by it.
 use Rattle.std.proofs.Common.{◌≡◌, ℕ, zero, suc, ◌+◌, ◌-◌, ◌*◌, ◌^◌, ◌<◌, ◌≤◌, ◌⊎◌, Bool, true, false, cond, eqb, List, [], ◌∷◌, length, get_or, Option, Some, None, true≢false, inl, inr, refl, sym, ap, ◌∙◌, subst, arith, eqb-true, eq-eqb}
 use Rattle.std.specs.Prelude.{◌&&◌, All, IsSomeAnd}
-use Rattle.std.proofs.lemmas.Bool.{cases_eq, cases_lt, cases_Bool, cond-true, cond-false, and_parts, and_from}
+use Rattle.std.proofs.lemmas.Bool.{cases_eq, cases_lt, cases_Bool, and_parts, and_from}
 use Rattle.std.proofs.lemmas.List.{get_or_past}
 use Rattle.plain_map.specs.declared.keys.Key.{Key}
 use Rattle.plain_map.specs.declared.calls.Call.{Call}
@@ -25,14 +25,13 @@ use Rattle.core_model.specs.Phases.{DirectoryTry, DirExchange}
 use Rattle.core_model.specs.SeatStates.{Account, Flight}
 use Rattle.core_model.specs.Stores.{made_leaves, made_directory}
 use Rattle.core_changes.proofs.Weak.{ops_are_in_leaves}
-use Rattle.core_history.proofs.Ghost.{Common, Local, Shared, Keeps, Moves, IsLoaded, LoadedOnce, lead, last, bits, most_leaves}
+use Rattle.core_history.proofs.Ghost.{Common, Local, Shared, Keeps, Moves, IsLoaded, lead, last, bits, most_leaves}
 use Rattle.core_history.proofs.Change.{IsTry, AreFree, leaf_at, no_leaf, origin, number_in, numbers_free}
 use Rattle.core_rounds.proofs.Won
 use Rattle.core_rounds.proofs.Won.{grown_by, leaf_words, leaf_bases, all_found}
 use Rattle.core_rounds.proofs.PublishRoot.{is_new}
 use Rattle.core_rounds.proofs.FromLaws.{can_change}
 use Rattle.core_rounds.proofs.Changes.{changes_from_laws}
-use Rattle.core_placing.proofs.Lists.{In, any_from}
 use Rattle.core_reading.proofs.Clock.{Publishes, publishes_ticks, published as published_at}
 use Rattle.core_reading.proofs.Units.{Tally, Exchanges, counts_kept, current, applied_current, new_at_was, new_at_up, not_new_at}
 use Rattle.core_answers.proofs.Tale.{past_of, Tale, frame, tally, lists, IsAnnounced, RowMade, IsLoadedAt, VersionMade, Told}
@@ -40,39 +39,8 @@ use Rattle.core_answers.proofs.Grows.{Grows, grows_moved, row_made, version_made
 use Rattle.core_answers.proofs.Facts.{IsCall, is_call, unplaced, ready}
 use Rattle.core_answers.proofs.Grown.{new_at, is_new_at, old_not_new, unnamed, old_top, old_born, new_named, new_top, new_born, new_state, new_pre, new_deep}
 use Rattle.core_answers.proofs.ChangeFacts.{takes, IsTakenOp, taken_from_test, test_from_taken, IsNumberOf, IsOfLeaf, of_leaf, IsOwnLeaf, own_leaf, leaf_leads}
-
--- what stands at an index is a member
-in_at : {A : Type 0} (xs : List A) (i : ℕ) (d : A) → i < length xs → In (get_or xs i d) xs
-in_at [] i d h = absurd (omega (arith, h))
-in_at (x ∷ xs) zero d h = inl refl
-in_at (x ∷ xs) (suc i) d h = inr (in_at xs i d (omega (arith, h)))
-
--- what is there is one thing
-some_same : {A : Type 0} {x y : A} → Some x ≡ Some y → x ≡ y
-some_same e = cc
-
--- nothing is not something
-none_some : {A : Type 0} {x : A} → None ≡ Some x → ⊥
-none_some e = cc
-
--- where each bucket was loaded once, it is found as it was loaded
-found_once : (loaded : List LoadedBucket) → LoadedOnce loaded → All (λ l. loaded_of loaded l.bucket ≡ Some l) loaded
-found_once [] o = λ i d h. absurd (omega (arith, h))
-found_once (l ∷ loaded) o = λ i d h. at (found_once loaded o.1) i d h
-  where
-    at : All (λ x. loaded_of loaded x.bucket ≡ Some x) loaded → (i : ℕ) (d : LoadedBucket) →
-        i < length (l ∷ loaded) → loaded_of (l ∷ loaded) (get_or (l ∷ loaded) i d).bucket ≡ Some
-        (get_or (l ∷ loaded) i d)
-    at rest zero d h = cond-true (eqb l.bucket l.bucket) (Some l) (loaded_of loaded l.bucket)
-        (eq-eqb l.bucket l.bucket refl)
-    at rest (suc i) d h =
-        let x = get_or loaded i d in
-        let less : i < length loaded = omega (arith, h) in
-        elim (cases_Bool (eqb l.bucket x.bucket)) [
-          | inr n ↦ cond-false (eqb l.bucket x.bucket) (Some l) (loaded_of loaded x.bucket) n ∙ rest i d less
-          | inl e ↦ absurd (true≢false (sym (any_from (is_bucket l.bucket) loaded x (in_at loaded i d less)
-              (eq-eqb x.bucket l.bucket (sym (eqb-true l.bucket x.bucket e)))) ∙ o.0))
-        ]
+use Rattle.core_answers.proofs.Options.{some_same, none_some}
+use Rattle.core_answers.proofs.OnceLoaded.{found_once}
 
 module _ (setup : Setup) (me : ℕ) (c : Common) (account : Account) (flight : Flight) (local : Local)
     (h : me < seats_of setup) (s : Shared setup c) (round : Round) (attempt : DirectoryTry)

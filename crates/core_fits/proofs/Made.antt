@@ -1,28 +1,25 @@
 -- What a phase stores can be spelled.
-use Rattle.std.proofs.Common.{◌≡◌, ℕ, ◌+◌, ◌^◌, ◌<◌, ◌≤◌, List, length, get_or, inl, inr, refl, sym, ap, ◌∙◌, subst, arith}
+use Rattle.std.proofs.Common.{◌≡◌, ℕ, ◌^◌, ◌<◌, ◌≤◌, List, length, get_or, inl, inr, sym, ap, ◌∙◌, subst, arith}
 use Rattle.std.specs.Prelude.{Option, Some, None}
-use Rattle.std.specs.Option.{option_map, option_and_then}
 use Rattle.std.proofs.lemmas.Bool.{cases_lt}
 use Rattle.std.proofs.lemmas.List.{get_or_past}
 use Rattle.std.proofs.lemmas.List.Elements.{All-from_get_or}
 use Rattle.step_counts.specs.declared.rows.SeatRows.{SeatRows}
 use Rattle.plain_map.specs.declared.full.FullKind.TheVariants.{BucketWords}
-use Rattle.word_rows.specs.BaseWords.{IsBase}
 use Rattle.word_rows.specs.BucketWords.{IsBucket}
 use Rattle.bucket_states.specs.declared.ops.Op.{Op}
 use Rattle.bucket_states.specs.States.{row_of_state}
 use Rattle.bucket_states.specs.Values.{AreUpdates, IsUpdate}
 use Rattle.core_model.specs.Setup.{Setup, seats_of, rules_of, next_number}
 use Rattle.core_model.specs.declared.rounds.Round.{Round}
-use Rattle.core_model.specs.DirectoryChange.{LoadedBucket, with_leaves, loaded_of, is_bucket as is_it}
-use Rattle.core_model.specs.Leaves.{NewLeaf}
+use Rattle.core_model.specs.DirectoryChange.{LoadedBucket, with_leaves}
 use Rattle.core_model.specs.Phases.{BucketTry, DirectoryTry, Phase, SeeDone, StoreOp, Announce, FindRoot, FindDepth, FindEntry, LookWord, LookCount, LookItems, TryWord, TryRow, TryAnnouncement, TryOp, TryStore, TryExchange, DirRoot, DirDepth, DirEntries, DirAnnouncement, DirOp, DirWord, DirRow, DirStore, DirExchange, LastWord, LastRow, StoreDone}
 use Rattle.core_model.specs.Stores.{made_bucket, made_leaves, base_of_leaf}
 use Rattle.core_model.specs.SeatStates.{Flight}
 use Rattle.core_history.proofs.Ghost.{Common, Local, Shared, Keeps, IsRow, AllFound, most_leaves}
 use Rattle.core_history.proofs.RowLemmas.{BucketLaws, is_bucket, in_range}
 use Rattle.core_history.proofs.Change.{Changes, IsChange as Change, IsTry, no_leaf, leaf_at, numbers_free}
-use Rattle.core_rounds.proofs.Won.{all_found}
+use Rattle.core_rounds.proofs.Won.{based}
 use Rattle.core_model.specs.Fits.{Makes, IsChange}
 
 module _ (laws : BucketLaws) (changes : (setup : Setup) → Changes setup) (setup : Setup) (me : ℕ) (c : Common)
@@ -84,8 +81,8 @@ module _ (laws : BucketLaws) (changes : (setup : Setup) → Changes setup) (setu
         (row_of_state (base_of_leaf loaded leaf) leaf.bucket)) (made_leaves setup attempt found loaded) no_leaf
         (λ j n. (let x = change.sound j n in
         is_bucket setup (base_of_leaf loaded (get_or (made_leaves setup attempt found loaded) j no_leaf))
-        (leaf_at (made_leaves setup attempt found loaded) j) (based (get_or (made_leaves setup attempt found loaded) j
-        no_leaf)) x.good x.small));
+        (leaf_at (made_leaves setup attempt found loaded) j) (based setup me c local.root loaded s k.loads
+        (get_or (made_leaves setup attempt found loaded) j no_leaf)) x.good x.small));
   }
     where
       try : IsTry setup c me local.dir local.root flight.call round.bucket attempt found loaded
@@ -101,26 +98,6 @@ module _ (laws : BucketLaws) (changes : (setup : Setup) → Changes setup) (setu
           flight.call attempt found loaded s try
           (numbers_free setup me c h s used (length (made_leaves setup attempt found loaded)) k.works.flies.used_is
           (omega (arith, few, k.room.words, ap (λ (u : SeatRows). u.bucket_words) k.works.flies.used_is)))
-
-      based : (leaf : NewLeaf) → IsBase (base_of_leaf loaded leaf)
-      based leaf = go leaf.from
-        where
-          go : (from : Option ℕ) → IsBase (option_and_then (λ f. option_map (λ (l : LoadedBucket). l.row)
-              (loaded_of loaded f)) from)
-          go None = tt
-          go (Some f) = at (loaded_of loaded f) (λ l e. all_found (λ (x : LoadedBucket). x.row + 1 < 2 ^ 64) (is_it f)
-              loaded l (λ i z hi. (let x = k.loads i z hi in
-              omega (
-                arith,
-                x.row_is,
-                s.rows.within (get_or loaded i z).bucket x.base x.sees.there x.sees.old,
-                s.opened.shape.few.bucket_rows,
-              ))) e)
-            where
-              at : (o : Option LoadedBucket) → ((l : LoadedBucket) → o ≡ Some l → l.row + 1 < 2 ^ 64) →
-                  IsBase (option_map (λ (l : LoadedBucket). l.row) o)
-              at None g = tt
-              at (Some l) g = g l refl
 
   -- in every phase
   pub makes : (phase : Phase) → Keeps setup c me used flight local phase → Makes setup phase

@@ -57,6 +57,7 @@ module _ (setup : Setup) (seat : ℕ) (account : Account) (flight : Flight) (wor
   goes_on phase after used then seen goes is_used is_after is_seen is_then =
       ap (λ (u : SeatRows). seat_of account u then after) is_used
       ∙ ap (λ (p : Phase). seat_of account (used_after setup account.used phase word) then p) is_after
-      ∙ ap (λ (f : Flight). seat_of account (used_after setup account.used phase word) f (phase_after setup seat account.used flight phase word))
+      ∙ ap (λ (f : Flight). seat_of account (used_after setup account.used phase word) f
+      (phase_after setup seat account.used flight phase word))
       (is_then ∙ ap (λ (s : List ℕ). record flight { seen = s; steps = flight.steps + 1 }) (sym (is_seen flight.seen)))
       ∙ parts phase goes

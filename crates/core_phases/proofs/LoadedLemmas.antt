@@ -16,11 +16,13 @@ use Rattle.dir_states.specs.declared.values.Loaded.{Loaded}
 use Rattle.core_values.specs.Views.{as_loaded}
 
 -- the buckets that were loaded, with one more
-pub loaded_more : (loaded : List Loaded) (one : Loaded) → map as_loaded (loaded ++ one ∷ []) ≡ map as_loaded loaded ++ as_loaded one ∷ []
+pub loaded_more : (loaded : List Loaded) (one : Loaded) → map as_loaded (loaded ++ one ∷ []) ≡ map as_loaded loaded
+    ++ as_loaded one ∷ []
 loaded_more loaded one = map-append as_loaded loaded (one ∷ [])
 
 -- the phase after one more bucket, by the words of its row
-pub words_loaded : (setup : Setup) (round : Round) (attempt : DirectoryTry) (found : List (Option Op)) (loaded all : List Loaded)
+pub words_loaded : (setup : Setup) (round : Round) (attempt : DirectoryTry) (found : List (Option Op))
+    (loaded all : List Loaded)
     (bucket row : ℕ) (words : List ℕ) (state : Bucket)
     → bucket_row_words (settings_of setup) ≤ length words
     → state_of state ≡ bucket_in_words setup words
@@ -30,7 +32,9 @@ pub words_loaded : (setup : Setup) (round : Round) (attempt : DirectoryTry) (fou
 words_loaded setup round attempt found loaded all bucket row words state whole is_state is_all =
     let long : nat_lt (length words) (bucket_row_words (settings_of setup)) ≡ false = grind (arith, nat_tests) in
     ap (λ (l : List LoadedBucket). after_loaded setup round attempt found l)
-    (is_all ∙ ap (λ (s : BucketState). more (map as_loaded loaded) (record { bucket = bucket; row = row; state = s })) is_state)
+    (is_all ∙ ap (λ (s : BucketState). more (map as_loaded loaded) (record { bucket = bucket; row = row; state = s }))
+    is_state)
     ∙ ap (λ (b : Bool). cond b (DirRow round attempt found (map as_loaded loaded) bucket row words)
-    (after_loaded setup round attempt found (more (map as_loaded loaded) (record { bucket = bucket; row = row; state = bucket_in_words setup words }))))
+    (after_loaded setup round attempt found
+    (more (map as_loaded loaded) (record { bucket = bucket; row = row; state = bucket_in_words setup words }))))
     (sym long)

@@ -92,7 +92,8 @@ fn after_directory(
     round: Round,
     attempt: PlainDirectoryTry,
 ) -> PlainPhase
-    ensures { as_phase result ≡ after_directory (as_setup setup.now) (as_flight flight.now) round (as_directory_try attempt) }
+    ensures { as_phase result ≡ after_directory (as_setup setup.now) (as_flight flight.now) round
+        (as_directory_try attempt) }
 {
     let bucket = bucket_of(&setup.rules(), &attempt.directory, flight.call.key());
     if bucket == round.bucket {
@@ -180,7 +181,8 @@ pub(crate) fn after_announcement(
     word: u64,
 ) -> Result<PlainPhase, AllocError>
     ensures { IfOk result (λ after. as_phase after
-        ≡ (if word == 0 then after_dir_found (as_setup setup.now) round (as_directory_try attempt) (more found.items None)
+        ≡ (if word == 0 then after_dir_found (as_setup setup.now) round (as_directory_try attempt)
+        (more found.items None)
         else P.DirOp round (as_directory_try attempt) found.items (word - 1) [])) }
 {
     if word > 0 {
@@ -302,7 +304,8 @@ pub(crate) fn after_store(
         (¬ IsChange (as_setup setup.now) (as_directory_try attempt) found.items (map as_loaded loaded.items))
         (λ after. as_phase after
         ≡ after_puts round (as_directory_try attempt) found.items (map as_loaded loaded.items)
-        (length (directory_puts (as_setup setup.now) seat used.now (as_directory_try attempt) found.items (map as_loaded loaded.items)))
+        (length (directory_puts (as_setup setup.now) seat used.now (as_directory_try attempt) found.items
+        (map as_loaded loaded.items)))
         (stored + 1))) }
 {
     let Some(puts) = directory_puts(alloc, setup, seat, used, &attempt, &found, &loaded)? else {

@@ -14,7 +14,8 @@ use step_counts::OP_WORDS;
 
 /// One more done word is seen.
 pub(crate) fn after_done(setup: &PlainSetup, flight: &PlainFlight) -> PlainPhase
-    ensures { as_phase result ≡ (if nat_lt (length flight.now.seen.items + 1) (seats_of (as_setup setup.now)) then P.SeeDone
+    ensures { as_phase result ≡ (if nat_lt (length flight.now.seen.items + 1) (seats_of (as_setup setup.now))
+        then P.SeeDone
         else after_seeing (as_flight flight.now)) }
 {
     if flight.seen.len() + 1 < setup.seats() as usize {

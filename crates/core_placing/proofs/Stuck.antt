@@ -29,7 +29,7 @@ pub among_in : (rows : List ℕ) (row : ℕ) → In row rows → is_among rows r
 among_in rows row i = any_from (λ other. other == row) rows row i (eq-eqb row row refl)
 
 -- a list with a member has one of least place
-least_in : {A : Type 0} → (place : A → ℕ) (xs : List A) (x : A) → In x xs →
+pub least_in : {A : Type 0} → (place : A → ℕ) (xs : List A) (x : A) → In x xs →
     (y : A) × In y xs × ((z : A) → In z xs → place y ≤ place z)
 least_in place [] x i = elim i [ ]
 least_in place (w ∷ xs) x i = least place w xs
@@ -206,7 +206,7 @@ module _ (setup : Setup) (closing : Closing) where
     base_there ranked p k (ByLookup r) i first h = row_there ranked p k (ByLookup r) i first r.place h
 
     -- the left piece of least place is ready
-    least_ready : (ranked : Ranked) (p : Placing) (k : Kept p) (y : Piece) (i : In y p.left)
+    pub least_ready : (ranked : Ranked) (p : Placing) (k : Kept p) (y : Piece) (i : In y p.left)
         (first : (z : Piece) → In z p.left → place y ≤ place z) → is_ready setup.shape closing p y ≡ true
     least_ready ranked p k y i first =
         let known = k.known y i in

@@ -379,7 +379,7 @@ module _ (setup : Setup) (closing : Closing) (k : Book) (w : Written setup closi
     rank_few (c ∷ cs) h = h c (inl refl)
 
     -- so each piece can be placed after those of smaller places
-    ranked : Ranked setup closing place
+    pub ranked : Ranked setup closing place
     ranked = record {
       bases = λ x i. base_before x (piece_at setup closing k w l x i);
       own = λ x c n i m one less.

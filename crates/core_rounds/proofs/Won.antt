@@ -101,6 +101,28 @@ all_found P test (y ∷ ys) x a e = go (test y) (λ f. all_found P test ys x (λ
     go true rest f = subst P (some_same f) (a 0 y (omega arith))
     go false rest f = rest f
 
+-- the numbers of the rows that leaves were made from are small
+pub based : (setup : Setup) (me : ℕ) (c : Common) (root : ℕ) (loaded : List LoadedBucket) → Shared setup c →
+    All (IsLoaded setup c me root) loaded → (leaf : NewLeaf) → IsBase (base_of_leaf loaded leaf)
+based setup me c root loaded s loads leaf = go leaf.from
+  where
+    go : (from : Option ℕ) → IsBase (option_and_then (λ f. option_map (λ (l : LoadedBucket). l.row)
+        (loaded_of loaded f)) from)
+    go None = tt
+    go (Some f) = at (loaded_of loaded f) (λ l e. all_found (λ (x : LoadedBucket). x.row + 1 < 2 ^ 64) (is_bucket f)
+        loaded l (λ i z hi. (let x = loads i z hi in
+        omega (
+          arith,
+          x.row_is,
+          s.rows.within (get_or loaded i z).bucket x.base x.sees.there x.sees.old,
+          s.opened.shape.few.bucket_rows,
+        ))) e)
+      where
+        at : (o : Option LoadedBucket) → ((l : LoadedBucket) → o ≡ Some l → l.row + 1 < 2 ^ 64) →
+            IsBase (option_map (λ (l : LoadedBucket). l.row) o)
+        at None g = tt
+        at (Some l) g = g l refl
+
 -- the key has a leaf, in which its op is, so there is a reply
 leaf_answers : (setup : Setup) (c : Common) (me : ℕ) (used : SeatRows) (flight now : Flight) (local : Local) (row : ℕ)
     (leaves : List NewLeaf) → Flies setup c me used now.number → flight.number ≡ now.number →
@@ -182,27 +204,6 @@ module _ (changes : (setup : Setup) → Changes setup) (setup : Setup) (me : ℕ
   pub puts : EachPut (IsStored c.memory) (directory_puts setup me account.used attempt found loaded)
   puts = each_from (IsStored c.memory) (directory_puts setup me account.used attempt found loaded) k.so_far
 
-  -- the numbers of the rows that leaves were made from are small
-  based : (leaf : NewLeaf) → IsBase (base_of_leaf loaded leaf)
-  based leaf = go leaf.from
-    where
-      go : (from : Option ℕ) → IsBase (option_and_then (λ f. option_map (λ (l : LoadedBucket). l.row)
-          (loaded_of loaded f)) from)
-      go None = tt
-      go (Some f) = at (loaded_of loaded f) (λ l e. all_found (λ (x : LoadedBucket). x.row + 1 < 2 ^ 64) (is_bucket f)
-          loaded l (λ i z hi. (let x = k.loads i z hi in
-          omega (
-            arith,
-            x.row_is,
-            s.rows.within (get_or loaded i z).bucket x.base x.sees.there x.sees.old,
-            s.opened.shape.few.bucket_rows,
-          ))) e)
-        where
-          at : (o : Option LoadedBucket) → ((l : LoadedBucket) → o ≡ Some l → l.row + 1 < 2 ^ 64) →
-              IsBase (option_map (λ (l : LoadedBucket). l.row) o)
-          at None g = tt
-          at (Some l) g = g l refl
-
   -- so the leaves and the directory are there
   pub stored : Stored setup c loaded leaves now words bases fresh row dir
   unfolding directory_puts leaf_words
@@ -218,8 +219,8 @@ module _ (changes : (setup : Setup) → Changes setup) (setup : Setup) (me : ℕ
         row_is = λ i j n m. (all i n).1 j m;
         sound = λ i n. (let x = change.sound i n in
             bucket_row_sound setup (leaf_at leaves i).prefix (leaf_at leaves i).depth
-            (base_of_leaf loaded (get_or leaves i no_leaf)) (leaf_at leaves i) (based (get_or leaves i no_leaf))
-            x.good x.small refl refl);
+            (base_of_leaf loaded (get_or leaves i no_leaf)) (leaf_at leaves i)
+            (based setup me c local.root loaded s k.loads (get_or leaves i no_leaf)) x.good x.small refl refl);
         from = λ i n. refl;
         depth_is = dirs 0 (omega arith);
         base_is = ap base_of_word (dirs 1 (omega arith)) ∙ base_read (Some attempt.root)

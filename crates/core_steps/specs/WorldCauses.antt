@@ -19,12 +19,14 @@ abbrev pub StepAsksWord : Setup → List ℕ → (seat : ℕ) → Account → Fl
 StepAsksWord setup words seat account flight phase = AsksWord setup.shape (ask_in setup seat account.used flight phase)
 
 -- the row that its step stores can be spelled, and the rows that it reads or keeps are rows of a table
-pub record StepHasRows (setup : Setup) (words : List ℕ) (seat : ℕ) (account : Account) (flight : Flight) (phase : Phase) : Type 0 where
+pub record StepHasRows (setup : Setup) (words : List ℕ) (seat : ℕ) (account : Account) (flight : Flight)
+    (phase : Phase) : Type 0 where
   pub stored : IsStorable setup flight phase
   pub read : RowsStand setup phase (found_in setup words seat account flight phase)
 
 -- the number of its call fits, and one more step can be counted
-pub record StepCounts (setup : Setup) (words : List ℕ) (seat : ℕ) (account : Account) (flight : Flight) (phase : Phase) : Type 0 where
+pub record StepCounts (setup : Setup) (words : List ℕ) (seat : ℕ) (account : Account) (flight : Flight)
+    (phase : Phase) : Type 0 where
   pub number : flight.number < 2 ^ 32
   pub goes_on : CountsGoOn account flight phase (found_in setup words seat account flight phase)
 
@@ -39,4 +41,5 @@ OfEvent P setup world event =
 abbrev pub OfEvents :
     (Setup → List ℕ → (seat : ℕ) → Account → Flight → Phase → Type 0) → Setup → World → List Event → Type 0
 OfEvents P setup world [] = Unit {0}
-OfEvents P setup world (event ∷ events) = OfEvent P setup world event × OfEvents P setup (happens setup world event) events
+OfEvents P setup world (event ∷ events) = OfEvent P setup world event
+    × OfEvents P setup (happens setup world event) events

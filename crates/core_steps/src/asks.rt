@@ -35,7 +35,8 @@ pub fn ask(
     ensures value { IfOk result (λ ask.
         ask ≡ next (as_setup setup.now) seat (as_account account.now) (as_stand stand.now)) }
     ensures words { result ≡ Err StepFault.NoWord
-        → ¬ AsksWord (as_setup setup.now).shape (next (as_setup setup.now) seat (as_account account.now) (as_stand stand.now)) }
+        → ¬ AsksWord (as_setup setup.now).shape
+        (next (as_setup setup.now) seat (as_account account.now) (as_stand stand.now)) }
     ensures rows { result ≡ Err StepFault.NoRow → ¬ CanStore (as_setup setup.now) (as_stand stand.now) }
     ensures counts { result ≡ Err StepFault.NoCount → ¬ AreBelow (2 ^ 62) account.now.used }
 {
@@ -153,7 +154,8 @@ fn load_entry(
     depth: u64,
 ) -> Result<Ask, StepFault>
     ensures value { IfOk result (λ ask.
-        ask ≡ Load (DirectoryWord root (2 + prefix_of (rules_of (as_setup setup.now)) depth (key_in flight.now.call)))) }
+        ask ≡ Load (DirectoryWord root (2 + prefix_of (rules_of (as_setup setup.now)) depth
+        (key_in flight.now.call)))) }
     ensures only { IfErr result (λ fault. fault ≡ StepFault.NoWord) }
     ensures words { IsErr result → ¬ IsAddress (as_setup setup.now).shape
         (DirectoryWord root (2 + prefix_of (rules_of (as_setup setup.now)) depth (key_in flight.now.call))) }

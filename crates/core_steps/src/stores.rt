@@ -144,7 +144,8 @@ pub(crate) fn store_directory_word(
     requires seat { seat < seats_of (as_setup setup.now) }
     requires used { AreBelow (2 ^ 62) used.now }
     ensures value { IfOk result (λ ask. ask
-        ≡ store_of (slice_get (directory_puts (as_setup setup.now) seat used.now (as_directory_try attempt.now) found.now
+        ≡ store_of (slice_get (directory_puts (as_setup setup.now) seat used.now (as_directory_try attempt.now)
+        found.now
         (map as_loaded loaded.now)) stored)) }
     ensures only { IfErr result IsMemoryOrRow }
     ensures rows { result ≡ Err StepFault.NoRow

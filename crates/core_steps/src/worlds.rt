@@ -83,11 +83,14 @@ fn step(
     ensures after { IfOk result (λ after. as_world after
         ≡ step_of (as_setup setup.now) (as_world world) seat (as_account account) (as_flight flight) (as_phase phase)) }
     ensures words { result ≡ Err StepFault.NoWord
-        → ¬ StepAsksWord (as_setup setup.now) world.words.items seat (as_account account) (as_flight flight) (as_phase phase) }
+        → ¬ StepAsksWord (as_setup setup.now) world.words.items seat (as_account account) (as_flight flight)
+        (as_phase phase) }
     ensures rows { result ≡ Err StepFault.NoRow
-        → ¬ StepHasRows (as_setup setup.now) world.words.items seat (as_account account) (as_flight flight) (as_phase phase) }
+        → ¬ StepHasRows (as_setup setup.now) world.words.items seat (as_account account) (as_flight flight)
+        (as_phase phase) }
     ensures counts { result ≡ Err StepFault.NoCount
-        → ¬ StepCounts (as_setup setup.now) world.words.items seat (as_account account) (as_flight flight) (as_phase phase) }
+        → ¬ StepCounts (as_setup setup.now) world.words.items seat (as_account account) (as_flight flight)
+        (as_phase phase) }
 {
     let ask = ask_in(alloc, setup, seat, &account.used, &flight, &phase)?;
     let word = find(setup, &world.words, &ask)?;

@@ -18,7 +18,8 @@ first_bits-deep h d deep =
 pub ruleset prefix_steps = (first_bits-deep)
 
 -- the loaded bucket at one place, and whether it is the one that is looked for
-module _ (loaded : List Loaded) (bucket at : ℕ) (one : Loaded) (inside : at < length loaded) (is : one ≡ get_or loaded at one) where
+module _ (loaded : List Loaded) (bucket at : ℕ) (one : Loaded) (inside : at < length loaded)
+    (is : one ≡ get_or loaded at one) where
   abbrev views : List LoadedBucket
   views = map as_loaded loaded
 

@@ -15,8 +15,10 @@ pub IsReadBucket-filled : BucketsAreRead → (setup : Setup) (words : List ℕ) 
     → IsReadBucket setup words bucket
 IsReadBucket-filled law setup words row made bucket (is_row, spelled) same room kept =
     let settings = settings_of setup in
-    let read : bucket_of_words settings words ≡ row = ap (bucket_of_words settings) spelled ∙ (law settings row is_row).1 in
+    let read : bucket_of_words settings words ≡ row = ap (bucket_of_words settings) spelled
+    ∙ (law settings row is_row).1 in
     record {
+      spelled = (row, (is_row, spelled));
       state = same ∙ sym (ap state_in_row read);
       of_table = subst (IsOfTable settings) (sym same) (record {
         depth = is_row.depth;

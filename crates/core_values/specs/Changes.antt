@@ -9,7 +9,8 @@ use Rattle.dir_states.specs.declared.changes.Change.{Change}
 use Rattle.dir_states.specs.Changes.{directory_of, leaves_of}
 
 -- the change is that of a try, and numbers its leaves from fresh on
-pub record IsMadeBy (setup : Setup) (attempt : DirectoryTry) (found : List (Option Op)) (loaded : List LoadedBucket) (fresh : ℕ)
+pub record IsMadeBy (setup : Setup) (attempt : DirectoryTry) (found : List (Option Op)) (loaded : List LoadedBucket)
+    (fresh : ℕ)
     (change : Change) : Type 0 where
   pub leaves : leaves_of change ≡ made_leaves setup attempt found loaded
   pub directory : directory_of change ≡ with_leaves fresh (leaves_of change) attempt.directory

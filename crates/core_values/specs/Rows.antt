@@ -1,6 +1,7 @@
 -- Which buckets are those of a table, and what is read from a row's words.
 use Rattle.std.specs.Prelude.{◌≡◌, ℕ, ◌^◌, ◌<◌, ◌≤◌, List, length}
 use Rattle.step_counts.specs.declared.settings.Settings.{Settings}
+use Rattle.word_rows.specs.BucketWords.{SpellSomeBucket}
 use Rattle.bucket_states.specs.declared.bucket.Bucket.{Bucket}
 use Rattle.bucket_states.specs.States.{BucketState, HasRoom, state_of}
 use Rattle.core_model.specs.Setup.{Setup, settings_of}
@@ -14,8 +15,9 @@ pub record IsOfTable (settings : Settings) (bucket : BucketState) : Type 0 where
   pub applied : length bucket.applied ≡ settings.seats
   pub replies : length bucket.replies ≡ settings.seats
 
--- the bucket is the one that the words spell; it is the table's, and has all room
+-- the words spell a bucket, and this is it; it is the table's, and has all room
 pub record IsReadBucket (setup : Setup) (words : List ℕ) (bucket : Bucket) : Type 0 where
+  pub spelled : SpellSomeBucket (settings_of setup) words
   pub state : state_of bucket ≡ bucket_in_words setup words
   pub of_table : IsOfTable (settings_of setup) (state_of bucket)
   pub room : HasRoom (settings_of setup).seats (settings_of setup).items bucket

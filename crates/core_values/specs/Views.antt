@@ -2,8 +2,6 @@
 use Rattle.std.specs.Prelude.{map}
 use Rattle.core_model.specs.Setup.{Setup}
 use Rattle.core_model.specs.Directories.{DirectoryState}
-use Rattle.core_model.specs.DirectoryChange.{LoadedBucket}
-use Rattle.core_model.specs.Leaves.{NewLeaf}
 use Rattle.core_model.specs.Phases.{BucketTry, DirectoryTry, Phase}
 use Rattle.core_model.specs.Phases as P
 use Rattle.core_model.specs.SeatStates.{Account, Flight, Stand, SeatState}
@@ -35,7 +33,12 @@ as_directory directory = record { depth = directory.depth; entries = directory.e
 
 -- the tries
 abbrev pub as_bucket_try : PlainBucketTry → BucketTry
-as_bucket_try attempt = record { turn = attempt.turn; first = attempt.first; row = attempt.row; state = state_of attempt.state }
+as_bucket_try attempt = record {
+  turn = attempt.turn;
+  first = attempt.first;
+  row = attempt.row;
+  state = state_of attempt.state;
+}
 
 abbrev pub as_directory_try : PlainDirectoryTry → DirectoryTry
 as_directory_try attempt = record {

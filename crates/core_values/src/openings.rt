@@ -54,7 +54,8 @@ fn opening_puts(
     first: &Opening,
 ) -> Result<Option<Vec<Put>>, AllocError>
     ensures { IfOk result (λ puts. MatchOption puts
-        (¬ All (λ leaf. IsBucket (settings_of (as_setup setup.now)) (row_of_state None leaf.bucket)) (first_leaves first.now))
+        (¬ All (λ leaf. IsBucket (settings_of (as_setup setup.now)) (row_of_state None leaf.bucket))
+        (first_leaves first.now))
         (λ puts. puts.items ≡ leaf_puts (as_setup setup.now) (λ _. None) 0 0 (first_leaves first.now)
         ++ row_puts (DirectoryWord 0) 0 (directory_words None (first_directory first.now)))) }
 {

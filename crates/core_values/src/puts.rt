@@ -35,7 +35,8 @@ pub fn directory_puts(
     ensures { IfOk result (λ puts. MatchOption puts
         (¬ IsChange (as_setup setup.now) (as_directory_try attempt.now) found.now (map as_loaded loaded.now))
         (λ puts. puts.items
-        ≡ directory_puts (as_setup setup.now) seat used.now (as_directory_try attempt.now) found.now (map as_loaded loaded.now))) }
+        ≡ directory_puts (as_setup setup.now) seat used.now (as_directory_try attempt.now) found.now
+        (map as_loaded loaded.now))) }
 {
     if attempt.root == u64::MAX {
         return Ok(None);

@@ -77,8 +77,10 @@ pub(crate) fn leaf_puts(
     requires bucket { bucket < 2 ^ 63 }
     requires row { row < 2 ^ 63 }
     ensures { IfOk result (λ puts. MatchOption puts
-        (¬ All (λ leaf. IsBucket (settings_of (as_setup setup.now)) (row_of_state (base_of_leaf (map as_loaded loaded.now) leaf) leaf.bucket)) (map as_leaf leaves.now))
-        (λ puts. puts.items ≡ leaf_puts (as_setup setup.now) (base_of_leaf (map as_loaded loaded.now)) bucket row (map as_leaf leaves.now))) }
+        (¬ All (λ leaf. IsBucket (settings_of (as_setup setup.now))
+        (row_of_state (base_of_leaf (map as_loaded loaded.now) leaf) leaf.bucket)) (map as_leaf leaves.now))
+        (λ puts. puts.items ≡ leaf_puts (as_setup setup.now) (base_of_leaf (map as_loaded loaded.now)) bucket row
+        (map as_leaf leaves.now))) }
 {
     let mut puts = Vec::new(alloc);
     for (i, leaf) in leaves.iter().enumerate() {

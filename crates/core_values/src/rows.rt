@@ -1,6 +1,6 @@
 //! Buckets read from words, and written as words.
 
-ghost use Rattle.std.specs.Prelude.{◌≡◌, ◌↔◌, IsTrue, IfOk, MatchOption, Some, length};
+ghost use Rattle.std.specs.Prelude.{◌≡◌, ◌↔◌, IsTrue, IfOk, IfSome, MatchOption, Some, length};
 ghost use Rattle.step_counts.specs.StepCounts.{bucket_row_words};
 ghost use Rattle.word_rows.specs.BucketWords.{IsBucket, SpellSomeBucket};
 ghost use Rattle.bucket_states.specs.States.{HasRoom, row_of_state, state_of};
@@ -18,7 +18,7 @@ use std::alloc::{AllocError, Global};
 use step_counts::bucket_row_words;
 use word_rows::row_laws;
 
-/// The bucket that the words of a row spell, or `None` where they spell none.
+/// The bucket that the words of a row spell, or `None` exactly where they spell none.
 ///
 /// The only error is want of memory.
 pub fn read_bucket(
@@ -42,7 +42,7 @@ pub fn read_bucket(
     Ok(Some(bucket))
 }
 
-/// The words of the row of a bucket that was made from the row `base`, or `None` where it has no spelling.
+/// The words of the row of a bucket that was made from the row `base`, or `None` exactly where it has no spelling.
 ///
 /// The only error is want of memory.
 pub fn write_bucket(
@@ -51,9 +51,11 @@ pub fn write_bucket(
     base: Option<u64>,
     bucket: &Bucket,
 ) -> Result<Option<Vec<u64>>, AllocError>
-    ensures { IfOk result (λ written. MatchOption written
+    ensures words { IfOk result (λ written. MatchOption written
         (¬ IsBucket (settings_of (as_setup setup.now)) (row_of_state base (state_of bucket.now)))
         (λ words. words.items ≡ bucket_words (as_setup setup.now) base (state_of bucket.now))) }
+    ensures spelled { IfOk result (λ written. IfSome written (λ _.
+        IsBucket (settings_of (as_setup setup.now)) (row_of_state base (state_of bucket.now)))) }
 {
     let settings = setup.layout.settings();
     if !is_row(settings, base, bucket) {
@@ -72,7 +74,8 @@ pub fn write_bucket(
 pub fn copy_bucket(alloc: Global, setup: &PlainSetup, bucket: &Bucket) -> Result<Bucket, AllocError>
     requires { IsOfTable (settings_of (as_setup setup.now)) (state_of bucket.now) }
     ensures same { IfOk result (λ copy. state_of copy ≡ state_of bucket.now) }
-    ensures room { IfOk result (HasRoom (settings_of (as_setup setup.now)).seats (settings_of (as_setup setup.now)).items) }
+    ensures room { IfOk result (HasRoom (settings_of (as_setup setup.now)).seats
+        (settings_of (as_setup setup.now)).items) }
 {
     let mut copy = Bucket::with_room(alloc, setup.layout.settings())?;
     copy.copy_from(bucket);

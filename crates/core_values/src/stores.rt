@@ -21,7 +21,8 @@ fn store(layout: &Layout, words: &mut Vec<u64>, put: &Put)
 
 /// The words of a table in which nothing stands but these stores, one after the other.
 pub(crate) fn stored(alloc: Global, layout: &Layout, puts: &[Put]) -> Result<Vec<u64>, AllocError>
-    ensures { IfOk result (λ words. words.items ≡ with_puts (shape_of layout.now) (replicate (word_count (shape_of layout.now)) 0) puts.now) }
+    ensures { IfOk result (λ words. words.items ≡ with_puts (shape_of layout.now)
+        (replicate (word_count (shape_of layout.now)) 0) puts.now) }
 {
     let mut words = vec![in alloc; 0; layout.words() as usize]?;
     for put in puts {

@@ -1,5 +1,5 @@
-//! Openings and a directory change worked by hand, which show that the definitions mean what was meant, and that memory is
-//! found.
+//! Openings and a directory change worked by hand, which show that the definitions mean what was meant, and that memory
+//! is found.
 
 ghost use Rattle.std.specs.Prelude.{◌≡◌, IfOk};
 ghost use Rattle.core_model.specs.Setup.{seats_of};
@@ -18,7 +18,8 @@ use std::test::Fail;
 use step_counts::{SeatRows, Settings};
 use word_rows::{Address, Layout};
 
-// The key of 10.0.0.1 with a port and 10.0.0.2:80 over TCP: its first word, and its second with ports 1, 2, 16384 and 32768.
+// The key of 10.0.0.1 with a port and 10.0.0.2:80 over TCP: its first word, and its second with ports 1, 2, 16384 and
+// 32768.
 const K0: u64 = 0x0a00_0001_0a00_0002;
 
 const K1: u64 = 0x0000_0000_0100_5006;

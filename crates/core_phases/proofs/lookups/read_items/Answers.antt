@@ -13,5 +13,6 @@ loop-i-preserved c =
     let words = c.args.words.now in
     let pair = c.read_pair.result in
     let both = item_read words i _ pair (omega arith) c.read_pair.ensures in
-    c.in_ok-push.ensures.items ∙ ap (λ xs. xs ++ pair ∷ []) c.loop-i.invariant ∙ ap (λ p. items_of_words i words ++ p ∷ []) both.0
+    c.in_ok-push.ensures.items ∙ ap (λ xs. xs ++ pair ∷ []) c.loop-i.invariant
+    ∙ ap (λ p. items_of_words i words ++ p ∷ []) both.0
     ∙ sym (first_values_next (λ k. pair_of_words (block ITEM_WORDS k words)) i)

@@ -8,8 +8,12 @@ use Rattle.core_steps.proofs.worlds.run_world.Given as goal
 
 abbrev pub invariant-loop-event : goal.invariant-loop-event
 invariant-loop-event l = record {
-  leads : fold (happens (as_setup l.setup)) (as_world l.after) (drop l.event-index l.events) ≡ fold (happens (as_setup l.setup)) (as_world l.fn.world) l.events;
-  words : OfEvents StepAsksWord (as_setup l.setup) (as_world l.fn.world) l.events → OfEvents StepAsksWord (as_setup l.setup) (as_world l.after) (drop l.event-index l.events);
-  rows : OfEvents StepHasRows (as_setup l.setup) (as_world l.fn.world) l.events → OfEvents StepHasRows (as_setup l.setup) (as_world l.after) (drop l.event-index l.events);
-  counts : OfEvents StepCounts (as_setup l.setup) (as_world l.fn.world) l.events → OfEvents StepCounts (as_setup l.setup) (as_world l.after) (drop l.event-index l.events);
+  leads : fold (happens (as_setup l.setup)) (as_world l.after) (drop l.event-index l.events)
+      ≡ fold (happens (as_setup l.setup)) (as_world l.fn.world) l.events;
+  words : OfEvents StepAsksWord (as_setup l.setup) (as_world l.fn.world) l.events →
+      OfEvents StepAsksWord (as_setup l.setup) (as_world l.after) (drop l.event-index l.events);
+  rows : OfEvents StepHasRows (as_setup l.setup) (as_world l.fn.world) l.events →
+      OfEvents StepHasRows (as_setup l.setup) (as_world l.after) (drop l.event-index l.events);
+  counts : OfEvents StepCounts (as_setup l.setup) (as_world l.fn.world) l.events →
+      OfEvents StepCounts (as_setup l.setup) (as_world l.after) (drop l.event-index l.events);
 }

@@ -5,4 +5,5 @@ use Rattle.core_values.proofs.changes.change_of.Goals as goal
 
 pub returns-then-not-change : goal.returns-then-not-change
 returns-then-not-change c =
-    unfit_change (as_setup c.args.setup.now) (as_directory_try c.args.attempt.now) c.args.found.now (map as_loaded c.args.loaded.now) (search rules)
+    unfit_change (as_setup c.args.setup.now) (as_directory_try c.args.attempt.now) c.args.found.now
+    (map as_loaded c.args.loaded.now) (search rules)

@@ -19,5 +19,6 @@ returns c =
     ∙ ap (λ front. front ++ row_puts (DirectoryWord 0) 0 c.deref.result.now)
     (some_said _ _ c.in_ok-puts.field-0 c.in-Some.puts (rw c.leaves.ensures at c.in_ok-puts.ensures) c.in-Some.is
     ∙ leaf_puts-none (as_setup c.args.setup.now) 0 0 (first_leaves c.args.first.now))
-    ∙ ap (λ words. leaf_puts (as_setup c.args.setup.now) (λ _. None) 0 0 (first_leaves c.args.first.now) ++ row_puts (DirectoryWord 0) 0 words)
+    ∙ ap (λ words. leaf_puts (as_setup c.args.setup.now) (λ _. None) 0 0 (first_leaves c.args.first.now)
+    ++ row_puts (DirectoryWord 0) 0 words)
     (c.deref.ensures.value ∙ c.in_ok-row.ensures ∙ ap (directory_words None) c.state.ensures)

@@ -13,4 +13,6 @@ pub returns-in_default : goal.returns-in_default
 returns-in_default c = λ setup spelled.
     let same : first_leaves c.opening.new.out ≡ leaves_at_opening (as_setup c.args.setup.now) = search rules in
     none_said _ _ c.in_ok-puts.field-0 c.in_ok-puts.ensures c.in_default.is
-    (subst (λ (l : List NewLeaf). All (λ leaf. IsBucket (settings_of (as_setup c.args.setup.now)) (row_of_state None leaf.bucket)) l) (sym same) spelled)
+    (subst (λ (l : List NewLeaf). All
+    (λ leaf. IsBucket (settings_of (as_setup c.args.setup.now)) (row_of_state None leaf.bucket)) l) (sym same)
+    spelled)

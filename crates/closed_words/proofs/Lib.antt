@@ -1,0 +1,5 @@
+pub mod WordLemmas
+pub mod LoopLemmas
+pub mod LineLemmas
+pub mod ItemLemmas
+pub mod TakenLemmas

@@ -1,0 +1,13 @@
+use Rattle.std.proofs.Common.{◌≡◌, ◌-◌, ◌++◌}
+use Rattle.plain_map.specs.declared.full.FullKind.TheVariants.{DirRows}
+use Rattle.word_rows.specs.Shape.{count_of}
+use Rattle.core_model.specs.Reading.{line, directory_line, directory_row}
+use Rattle.word_rows.specs.LayoutView.{shape_of}
+use Rattle.closed_words.proofs.published.directory_line.Given as goal
+
+abbrev pub invariant-loop : goal.invariant-loop
+invariant-loop g l =
+    l.line.items
+    ++ line (λ r. (directory_row (shape_of l.starts.layout) (g.W.Words.words l.words) r).base)
+    (count_of (shape_of l.starts.layout) DirRows - l.counter) l.next
+    ≡ directory_line (shape_of l.starts.layout) (g.W.Words.words l.words) l.fn.row

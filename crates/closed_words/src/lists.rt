@@ -1,0 +1,49 @@
+//! The numbers of a list, each once.
+//!
+//! The only error is want of memory.
+
+ghost use Rattle.std.specs.Prelude.{◌≡◌, IfOk, filter, not};
+ghost use Rattle.core_model.specs.Reading.{each_once, each_once_first, is_among};
+
+use std::alloc::{AllocError, Global};
+
+/// The numbers, each once: where it stands last.
+pub(crate) fn each_once(alloc: Global, numbers: &[u64]) -> Result<Vec<u64>, AllocError>
+    ensures { IfOk result (λ once. once.items ≡ each_once numbers.now) }
+{
+    let mut once = Vec::new(alloc);
+    for (i, number) in numbers.iter().enumerate() {
+        if !numbers[i + 1..].contains(number) {
+            once.push(*number)?;
+        }
+    }
+    Ok(once)
+}
+
+/// The numbers, each once: where it stands first.
+pub(crate) fn each_once_first(alloc: Global, numbers: &[u64]) -> Result<Vec<u64>, AllocError>
+    ensures { IfOk result (λ once. once.items ≡ each_once_first numbers.now) }
+{
+    let mut back = numbers.to_vec(alloc)?;
+    back.reverse();
+    let mut once = each_once(alloc, &back)?;
+    once.reverse();
+    Ok(once)
+}
+
+/// Those of the numbers that are none of the others.
+pub(crate) fn without(
+    alloc: Global,
+    numbers: &[u64],
+    others: &[u64],
+) -> Result<Vec<u64>, AllocError>
+    ensures { IfOk result (λ left. left.items ≡ filter (λ number. not (is_among others.now number)) numbers.now) }
+{
+    let mut left = Vec::new(alloc);
+    for number in numbers {
+        if !others.contains(number) {
+            left.push(*number)?;
+        }
+    }
+    Ok(left)
+}

@@ -1,0 +1,32 @@
+-- Each list is what the lists before it make.
+use Rattle.std.proofs.Common.{◌≡◌, ◌∷◌, ℕ, [], List, Some, true, false, refl, Vec, Global, map, get_or, ap, ◌∙◌, filter}
+use Rattle.plain_map.specs.declared.records.Record.{Record}
+use Rattle.plain_map.specs.declared.full.FullKind.TheVariants.{BucketRows}
+use Rattle.word_rows.specs.Shape.{Shape, count_of}
+use Rattle.word_rows.specs.LayoutView.{shape_of}
+use Rattle.history_order.specs.Filling.{exchanged_in, firsts_in}
+use Rattle.history_order.specs.Columns.{after_all, is_free, looks_in}
+use Rattle.history_order.specs.Fills.{version_leaves, exchanged_rows}
+use Rattle.history_order.proofs.Loops.{joined_items}
+use Rattle.history_order.proofs.finding.begin.Goals as goal
+
+pub returns : goal.returns
+returns g c =
+    let shape : Shape = shape_of c.args.starts.now.layout in
+    let words : List ℕ = g.W.Words.words c.args.words.now in
+    let logs : List (List Record) = map (λ (v : Vec Record Global). v.items) c.args.logs.now in
+    let exchanged_are : c.args.exchanged.now ≡ exchanged_rows shape words logs =
+    c.requires.exchanged ∙ ap (exchanged_in shape words) c.requires.leaves in
+    let opening : c.deref.result.now ≡ firsts_in shape words (get_or (version_leaves shape words logs) 0 []) =
+    c.deref.ensures.value ∙ c.in_ok-opening.ensures
+    ∙ ap (firsts_in shape words) (c.opening.ensures ∙ ap (λ ls. get_or ls 0 []) c.requires.leaves) in
+    record {
+      latest = refl;
+      placed_rows = c.in_ok-placed.ensures.rows;
+      placed = λ place. c.in_ok-placed.ensures.placed place
+          ∙ ap (λ xs. after_all (λ row. Some row) (λ row. true) place (count_of shape BucketRows) xs false) opening;
+      looks_rows = c.in_ok-looks.ensures.rows;
+      looks = λ place less. c.in_ok-looks.ensures.looks place less
+          ∙ ap (λ rs. looks_in rs place) (joined_items c.args.logs.now);
+      aside = c.in_ok-aside.ensures ∙ ap (filter (λ row. is_free shape words (row ∷ []))) exchanged_are;
+    }

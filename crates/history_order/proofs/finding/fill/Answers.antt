@@ -1,0 +1,20 @@
+-- What is found and how the turns begin, by what is told.
+use Rattle.std.proofs.Common.{ℕ, List, Vec, Global, map, sym, subst}
+use Rattle.plain_map.specs.declared.records.Record.{Record}
+use Rattle.history_order.specs.Fills.{IsFound, IsBegun}
+use Rattle.history_order.proofs.TablesTell.{filled, begins}
+use Rattle.history_order.proofs.finding.fill.Goals as goal
+
+pub returns-clause-found : goal.returns-clause-found
+returns-clause-found g c begun told e =
+    let words : List ℕ = g.W.Words.words c.args.words.now in
+    let logs : List (List Record) = map (λ (v : Vec Record Global). v.items) c.args.logs.now in
+    filled words logs begun told c.in_ok-find.field-0
+    (subst (λ shape. IsFound shape words logs c.in_ok-find.field-0) (sym e) c.in_ok-find.ensures)
+
+pub returns-clause-begun : goal.returns-clause-begun
+returns-clause-begun g c begun told e =
+    let words : List ℕ = g.W.Words.words c.args.words.now in
+    let logs : List (List Record) = map (λ (v : Vec Record Global). v.items) c.args.logs.now in
+    begins words logs begun told c.in_ok-begin.field-0
+    (subst (λ shape. IsBegun shape words logs c.in_ok-begin.field-0) (sym e) c.in_ok-begin.ensures)

@@ -1,0 +1,20 @@
+-- What the run leaves is told, and the tables say it.
+use Rattle.std.proofs.Common.{ℕ, List, Vec, Global, map}
+use Rattle.plain_map.specs.declared.records.Record.{Record}
+use Rattle.word_rows.specs.Shape.{Shape}
+use Rattle.word_rows.specs.LayoutView.{shape_of}
+use Rattle.history_order.proofs.ToldOfRun.{told_of_run}
+use Rattle.history_order.proofs.run_order.order.Goals as goal
+
+pub turns-requires : goal.turns-requires
+turns-requires g c =
+    let shape : Shape = shape_of c.args.starts.now.layout in
+    let words : List ℕ = g.W.Words.words c.args.words.now in
+    let logs : List (List Record) = map (λ (v : Vec Record Global). v.items) c.args.logs.now in
+    let t = told_of_run shape words logs c.args.begun.now c.requires in
+    record {
+      told = t.0;
+      shape_is = t.1;
+      filled = c.in_ok-found.ensures.found c.args.begun.now t.0 t.1;
+      begins = c.in_ok-found.ensures.begun c.args.begun.now t.0 t.1;
+    }

@@ -1,0 +1,11 @@
+pub mod Turns
+pub mod Closing
+pub mod Parts
+pub mod Filling
+pub mod Columns
+pub mod Told
+pub mod Filled
+pub mod Fills
+pub mod Calls
+pub mod Tables
+pub mod Begins

@@ -1,0 +1,19 @@
+//! The one order of the calls of a closed table, made by turns on tables.
+#![tactic(auto)]
+
+mod calls;
+mod columns;
+mod finding;
+mod laws;
+mod leaves;
+mod moves;
+mod ready;
+mod run_order;
+mod tables;
+#[cfg(test)]
+mod tests;
+mod turns;
+mod unit_lists;
+
+pub use laws::turns_reach;
+pub use run_order::order;

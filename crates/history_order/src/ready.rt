@@ -1,0 +1,287 @@
+//! Which units may be placed.
+
+ghost use Rattle.std.specs.Prelude.{◌≡◌, ◌<◌, false, map};
+ghost use Rattle.std.specs.List.{list_all};
+ghost use Rattle.std.specs.Option.{option_map_or};
+ghost use Rattle.history_order.specs.Calls.{call_at, seen_in};
+ghost use Rattle.word_rows.specs.LayoutView.{shape_of};
+ghost use Rattle.plain_map.specs.declared.records.TheConstants.{MOST_SEATS};
+ghost use Rattle.history_order.specs.Tables.{
+  are_next_in,
+  has_base_in,
+  has_call_in,
+  has_come,
+  has_marked_base,
+  is_due,
+  is_free,
+  is_marked,
+  is_marked_done,
+  is_next_in,
+  is_none_or_next,
+  is_ready_in,
+  is_unit,
+  is_version_due,
+  unit_in,
+};
+
+use crate::calls::{Closed, place_at, seen_at};
+use crate::tables::{Found, Progress, Unit};
+use closed_words::{Words, row_base};
+use plain_map::{MOST_SEATS, Seen};
+
+// Whether the two are one unit.
+fn is_unit(a: Unit, b: Unit) -> bool
+    ensures { result ≡ is_unit a b }
+{
+    match (a, b) {
+        (Unit::Lookup, Unit::Lookup) => true,
+        (Unit::Row(a), Unit::Row(b)) => a == b,
+        (Unit::Version(a), Unit::Version(b)) => a == b,
+        _ => false,
+    }
+}
+
+/// The unit of the seat's call at this place.
+pub(crate) fn unit_in(found: &Found, seat: usize, at: usize) -> Option<Unit>
+    ensures { result ≡ unit_in found.now seat at }
+{
+    if seat < found.units.len() && at < found.units[seat].len() {
+        found.units[seat][at]
+    } else {
+        None
+    }
+}
+
+/// Whether the unit of the seat's next call has a call of the other seat.
+pub(crate) fn has_call_in(found: &Found, unit: Unit, seat: usize, other: usize) -> bool
+    requires { other < MOST_SEATS }
+    ensures { result ≡ has_call_in found.now unit seat other }
+{
+    match unit {
+        Unit::Lookup => seat == other,
+        Unit::Row(row) => {
+            (row as usize) < found.callers.len() && found.callers[row as usize][other]
+        }
+        Unit::Version(d) => d < found.versions.len() && found.versions[d].callers[other],
+    }
+}
+
+/// Whether the unit has no calls.
+pub(crate) fn is_free(found: &Found, unit: Unit) -> bool
+    ensures { result ≡ is_free found.now unit }
+{
+    for seat in 0..MOST_SEATS {
+        if has_call_in(found, unit, 0, seat) {
+            return false;
+        }
+    }
+    true
+}
+
+// Whether the bucket row is placed.
+fn is_marked(placed: &[bool], row: u64) -> bool
+    ensures { result ≡ is_marked placed.now row }
+{
+    (row as usize) < placed.len() && placed[row as usize]
+}
+
+/// Whether the bucket row and all its lookups are placed.
+pub(crate) fn is_marked_done(placed: &[bool], looks: &[u64], row: u64) -> bool
+    ensures { result ≡ is_marked_done placed.now looks.now row }
+{
+    is_marked(placed, row) && ((row as usize) >= looks.len() || looks[row as usize] == 0)
+}
+
+// Whether all these rows and all their lookups are placed.
+fn are_marked_done(placed: &[bool], looks: &[u64], rows: &[u64]) -> bool
+    ensures { result ≡ list_all (is_marked_done placed.now looks.now) rows.now }
+{
+    for row in rows {
+        if !is_marked_done(placed, looks, *row) {
+            return false;
+        }
+    }
+    true
+}
+
+// Whether what the unit was made from is placed.
+fn has_marked_base<W: Words>(
+    closed: &Closed<W>,
+    found: &Found,
+    progress: &Progress,
+    unit: Unit,
+) -> bool
+    ensures { result ≡ has_marked_base (shape_of closed.now.starts.now.layout) (W.words closed.now.words.now)
+        found.now progress.now unit }
+{
+    match unit {
+        Unit::Lookup => false,
+        Unit::Row(row) => match row_base(closed.starts, closed.words, row) {
+            Some(base) => is_marked_done(&progress.placed, &progress.looks, base),
+            None => true,
+        },
+        Unit::Version(d) => {
+            d == progress.latest
+                && d < found.versions.len()
+                && are_marked_done(&progress.placed, &progress.looks, &found.versions[d].bases)
+        }
+    }
+}
+
+/// Whether the bucket row is not placed, and what it was made from is.
+pub(crate) fn is_due<W: Words>(
+    closed: &Closed<W>,
+    found: &Found,
+    progress: &Progress,
+    row: u64,
+) -> bool
+    ensures { result ≡ is_due (shape_of closed.now.starts.now.layout) (W.words closed.now.words.now)
+        found.now progress.now row }
+{
+    !is_marked(&progress.placed, row) && has_marked_base(closed, found, progress, Unit::Row(row))
+}
+
+/// Whether the next version has no calls, and what it was made from is placed.
+pub(crate) fn is_version_due<W: Words>(
+    closed: &Closed<W>,
+    found: &Found,
+    progress: &Progress,
+) -> bool
+    ensures { result ≡ is_version_due (shape_of closed.now.starts.now.layout) (W.words closed.now.words.now)
+        found.now progress.now }
+{
+    let unit = Unit::Version(progress.latest);
+    is_free(found, unit) && has_marked_base(closed, found, progress, unit)
+}
+
+// Whether all calls that were seen are placed.
+fn has_come(count: &[u32; MOST_SEATS], seen: &Seen) -> bool
+    ensures { result ≡ has_come count.now seen.now.counts }
+{
+    for seat in 0..MOST_SEATS {
+        if seen.counts[seat] > count[seat] {
+            return false;
+        }
+    }
+    true
+}
+
+// Whether the seat's call at this place is one of the unit.
+fn is_of_unit(found: &Found, unit: Unit, seat: usize, at: usize) -> bool
+    ensures { result ≡ option_map_or (is_unit unit) (unit_in found.now seat at) false }
+{
+    match unit_in(found, seat, at) {
+        Some(other) => is_unit(unit, other),
+        None => false,
+    }
+}
+
+// Whether all that the caller of the seat's call at this place had seen is placed.
+fn saw_placed<W: Words>(
+    closed: &Closed<W>,
+    count: &[u32; MOST_SEATS],
+    seat: usize,
+    at: usize,
+) -> bool
+    ensures { result ≡ option_map_or (λ call. has_come count.now (seen_in call).counts)
+        (call_at (map (λ log. log.items) closed.now.logs.now) closed.now.begun.now seat at) false }
+{
+    match seen_at(closed.logs, closed.begun, seat, at) {
+        Some(seen) => has_come(count, &seen),
+        None => false,
+    }
+}
+
+// Whether the other seat's next call is one of the unit, and may come next.
+fn is_next_in<W: Words>(
+    closed: &Closed<W>,
+    found: &Found,
+    count: &[u32; MOST_SEATS],
+    unit: Unit,
+    other: usize,
+) -> bool
+    requires { other < MOST_SEATS }
+    ensures { result ≡ is_next_in (map (λ log. log.items) closed.now.logs.now) closed.now.begun.now
+        found.now count.now unit other }
+{
+    is_of_unit(found, unit, other, count[other] as usize)
+        && saw_placed(closed, count, other, count[other] as usize)
+}
+
+// Whether the unit has no call of the other seat, or that call may come next.
+fn is_none_or_next<W: Words>(
+    closed: &Closed<W>,
+    found: &Found,
+    count: &[u32; MOST_SEATS],
+    seat: usize,
+    unit: Unit,
+    other: usize,
+) -> bool
+    requires { other < MOST_SEATS }
+    ensures { result ≡ is_none_or_next (map (λ log. log.items) closed.now.logs.now) closed.now.begun.now
+        found.now count.now seat unit other }
+{
+    !has_call_in(found, unit, seat, other) || is_next_in(closed, found, count, unit, other)
+}
+
+// Whether so it is with each call of the unit.
+fn are_next_in<W: Words>(
+    closed: &Closed<W>,
+    found: &Found,
+    count: &[u32; MOST_SEATS],
+    seat: usize,
+    unit: Unit,
+) -> bool
+    ensures { result ≡ are_next_in (map (λ log. log.items) closed.now.logs.now) closed.now.begun.now
+        found.now count.now seat unit }
+{
+    for other in 0..MOST_SEATS {
+        if !is_none_or_next(closed, found, count, seat, unit, other) {
+            return false;
+        }
+    }
+    true
+}
+
+// Whether what the unit of the seat's next call was made from is placed.
+fn has_base_in<W: Words>(
+    closed: &Closed<W>,
+    found: &Found,
+    progress: &Progress,
+    count: &[u32; MOST_SEATS],
+    seat: usize,
+    unit: Unit,
+) -> bool
+    requires { seat < MOST_SEATS }
+    ensures { result ≡ has_base_in (shape_of closed.now.starts.now.layout) (W.words closed.now.words.now)
+        (map (λ log. log.items) closed.now.logs.now) found.now progress.now count.now seat unit }
+{
+    match unit {
+        Unit::Lookup => match place_at(closed.logs, seat, count[seat] as usize) {
+            Some(row) => is_marked(&progress.placed, row),
+            None => false,
+        },
+        _ => has_marked_base(closed, found, progress, unit),
+    }
+}
+
+/// Whether the unit of the seat's next call may be placed.
+pub(crate) fn is_ready_in<W: Words>(
+    closed: &Closed<W>,
+    found: &Found,
+    progress: &Progress,
+    count: &[u32; MOST_SEATS],
+    seat: usize,
+) -> bool
+    requires { seat < MOST_SEATS }
+    ensures { result ≡ is_ready_in (shape_of closed.now.starts.now.layout) (W.words closed.now.words.now)
+        (map (λ log. log.items) closed.now.logs.now) closed.now.begun.now found.now progress.now count.now seat }
+{
+    match unit_in(found, seat, count[seat] as usize) {
+        Some(unit) => {
+            has_base_in(closed, found, progress, count, seat, unit)
+                && are_next_in(closed, found, count, seat, unit)
+        }
+        None => false,
+    }
+}

@@ -1,0 +1,43 @@
+//! The one order of the calls of a closed table.
+
+ghost use Rattle.std.specs.Prelude.{◌≡◌, IfOk, map};
+ghost use Rattle.word_rows.specs.LayoutView.{shape_of};
+ghost use Rattle.plain_map.specs.History.{ids_of};
+ghost use Rattle.core_model.specs.Order.{order_of};
+ghost use Rattle.history_order.specs.Closing.{IsOfARun, closing_with};
+
+use crate::calls::Closed;
+use crate::finding::fill;
+use crate::tables::Tables;
+use crate::turns::turns;
+use closed_words::{Starts, Words};
+use plain_map::{CallId, Pending, Record};
+use std::alloc::{AllocError, Global};
+
+/// The names of the calls of a closed table in their one order, from its words, the records of each seat and the calls
+/// that had begun. The only error is want of memory.
+pub fn order<W: Words>(
+    alloc: Global,
+    starts: &Starts,
+    words: &W,
+    logs: &[Vec<Record>],
+    begun: &[Pending],
+) -> Result<Vec<CallId>, AllocError>
+    requires { IsOfARun (shape_of starts.now.layout) (W.words words.now) (map (λ log. log.items) logs.now) begun.now }
+    ensures { IfOk result (λ order. order.items ≡ ids_of (order_of (shape_of starts.now.layout)
+        (closing_with (W.words words.now) (map (λ log. log.items) logs.now) begun.now))) }
+{
+    let Tables {
+        found,
+        mut progress,
+    } = fill(alloc, starts, words, logs)?;
+    let closed = Closed {
+        starts,
+        words,
+        logs,
+        begun,
+    };
+    let mut out = Vec::new(alloc);
+    turns(&closed, &found, &mut progress, &mut out)?;
+    Ok(out)
+}

@@ -1,0 +1,57 @@
+//! The tables by which the turns are made: what the words tell, and how far the turns are.
+
+use plain_map::MOST_SEATS;
+
+/// What is placed at once. A lookup is known by its call.
+#[derive(Clone, Copy, Debug, PartialEq, Eq)]
+pub(crate) enum Unit {
+    Lookup,
+    /// A bucket row that was published by an exchange of a bucket word.
+    Row(u64),
+    /// A directory row, by its place among the versions.
+    Version(usize),
+}
+
+/// A directory row, with the first rows of its new leaves.
+#[derive(Debug, Drop)]
+pub(crate) struct Version {
+    pub row: u64,
+    /// By seat, whether one of its updates is new in these rows.
+    pub callers: [bool; MOST_SEATS],
+    pub firsts: Vec<u64>,
+    /// The rows that these were made from.
+    pub bases: Vec<u64>,
+}
+
+/// What the words tell. No turn changes it.
+#[derive(Debug, Drop)]
+pub(crate) struct Found {
+    /// By bucket row: the bucket row that was made from it by an exchange.
+    pub next: Vec<Option<u64>>,
+    /// By bucket row and seat, whether the seat's update is new in it, where the row was exchanged.
+    pub callers: Vec<[bool; MOST_SEATS]>,
+    /// By seat and number: the unit of the call. The first call has number 1, and place 0.
+    pub units: Vec<Vec<Option<Unit>>>,
+    /// The directory rows, from the opening on. Each was made from the one before it.
+    pub versions: Vec<Version>,
+}
+
+/// How far the turns are.
+#[derive(Debug, Drop)]
+pub(crate) struct Progress {
+    /// By bucket row.
+    pub placed: Vec<bool>,
+    /// By bucket row: its answered lookups that are not placed.
+    pub looks: Vec<u64>,
+    /// So many versions are placed: the first ones.
+    pub latest: usize,
+    /// Bucket rows without calls that may have their base.
+    pub aside: Vec<u64>,
+}
+
+/// All of them.
+#[derive(Debug, Drop)]
+pub(crate) struct Tables {
+    pub found: Found,
+    pub progress: Progress,
+}
