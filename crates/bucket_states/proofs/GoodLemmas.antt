@@ -31,13 +31,15 @@ use Rattle.bucket_states.proofs.FoldLemmas.{not_taken, is_taken}
 value_at-find : (key : Key) (items : List Pair) → value_at key items ≡ find key_cmp key (map entry_of items)
 value_at-find key [] = refl
 value_at-find key (pair ∷ pairs) =
-    ap (λ b. cond b (Some pair.value) (value_at key pairs)) (same_key-equiv.symm pair.key key ∙ sym (eq_by_cmp-same_key key pair.key))
+    ap (λ b. cond b (Some pair.value) (value_at key pairs)) (same_key-equiv.symm pair.key key
+    ∙ sym (eq_by_cmp-same_key key pair.key))
     ∙ ap (cond _ (Some pair.value)) (value_at-find key pairs)
 
 abbrev pub own_sessions : List Pair → Sessions
 own_sessions items = from_entries (map entry_of items)
 
-pub own_part : (rules : Rules) (prefix depth : ℕ) (items : List Pair) → HasDistinctKeys items → HasPrefix rules prefix depth items → HoldsPart rules prefix depth items (own_sessions items)
+pub own_part : (rules : Rules) (prefix depth : ℕ) (items : List Pair) → HasDistinctKeys items →
+    HasPrefix rules prefix depth items → HoldsPart rules prefix depth items (own_sessions items)
 own_part rules prefix depth items distinct inside = record {
   distinct = distinct;
   inside = inside;
@@ -47,10 +49,12 @@ own_part rules prefix depth items distinct inside = record {
 -- ---- one op
 
 -- a bucket that overflows has no place, and can be split
-pub overflow_parts : (rules : Rules) (depth : ℕ) (items : List Pair) (call : Call) → overflows rules depth items call ≡ true → (rules.items ≤ length items) × (depth < rules.depth)
+pub overflow_parts : (rules : Rules) (depth : ℕ) (items : List Pair) (call : Call) →
+    overflows rules depth items call ≡ true → (rules.items ≤ length items) × (depth < rules.depth)
 unfolding overflows
 overflow_parts rules depth items (Insert key value) full =
-    let parts = and_parts (not (is_some (value_at key items))) (not (has_place rules items) && nat_lt depth rules.depth) full in
+    let parts = and_parts (not (is_some (value_at key items))) (not (has_place rules items) && nat_lt depth rules.depth)
+    full in
     let more = and_parts (not (has_place rules items)) (nat_lt depth rules.depth) parts.1 in
     (ltb-false _ _ (not-true _ more.0), ltb-true _ _ more.1)
 overflow_parts rules depth items (Remove key) full = cc
@@ -78,10 +82,12 @@ module _ (rules : Rules) (range : InRange rules) (seats : ℕ) where
           full = λ is. (omega arith, parts.1);
         }
 
-    pub took-IsGood : bucket.frozen ≡ false → IsFor rules bucket op → applied_of bucket seat < op.number → overflows rules bucket.depth bucket.items op.call ≡ false
+    pub took-IsGood : bucket.frozen ≡ false → IsFor rules bucket op → applied_of bucket seat < op.number →
+        overflows rules bucket.depth bucket.items op.call ≡ false
         → IsGood rules seats (answered rules bucket seat op)
     took-IsGood live for_it above fits =
-        let alike = local_answers rules bucket.prefix bucket.depth bucket.items (own_sessions bucket.items) op.call (can_answer bucket good)
+        let alike = local_answers rules bucket.prefix bucket.depth bucket.items (own_sessions bucket.items) op.call
+        (can_answer bucket good)
         (own_part rules bucket.prefix bucket.depth bucket.items good.distinct good.inside) for_it fits in
         let at : seat < length bucket.applied = omega (arith, good.numbers) in
         let at_too : seat < length bucket.replies = omega (arith, good.answers) in
@@ -103,16 +109,21 @@ module _ (rules : Rules) (range : InRange rules) (seats : ℕ) where
         now : BucketState
         now = answered rules bucket seat op
 
-        by_seat : seat < length bucket.applied → seat < length bucket.replies → (q : ℕ) → (q ≡ seat) ⊎ (q ≡ seat → ⊥) → (applied_of now q ≡ 0) ↔ (reply_at now q ≡ None)
-        by_seat at at_too q (inl same) = subst (λ (k : ℕ). (applied_of now k ≡ 0) ↔ (reply_at now k ≡ None)) (sym same) (own at at_too)
+        by_seat : seat < length bucket.applied → seat < length bucket.replies → (q : ℕ) → (q ≡ seat) ⊎ (q ≡ seat → ⊥) →
+            (applied_of now q ≡ 0) ↔ (reply_at now q ≡ None)
+        by_seat at at_too q (inl same) =
+            subst (λ (k : ℕ). (applied_of now k ≡ 0) ↔ (reply_at now k ≡ None)) (sym same) (own at at_too)
           where
-            own : seat < length bucket.applied → seat < length bucket.replies → (applied_of now seat ≡ 0) ↔ (reply_at now seat ≡ None)
+            own : seat < length bucket.applied → seat < length bucket.replies →
+                (applied_of now seat ≡ 0) ↔ (reply_at now seat ≡ None)
             own at at_too =
                 let number : applied_of now seat ≡ op.number = get_or-set_same bucket.applied seat op.number 0 at in
-                let reply : reply_at now seat ≡ Some (reply_in rules bucket.items op.call) = get_or-set_same bucket.replies seat _ None at_too in
+                let reply : reply_at now seat ≡ Some (reply_in rules bucket.items op.call) =
+                get_or-set_same bucket.replies seat _ None at_too in
                 (λ none. absurd (omega arith), λ none. cc)
         by_seat at at_too q (inr other) =
-            let number : applied_of now q ≡ applied_of bucket q = get_or-set_other bucket.applied seat q op.number 0 other in
+            let number : applied_of now q ≡ applied_of bucket q =
+            get_or-set_other bucket.applied seat q op.number 0 other in
             let reply : reply_at now q ≡ reply_at bucket q = get_or-set_other bucket.replies seat q _ None other in
             rw (number, reply) (good.answered q)
 
@@ -129,23 +140,30 @@ module _ (rules : Rules) (range : InRange rules) (seats : ℕ) where
 
   -- ---- all seats
 
-  walk-IsGood : (seat : ℕ) (ops : List (Option Op)) (bucket : BucketState) → IsGood rules seats bucket → seat + length ops ≤ seats → IsGood rules seats (after_seats rules seat ops bucket)
+  walk-IsGood : (seat : ℕ) (ops : List (Option Op)) (bucket : BucketState) → IsGood rules seats bucket →
+      seat + length ops ≤ seats → IsGood rules seats (after_seats rules seat ops bucket)
   walk-IsGood seat [] bucket good fit = good
   walk-IsGood seat (None ∷ ops) bucket good fit = walk-IsGood (suc seat) ops bucket good (omega arith)
   walk-IsGood seat (Some op ∷ ops) bucket good fit =
-      walk-IsGood (suc seat) ops (after_op rules seat op bucket) (after_op-IsGood seat op bucket good (omega arith)) (omega arith)
+      walk-IsGood (suc seat) ops (after_op rules seat op bucket) (after_op-IsGood seat op bucket good (omega arith))
+      (omega arith)
 
   -- items and replies after these ops are those of the plain object
   abbrev AlikeFrom : (prefix depth : ℕ) → Sessions → BucketState → List Taken → Type 0
-  AlikeFrom prefix depth sessions now ts = HoldsPart rules prefix depth now.items (sessions_after rules sessions ts) × AreAnswered rules sessions now ts
+  AlikeFrom prefix depth sessions now ts = HoldsPart rules prefix depth now.items (sessions_after rules sessions ts)
+      × AreAnswered rules sessions now ts
 
-  walk-alike : (seat : ℕ) (ops : List (Option Op)) (bucket : BucketState) (sessions : Sessions) → IsGood rules seats bucket → seat + length ops ≤ seats
+  walk-alike : (seat : ℕ) (ops : List (Option Op)) (bucket : BucketState) (sessions : Sessions) →
+      IsGood rules seats bucket → seat + length ops ≤ seats
       → HoldsPart rules bucket.prefix bucket.depth bucket.items sessions
-      → AlikeFrom bucket.prefix bucket.depth sessions (after_seats rules seat ops bucket) (taken_from seat ops bucket (after_seats rules seat ops bucket))
+      → AlikeFrom bucket.prefix bucket.depth sessions (after_seats rules seat ops bucket)
+      (taken_from seat ops bucket (after_seats rules seat ops bucket))
   walk-alike seat [] bucket sessions good fit part = (part, tt)
-  walk-alike seat (None ∷ ops) bucket sessions good fit part = walk-alike (suc seat) ops bucket sessions good (omega arith) part
+  walk-alike seat (None ∷ ops) bucket sessions good fit part =
+      walk-alike (suc seat) ops bucket sessions good (omega arith) part
   walk-alike seat (Some op ∷ ops) bucket sessions good fit part =
-      by (λ then holds. walk-alike (suc seat) ops (after_op rules seat op bucket) then (after_op-IsGood seat op bucket good (omega arith)) (omega arith) holds)
+      by (λ then holds. walk-alike (suc seat) ops (after_op rules seat op bucket) then
+      (after_op-IsGood seat op bucket good (omega arith)) (omega arith) holds)
       (outcome rules seat op bucket)
     where
       mid : BucketState
@@ -166,18 +184,21 @@ module _ (rules : Rules) (range : InRange rules) (seats : ℕ) where
           subst (λ (d : ℕ). AlikeFrom bucket.prefix d then end (taken_from (suc seat) ops mid end)) shape.depth
           (subst (λ (p : ℕ). AlikeFrom p mid.depth then end (taken_from (suc seat) ops mid end)) shape.prefix rest)
 
-      back : (then : Sessions) (left : List Pair) → mid.items ≡ left → HoldsPart rules bucket.prefix bucket.depth left then → HoldsPart rules mid.prefix mid.depth mid.items then
+      back : (then : Sessions) (left : List Pair) → mid.items ≡ left →
+          HoldsPart rules bucket.prefix bucket.depth left then → HoldsPart rules mid.prefix mid.depth mid.items then
       back then left is holds =
           let shape = KeepsShape-after_seat rules seat (Some op) bucket in
           rw (shape.prefix, shape.depth, is) holds
 
-      untaken : ((then : Sessions) → HoldsPart rules mid.prefix mid.depth mid.items then → Rest then) → applied_of mid seat ≡ applied_of bucket seat → mid.items ≡ bucket.items
+      untaken : ((then : Sessions) → HoldsPart rules mid.prefix mid.depth mid.items then → Rest then) →
+          applied_of mid seat ≡ applied_of bucket seat → mid.items ≡ bucket.items
           → AlikeFrom bucket.prefix bucket.depth sessions end (taken_from seat (Some op ∷ ops) bucket end)
       untaken onward same items =
           subst (AlikeFrom bucket.prefix bucket.depth sessions end) (sym (not_taken rules seat op ops bucket same))
           (moved sessions (onward sessions (back sessions bucket.items items part)))
 
-      by : ((then : Sessions) → HoldsPart rules mid.prefix mid.depth mid.items then → Rest then) → Outcome rules seat op bucket
+      by : ((then : Sessions) → HoldsPart rules mid.prefix mid.depth mid.items then → Rest then) →
+          Outcome rules seat op bucket
           → AlikeFrom bucket.prefix bucket.depth sessions end (taken_from seat (Some op ∷ ops) bucket end)
       by onward (stayed is _) = untaken onward (ap (λ b. applied_of b seat) is) (ap (λ b. b.items) is)
       by onward (skipped is _) = untaken onward (ap (λ b. applied_of b seat) is) (ap (λ b. b.items) is)
@@ -186,11 +207,14 @@ module _ (rules : Rules) (range : InRange rules) (seats : ℕ) where
           let parts = due_parts rules bucket seat op due in
           let at : seat < length bucket.applied = omega (arith, good.numbers) in
           let at_too : seat < length bucket.replies = omega (arith, good.answers) in
-          let alike = local_answers rules bucket.prefix bucket.depth bucket.items sessions op.call (can_answer bucket good) part parts.0 fits in
+          let alike = local_answers rules bucket.prefix bucket.depth bucket.items sessions op.call
+          (can_answer bucket good) part parts.0 fits in
           let reply = reply_set rules seat op bucket ops at_too is ∙ ap (λ r. Some r) alike.reply in
           let then : Sessions = map_after rules sessions op.call in
-          let rest : Here then = moved then (onward then (back then (items_after rules bucket.items op.call) (ap (λ b. b.items) is) alike.part)) in
-          subst (AlikeFrom bucket.prefix bucket.depth sessions end) (sym (is_taken rules seat op ops bucket at parts.1 is)) (rest.0, (reply, rest.1))
+          let rest : Here then = moved then
+          (onward then (back then (items_after rules bucket.items op.call) (ap (λ b. b.items) is) alike.part)) in
+          subst (AlikeFrom bucket.prefix bucket.depth sessions end)
+          (sym (is_taken rules seat op ops bucket at parts.1 is)) (rest.0, (reply, rest.1))
 
 -- ---- the laws
 
@@ -205,4 +229,5 @@ frozen_is_full rules seats ops bucket range good fit is =
 
 pub folds_alike : FoldsAlike
 unfolding change
-folds_alike rules seats ops bucket sessions range good fit part = walk-alike rules range seats 0 ops bucket sessions good (omega arith) part
+folds_alike rules seats ops bucket sessions range good fit part =
+    walk-alike rules range seats 0 ops bucket sessions good (omega arith) part

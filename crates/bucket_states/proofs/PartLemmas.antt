@@ -30,11 +30,13 @@ first_bits-of_more : (h d n : ℕ) → d ≤ n → n ≤ 64 → first_bits h d �
 unfolding first_bits
 first_bits-of_more h d n le small =
     let widths : (64 - n) + (n - d) ≡ 64 - d = omega arith in
-    sym (div-div-eq-div-mul h (2 ^ (64 - n)) (2 ^ (n - d)) ∙ ap (λ (k : ℕ). h / k) (sym (pow-add 2 (64 - n) (n - d)) ∙ ap (λ (k : ℕ). 2 ^ k) widths))
+    sym (div-div-eq-div-mul h (2 ^ (64 - n)) (2 ^ (n - d))
+    ∙ ap (λ (k : ℕ). h / k) (sym (pow-add 2 (64 - n) (n - d)) ∙ ap (λ (k : ℕ). 2 ^ k) widths))
 
 module _ (rules : Rules) (range : InRange rules) where
   -- keys of one class have one prefix
-  pub same_prefix : (depth : ℕ) (a b : Key) → depth ≤ rules.depth → class_of rules a ≡ class_of rules b → prefix_of rules depth a ≡ prefix_of rules depth b
+  pub same_prefix : (depth : ℕ) (a b : Key) → depth ≤ rules.depth → class_of rules a ≡ class_of rules b →
+      prefix_of rules depth a ≡ prefix_of rules depth b
   unfolding class_of prefix_of
   same_prefix depth a b within same =
       let small : rules.depth ≤ 64 = omega (arith, range.depth) in
@@ -57,49 +59,71 @@ pub some_of : (o : Option ℕ) → is_some o ≡ true → (held : ℕ) × (o ≡
 some_of (Some held) is = (held, refl)
 some_of None is = cc
 
-module _ (rules : Rules) (prefix depth : ℕ) (items : List Pair) (sessions : Sessions) (part : HoldsPart rules prefix depth items sessions) (key : Key) where
+module _ (rules : Rules) (prefix depth : ℕ) (items : List Pair) (sessions : Sessions)
+    (part : HoldsPart rules prefix depth items sessions) (key : Key) where
   -- a class of the part has no more keys than there are items
-  pub class_size-few : InRange rules → depth ≤ rules.depth → prefix_of rules depth key ≡ prefix → class_size rules sessions (class_of rules key) ≤ length items
+  pub class_size-few : InRange rules → depth ≤ rules.depth → prefix_of rules depth key ≡ prefix →
+      class_size rules sessions (class_of rules key) ≤ length items
   class_size-few range within here =
       let class = class_of rules key in
-      let among : (q : Key) → list_any (same_key q) (entry_keys (of_class rules sessions class)) ≡ true → list_any (same_key q) (keys_of items) ≡ true = λ q is.
-      let facts = both_hold (class_of rules q == class) (get sessions q) (sym (member_of_class rules sessions class q) ∙ is) in
-      let there : prefix_of rules depth q ≡ prefix = same_prefix rules range depth q key within (eqb-true _ _ facts.0) ∙ here in
+      let among : (q : Key) → list_any (same_key q) (entry_keys (of_class rules sessions class)) ≡ true →
+      list_any (same_key q) (keys_of items) ≡ true = λ q is.
+      let facts = both_hold (class_of rules q == class) (get sessions q) (sym (member_of_class rules sessions class q)
+      ∙ is) in
+      let there : prefix_of rules depth q ≡ prefix = same_prefix rules range depth q key within (eqb-true _ _ facts.0)
+      ∙ here in
       sym (is_some-value_at q items) ∙ ap is_some (part.same q there) ∙ facts.1
       in
-      let few = length-le_from_is_member same_key-equiv (entry_keys (of_class rules sessions class)) (keys_of items) (distinct_of_class rules sessions class) among in
-      rw (class_size-keys rules sessions class) (subst (λ (n : ℕ). length (entry_keys (of_class rules sessions class)) ≤ n) (length-map items (λ (p : Pair). p.key)) few)
+      let few = length-le_from_is_member same_key-equiv (entry_keys (of_class rules sessions class)) (keys_of items)
+      (distinct_of_class rules sessions class) among in
+      rw (class_size-keys rules sessions class)
+      (subst (λ (n : ℕ). length (entry_keys (of_class rules sessions class)) ≤ n)
+      (length-map items (λ (p : Pair). p.key)) few)
 
   -- and at the greatest depth no fewer
-  pub class_size-many : depth ≡ rules.depth → prefix_of rules depth key ≡ prefix → length items ≤ class_size rules sessions (class_of rules key)
+  pub class_size-many : depth ≡ rules.depth → prefix_of rules depth key ≡ prefix →
+      length items ≤ class_size rules sessions (class_of rules key)
   class_size-many deep here =
       let class = class_of rules key in
       let of_key : prefix ≡ class = sym here ∙ ap (λ (d : ℕ). prefix_of rules d key) deep ∙ prefix_is_class rules key in
-      let among : (q : Key) → list_any (same_key q) (keys_of items) ≡ true → list_any (same_key q) (entry_keys (of_class rules sessions class)) ≡ true = λ q is.
+      let among : (q : Key) → list_any (same_key q) (keys_of items) ≡ true →
+      list_any (same_key q) (entry_keys (of_class rules sessions class)) ≡ true = λ q is.
       let held = some_of (value_at q items) (is_some-value_at q items ∙ is) in
       let there = part.inside q held.0 held.1 in
-      let in_it : (class_of rules q == class) ≡ true = eq-eqb _ _ (sym (prefix_is_class rules q) ∙ ap (λ (d : ℕ). prefix_of rules d q) (sym deep) ∙ there ∙ of_key) in
+      let in_it : (class_of rules q == class) ≡ true =
+      eq-eqb _ _ (sym (prefix_is_class rules q) ∙ ap (λ (d : ℕ). prefix_of rules d q) (sym deep) ∙ there ∙ of_key)
+      in
       let kept : get sessions q ≡ Some held.0 = sym (part.same q there) ∙ held.1 in
       member_of_class rules sessions class q ∙ ap (λ b. is_some (cond b (get sessions q) None)) in_it ∙ ap is_some kept
       in
-      let many = length-le_from_is_member same_key-equiv (keys_of items) (entry_keys (of_class rules sessions class)) part.distinct among in
-      rw (class_size-keys rules sessions class) (subst (λ (n : ℕ). n ≤ length (entry_keys (of_class rules sessions class))) (length-map items (λ (p : Pair). p.key)) many)
+      let many = length-le_from_is_member same_key-equiv (keys_of items) (entry_keys (of_class rules sessions class))
+      part.distinct among in
+      rw (class_size-keys rules sessions class)
+      (subst (λ (n : ℕ). n ≤ length (entry_keys (of_class rules sessions class)))
+      (length-map items (λ (p : Pair). p.key)) many)
 
 -- ---- a change at one key
 
 -- the sessions after an insert and after a remove, key by key
-pub get-inserted : (m : Sessions) (key : Key) (value : ℕ) (q : Key) → get (finite.insert m key value) q ≡ cond (same_key key q) (Some value) (get m q)
+pub get-inserted : (m : Sessions) (key : Key) (value : ℕ) (q : Key) →
+    get (finite.insert m key value) q ≡ cond (same_key key q) (Some value) (get m q)
 get-inserted m key value q =
-    get-insert keys_total m key value q ∙ ap (λ b. cond b (Some value) (get m q)) (eq_by_cmp-same_key q key ∙ same_key-equiv.symm q key)
+    get-insert keys_total m key value q
+    ∙ ap (λ b. cond b (Some value) (get m q)) (eq_by_cmp-same_key q key ∙ same_key-equiv.symm q key)
 
-pub get-removed : (m : Sessions) (key : Key) (q : Key) → get (finite.remove m key) q ≡ cond (same_key key q) None (get m q)
+pub get-removed : (m : Sessions) (key : Key) (q : Key) →
+    get (finite.remove m key) q ≡ cond (same_key key q) None (get m q)
 get-removed m key q =
-    get-remove keys_total m key q ∙ ap (λ b. cond b None (get m q)) (eq_by_cmp-same_key q key ∙ same_key-equiv.symm q key)
+    get-remove keys_total m key q ∙ ap (λ b. cond b None (get m q)) (eq_by_cmp-same_key q key
+    ∙ same_key-equiv.symm q key)
 
-module _ (rules : Rules) (prefix depth : ℕ) (items : List Pair) (sessions : Sessions) (part : HoldsPart rules prefix depth items sessions) (key : Key) where
+module _ (rules : Rules) (prefix depth : ℕ) (items : List Pair) (sessions : Sessions)
+    (part : HoldsPart rules prefix depth items sessions) (key : Key) where
   -- items and sessions that change alike at a key of the part
-  pub changed : prefix_of rules depth key ≡ prefix → (o : Option ℕ) (left : List Pair) (after : Sessions) → HasDistinctKeys left
-      → ((q : Key) → value_at q left ≡ cond (same_key key q) o (value_at q items)) → ((q : Key) → get after q ≡ cond (same_key key q) o (get sessions q))
+  pub changed : prefix_of rules depth key ≡ prefix → (o : Option ℕ) (left : List Pair) (after : Sessions) →
+      HasDistinctKeys left
+      → ((q : Key) → value_at q left ≡ cond (same_key key q) o (value_at q items)) →
+      ((q : Key) → get after q ≡ cond (same_key key q) o (get sessions q))
       → HoldsPart rules prefix depth left after
   changed here o left after distinct by_items by_sessions = record {
     distinct = distinct;
@@ -107,12 +131,15 @@ module _ (rules : Rules) (prefix depth : ℕ) (items : List Pair) (sessions : Se
     same = λ q there. by_items q ∙ ap (cond (same_key key q) o) (part.same q there) ∙ sym (by_sessions q);
   }
     where
-      by_test : (q : Key) (held : ℕ) (b : Bool) → same_key key q ≡ b → cond b o (value_at q items) ≡ Some held → prefix_of rules depth q ≡ prefix
-      by_test q held true so is = subst (λ (k : Key). prefix_of rules depth k ≡ prefix) ((Decides-same_key key q).0 so) here
+      by_test : (q : Key) (held : ℕ) (b : Bool) → same_key key q ≡ b → cond b o (value_at q items) ≡ Some held →
+          prefix_of rules depth q ≡ prefix
+      by_test q held true so is = subst (λ (k : Key). prefix_of rules depth k ≡ prefix) ((Decides-same_key key q).0 so)
+          here
       by_test q held false so is = part.inside q held is
 
   -- sessions that change at another key
-  pub elsewhere : prefix_of rules depth key ≢ prefix → (o : Option ℕ) (after : Sessions) → ((q : Key) → get after q ≡ cond (same_key key q) o (get sessions q))
+  pub elsewhere : prefix_of rules depth key ≢ prefix → (o : Option ℕ) (after : Sessions) →
+      ((q : Key) → get after q ≡ cond (same_key key q) o (get sessions q))
       → HoldsPart rules prefix depth items after
   elsewhere away o after by_sessions = record {
     distinct = part.distinct;
@@ -120,8 +147,10 @@ module _ (rules : Rules) (prefix depth : ℕ) (items : List Pair) (sessions : Se
     same = λ q there. part.same q there ∙ by_test q there (same_key key q) refl ∙ sym (by_sessions q);
   }
     where
-      by_test : (q : Key) → prefix_of rules depth q ≡ prefix → (b : Bool) → same_key key q ≡ b → get sessions q ≡ cond b o (get sessions q)
-      by_test q there true so = absurd (away (subst (λ (k : Key). prefix_of rules depth k ≡ prefix) (sym ((Decides-same_key key q).0 so)) there))
+      by_test : (q : Key) → prefix_of rules depth q ≡ prefix → (b : Bool) → same_key key q ≡ b →
+          get sessions q ≡ cond b o (get sessions q)
+      by_test q there true so = absurd
+          (away (subst (λ (k : Key). prefix_of rules depth k ≡ prefix) (sym ((Decides-same_key key q).0 so)) there))
       by_test q there false so = refl
 
   module _ (can : CanAnswer rules depth items) (here : prefix_of rules depth key ≡ prefix) where
@@ -129,14 +158,17 @@ module _ (rules : Rules) (prefix depth : ℕ) (items : List Pair) (sessions : Se
     held = part.same key here
 
     -- where the key is new, and the bucket does not overflow, there is a place exactly where the class has room
-    pub room_alike : value_at key items ≡ None → (not (has_place rules items) && nat_lt depth rules.depth) ≡ false → has_place rules items ≡ has_room rules sessions key
+    pub room_alike : value_at key items ≡ None → (not (has_place rules items) && nat_lt depth rules.depth) ≡ false →
+        has_place rules items ≡ has_room rules sessions key
     room_alike none fits = by_test (has_place rules items) refl (nat_lt depth rules.depth) refl
       where
-        by_test : (b : Bool) → has_place rules items ≡ b → (t : Bool) → nat_lt depth rules.depth ≡ t → has_place rules items ≡ has_room rules sessions key
+        by_test : (b : Bool) → has_place rules items ≡ b → (t : Bool) → nat_lt depth rules.depth ≡ t →
+            has_place rules items ≡ has_room rules sessions key
         by_test true place t deep =
             let few = class_size-few rules prefix depth items sessions part key can.range can.within here in
             place ∙ sym (lt_true _ _ (omega (arith, few, ltb-true _ _ place)))
-        by_test false full true deep = absurd (true≢false (sym (ap (λ b. not b && nat_lt depth rules.depth) full ∙ deep) ∙ fits))
+        by_test false full true deep = absurd
+            (true≢false (sym (ap (λ b. not b && nat_lt depth rules.depth) full ∙ deep) ∙ fits))
         by_test false full false deep =
             let within = can.within in
             let at : depth ≡ rules.depth = omega (arith, ltb-false _ _ deep) in

@@ -38,7 +38,8 @@ less_apart a b so = sym (eq_by_cmp-same_key a b) ∙ by (key_cmp a b) so
     by Equal so = absurd so
     by Greater so = absurd so
 
-below_apart : (x : Key) (es : List (Key × ℕ)) → T (below_all key_cmp x es) → AllByRecursion (λ k. same_key x k ≡ false) (entry_keys es)
+below_apart : (x : Key) (es : List (Key × ℕ)) → T (below_all key_cmp x es) →
+    AllByRecursion (λ k. same_key x k ≡ false) (entry_keys es)
 below_apart x [] below = tt
 below_apart x (e ∷ es) below = (less_apart x e.0 (first _ _ below), below_apart x es (second _ _ below))
 
@@ -67,15 +68,19 @@ module _ (rules : Rules) (sessions : Sessions) (class : ℕ) where
   -- the size of the class is how many they are
   pub class_size-keys : class_size rules sessions class ≡ length (entry_keys of_class)
   unfolding class_size pairs_of
-  class_size-keys = count_by-pairs in_class (entries sessions) ∙ sym (length-filter (λ (e : Key × ℕ). in_class e.0) (entries sessions)) ∙ sym (length-map of_class)
+  class_size-keys = count_by-pairs in_class (entries sessions)
+      ∙ sym (length-filter (λ (e : Key × ℕ). in_class e.0) (entries sessions)) ∙ sym (length-map of_class)
 
   pub distinct_of_class : IsDistinct same_key (entry_keys of_class)
-  distinct_of_class = sorted_distinct of_class (is_sorted-where_key key_cmp in_class (entries sessions) (entries_sorted sessions))
+  distinct_of_class = sorted_distinct of_class
+      (is_sorted-where_key key_cmp in_class (entries sessions) (entries_sorted sessions))
 
   -- a key is among them exactly where it is of the class and has a value
-  pub member_of_class : (q : Key) → list_any (same_key q) (entry_keys of_class) ≡ is_some (cond (in_class q) (get sessions q) None)
+  pub member_of_class : (q : Key) →
+      list_any (same_key q) (entry_keys of_class) ≡ is_some (cond (in_class q) (get sessions q) None)
   member_of_class q =
       list_any-alike (same_key q) (eq_by_cmp key_cmp q) (λ k. sym (eq_by_cmp-same_key q k)) (entry_keys of_class)
       ∙ sym (is_some-find key_cmp q of_class)
-      ∙ ap is_some (find-where_key key_cmp in_class q (λ x tie. ap in_class (sym (exact_keys q x tie))) (entries sessions))
+      ∙ ap is_some (find-where_key key_cmp in_class q (λ x tie. ap in_class (sym (exact_keys q x tie)))
+      (entries sessions))
       ∙ ap (λ o. is_some (cond (in_class q) o None)) (sym (get-entries sessions q))

@@ -25,12 +25,14 @@ abbrev pub Small : Pair → Type 0
 Small item = item.value < 2 ^ 61
 
 -- a value that is held is small
-held_small : (key : Key) (items : List Pair) (held : ℕ) → All Small items → value_at key items ≡ Some held → held < 2 ^ 61
+held_small : (key : Key) (items : List Pair) (held : ℕ) → All Small items → value_at key items ≡ Some held →
+    held < 2 ^ 61
 held_small key [] held small is = cc
 held_small key (pair ∷ pairs) held small is =
     by_test (same_key pair.key key) is (λ later. held_small key pairs held (All-tail Small pair pairs small) later)
   where
-    by_test : (b : Bool) → cond b (Some pair.value) (value_at key pairs) ≡ Some held → (value_at key pairs ≡ Some held → held < 2 ^ 61) → held < 2 ^ 61
+    by_test : (b : Bool) → cond b (Some pair.value) (value_at key pairs) ≡ Some held →
+        (value_at key pairs ≡ Some held → held < 2 ^ 61) → held < 2 ^ 61
     by_test true is rest =
         let same : pair.value ≡ held = cc in
         subst (λ (n : ℕ). n < 2 ^ 61) same (All-head Small pair pairs small)
@@ -39,7 +41,8 @@ held_small key (pair ∷ pairs) held small is =
 -- the items but one are small
 without_small : (key : Key) (items : List Pair) → All Small items → All Small (without key items)
 without_small key [] small = small
-without_small key (pair ∷ pairs) small = by_test (same_key pair.key key) (without_small key pairs (All-tail Small pair pairs small))
+without_small key (pair ∷ pairs) small =
+    by_test (same_key pair.key key) (without_small key pairs (All-tail Small pair pairs small))
   where
     by_test : (b : Bool) → All Small (without key pairs) → All Small (cond b pairs (pair ∷ without key pairs))
     by_test true rest = All-tail Small pair pairs small
@@ -53,16 +56,19 @@ module _ (rules : Rules) (items : List Pair) (small : All Small items) where
 
   pub items_small : (call : Call) → IsUpdate call → All Small (items_after rules items call)
   unfolding items_after
-  items_small (Insert key value) update = appended_small (record { key = key; value = value }) update (value_at key items) (has_place rules items)
+  items_small (Insert key value) update =
+      appended_small (record { key = key; value = value }) update (value_at key items) (has_place rules items)
   items_small (Remove key) update = without_small key items small
   items_small (Lookup key) update = small
 
-  inserts_small : (key : Key) (o : Option ℕ) (b : Bool) → value_at key items ≡ o → IsUpdateReply (Some (insert_reply o b))
+  inserts_small : (key : Key) (o : Option ℕ) (b : Bool) → value_at key items ≡ o →
+      IsUpdateReply (Some (insert_reply o b))
   inserts_small key (Some held) b is = held_small key items held small is
   inserts_small key None true is = tt
   inserts_small key None false is = tt
 
-  removes_small : (key : Key) (o : Option ℕ) → value_at key items ≡ o → IsUpdateReply (Some (option_map_or Gone o Absent))
+  removes_small : (key : Key) (o : Option ℕ) → value_at key items ≡ o →
+      IsUpdateReply (Some (option_map_or Gone o Absent))
   removes_small key (Some held) is = held_small key items held small is
   removes_small key None is = tt
 
@@ -73,7 +79,8 @@ module _ (rules : Rules) (items : List Pair) (small : All Small items) where
   reply_small (Lookup key) update = absurd update
 
 module _ (rules : Rules) where
-  pub took_small : (seat : ℕ) (op : Op) (bucket : BucketState) → seat < length bucket.applied → seat < length bucket.replies → IsUpdate op.call → op.number < 2 ^ 32 → IsSmall bucket
+  pub took_small : (seat : ℕ) (op : Op) (bucket : BucketState) → seat < length bucket.applied →
+      seat < length bucket.replies → IsUpdate op.call → op.number < 2 ^ 32 → IsSmall bucket
       → IsSmall (answered rules bucket seat op)
   took_small seat op bucket at at_too update few small = record {
     values = items_small rules bucket.items small.values op.call update;
@@ -83,36 +90,50 @@ module _ (rules : Rules) where
     where
       number : (q : ℕ) → (q ≡ seat) ⊎ (q ≡ seat → ⊥) → applied_of (answered rules bucket seat op) q < 2 ^ 32
       number q (inl same) =
-          subst (λ (k : ℕ). applied_of (answered rules bucket seat op) k < 2 ^ 32) (sym same) (subst (λ (n : ℕ). n < 2 ^ 32) (sym (get_or-set_same bucket.applied seat op.number 0 at)) few)
-      number q (inr other) = subst (λ (n : ℕ). n < 2 ^ 32) (sym (get_or-set_other bucket.applied seat q op.number 0 other)) (small.numbers q)
+          subst (λ (k : ℕ). applied_of (answered rules bucket seat op) k < 2 ^ 32) (sym same)
+          (subst (λ (n : ℕ). n < 2 ^ 32) (sym (get_or-set_same bucket.applied seat op.number 0 at)) few)
+      number q (inr other) = subst (λ (n : ℕ). n < 2 ^ 32)
+          (sym (get_or-set_other bucket.applied seat q op.number 0 other)) (small.numbers q)
 
       reply : (q : ℕ) → (q ≡ seat) ⊎ (q ≡ seat → ⊥) → IsUpdateReply (reply_at (answered rules bucket seat op) q)
       reply q (inl same) =
           subst (λ (k : ℕ). IsUpdateReply (reply_at (answered rules bucket seat op) k)) (sym same)
-          (subst IsUpdateReply (sym (get_or-set_same bucket.replies seat (Some (reply_in rules bucket.items op.call)) None at_too)) (reply_small rules bucket.items small.values op.call update))
-      reply q (inr other) = subst IsUpdateReply (sym (get_or-set_other bucket.replies seat q (Some (reply_in rules bucket.items op.call)) None other)) (small.replies q)
+          (subst IsUpdateReply (sym (get_or-set_same bucket.replies seat (Some (reply_in rules bucket.items op.call))
+          None at_too)) (reply_small rules bucket.items small.values op.call update))
+      reply q (inr other) = subst IsUpdateReply
+          (sym (get_or-set_other bucket.replies seat q (Some (reply_in rules bucket.items op.call)) None other))
+          (small.replies q)
 
-  after_op_small : (seat : ℕ) (op : Op) (bucket : BucketState) → seat < length bucket.applied → seat < length bucket.replies → IsUpdate op.call → op.number < 2 ^ 32 → IsSmall bucket
+  after_op_small : (seat : ℕ) (op : Op) (bucket : BucketState) → seat < length bucket.applied →
+      seat < length bucket.replies → IsUpdate op.call → op.number < 2 ^ 32 → IsSmall bucket
       → IsSmall (after_op rules seat op bucket)
   after_op_small seat op bucket at at_too update few small = by (outcome rules seat op bucket)
     where
       by : Outcome rules seat op bucket → IsSmall (after_op rules seat op bucket)
       by (stayed is _) = subst IsSmall (sym is) small
       by (skipped is _) = subst IsSmall (sym is) small
-      by (froze is _ _ _) = subst IsSmall (sym is) (record { values = small.values; numbers = small.numbers; replies = small.replies })
+      by (froze is _ _ _) = subst IsSmall (sym is) (record {
+        values = small.values;
+        numbers = small.numbers;
+        replies = small.replies;
+      })
       by (took is _ _ _) = subst IsSmall (sym is) (took_small seat op bucket at at_too update few small)
 
-  walk-small : (seat : ℕ) (ops : List (Option Op)) (bucket : BucketState) → seat + length ops ≤ length bucket.applied → seat + length ops ≤ length bucket.replies
+  walk-small : (seat : ℕ) (ops : List (Option Op)) (bucket : BucketState) → seat + length ops ≤ length bucket.applied →
+      seat + length ops ≤ length bucket.replies
       → AreUpdates ops → IsSmall bucket → IsSmall (after_seats rules seat ops bucket)
   walk-small seat [] bucket fit fit_too updates small = small
-  walk-small seat (None ∷ ops) bucket fit fit_too updates small = walk-small (suc seat) ops bucket (omega arith) (omega arith) (λ q. updates (suc q)) small
+  walk-small seat (None ∷ ops) bucket fit fit_too updates small =
+      walk-small (suc seat) ops bucket (omega arith) (omega arith) (λ q. updates (suc q)) small
   walk-small seat (Some op ∷ ops) bucket fit fit_too updates small =
       let update = updates 0 op refl in
       let shape = KeepsShape-after_seat rules seat (Some op) bucket in
-      walk-small (suc seat) ops (after_op rules seat op bucket) (omega (arith, shape.applied)) (omega (arith, shape.replies)) (λ q. updates (suc q))
+      walk-small (suc seat) ops (after_op rules seat op bucket) (omega (arith, shape.applied))
+      (omega (arith, shape.replies)) (λ q. updates (suc q))
       (after_op_small seat op bucket (omega arith) (omega arith) update.0 update.1 small)
 
 -- what a bucket holds stays small
 pub stays_small : StaysSmall
 unfolding change
-stays_small rules ops bucket seats updates small = walk-small rules 0 ops bucket (omega (arith, seats.0)) (omega (arith, seats.1)) updates small
+stays_small rules ops bucket seats updates small =
+    walk-small rules 0 ops bucket (omega (arith, seats.0)) (omega (arith, seats.1)) updates small

@@ -11,7 +11,8 @@ use Rattle.bucket_states.specs.States.{BucketState}
 -- the op is for this bucket, and not in it yet: its key has the bucket's prefix, and its number is above the seat's
 abbrev pub is_due : Rules → BucketState → ℕ → Op → Bool
 is_due rules bucket seat op =
-    (prefix_of rules bucket.depth (key_in op.call) == bucket.prefix) && nat_lt (slice_index bucket.applied seat) op.number
+    (prefix_of rules bucket.depth (key_in op.call) == bucket.prefix) && nat_lt (slice_index bucket.applied seat)
+    op.number
 
 -- the bucket, which changes no more
 abbrev pub frozen : BucketState → BucketState

@@ -51,7 +51,8 @@ SamePrefix = (rules : Rules) (ops : List (Option Op)) (bucket : BucketState) →
 
 -- a frozen bucket stays as it is
 abbrev pub FrozenStays : Type 0
-FrozenStays = (rules : Rules) (ops : List (Option Op)) (bucket : BucketState) → bucket.frozen ≡ true → change rules ops bucket ≡ bucket
+FrozenStays = (rules : Rules) (ops : List (Option Op)) (bucket : BucketState) → bucket.frozen ≡ true →
+    change rules ops bucket ≡ bucket
 
 -- a seat has in the one bucket what it has in the other
 pub record IsUntouched (was now : BucketState) (seat : ℕ) : Type 0 where
@@ -89,14 +90,17 @@ DoesSomething =
 -- a good bucket stays good
 abbrev pub StaysGood : Type 0
 StaysGood =
-    (rules : Rules) (seats : ℕ) (ops : List (Option Op)) (bucket : BucketState) → InRange rules → IsGood rules seats bucket → length ops ≤ seats →
+    (rules : Rules) (seats : ℕ) (ops : List (Option Op)) (bucket : BucketState) → InRange rules →
+    IsGood rules seats bucket → length ops ≤ seats →
     IsGood rules seats (change rules ops bucket)
 
 -- where a good bucket is frozen by a change, it has as many items as it may, and can be split
 abbrev pub FrozenIsFull : Type 0
 FrozenIsFull =
-    (rules : Rules) (seats : ℕ) (ops : List (Option Op)) (bucket : BucketState) → InRange rules → IsGood rules seats bucket → length ops ≤ seats →
-    (change rules ops bucket).frozen ≡ true → (length (change rules ops bucket).items ≡ rules.items) × (bucket.depth < rules.depth)
+    (rules : Rules) (seats : ℕ) (ops : List (Option Op)) (bucket : BucketState) → InRange rules →
+    IsGood rules seats bucket → length ops ≤ seats →
+    (change rules ops bucket).frozen ≡ true → (length (change rules ops bucket).items ≡ rules.items)
+    × (bucket.depth < rules.depth)
 
 -- an op that was taken, with its seat
 pub record Taken : Type 0 where
@@ -128,7 +132,8 @@ sessions_after rules sessions (t ∷ ts) = sessions_after rules (map_after rules
 abbrev pub AreAnswered : Rules → Sessions → BucketState → List Taken → Type 0
 AreAnswered rules sessions now [] = Unit {0}
 AreAnswered rules sessions now (t ∷ ts) =
-    (reply_at now t.seat ≡ Some (reply_of rules sessions t.op.call)) × AreAnswered rules (map_after rules sessions t.op.call) now ts
+    (reply_at now t.seat ≡ Some (reply_of rules sessions t.op.call))
+    × AreAnswered rules (map_after rules sessions t.op.call) now ts
 
 -- the items after these calls, by the items alone
 abbrev pub items_after_all : Rules → List Pair → List Taken → List Pair
@@ -139,7 +144,8 @@ items_after_all rules items (t ∷ ts) = items_after_all rules (items_after rule
 abbrev pub AreAnsweredHere : Rules → List Pair → BucketState → List Taken → Type 0
 AreAnsweredHere rules items now [] = Unit {0}
 AreAnsweredHere rules items now (t ∷ ts) =
-    (reply_at now t.seat ≡ Some (reply_in rules items t.op.call)) × AreAnsweredHere rules (items_after rules items t.op.call) now ts
+    (reply_at now t.seat ≡ Some (reply_in rules items t.op.call))
+    × AreAnsweredHere rules (items_after rules items t.op.call) now ts
 
 -- items and replies are those of the taken ops, one after the other
 abbrev pub Folds : Type 0
@@ -148,10 +154,13 @@ Folds =
     ((change rules ops bucket).items ≡ items_after_all rules bucket.items (taken rules ops bucket))
     × AreAnsweredHere rules bucket.items (change rules ops bucket) (taken rules ops bucket)
 
--- and so they are the plain object's: where the items were the part of what is held, they are the part of what is held then
+-- and so they are the plain object's: where the items were the part of what is held, they are the part of what is held
+-- then
 abbrev pub FoldsAlike : Type 0
 FoldsAlike =
-    (rules : Rules) (seats : ℕ) (ops : List (Option Op)) (bucket : BucketState) (sessions : Sessions) → InRange rules → IsGood rules seats bucket → length ops ≤ seats →
+    (rules : Rules) (seats : ℕ) (ops : List (Option Op)) (bucket : BucketState) (sessions : Sessions) → InRange rules →
+    IsGood rules seats bucket → length ops ≤ seats →
     HoldsPart rules bucket.prefix bucket.depth bucket.items sessions →
-    HoldsPart rules bucket.prefix bucket.depth (change rules ops bucket).items (sessions_after rules sessions (taken rules ops bucket))
+    HoldsPart rules bucket.prefix bucket.depth (change rules ops bucket).items
+    (sessions_after rules sessions (taken rules ops bucket))
     × AreAnswered rules sessions (change rules ops bucket) (taken rules ops bucket)

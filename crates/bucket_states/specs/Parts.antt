@@ -20,7 +20,8 @@ HasDistinctKeys items = IsDistinct same_key (keys_of items)
 
 -- each key that has a value here has the prefix
 abbrev pub HasPrefix : Rules → (prefix depth : ℕ) → List Pair → Type 0
-HasPrefix rules prefix depth items = (key : Key) (held : ℕ) → value_at key items ≡ Some held → prefix_of rules depth key ≡ prefix
+HasPrefix rules prefix depth items = (key : Key) (held : ℕ) → value_at key items ≡ Some held →
+    prefix_of rules depth key ≡ prefix
 
 -- the items are, in some order, the pairs of the sessions whose keys have the prefix
 pub record HoldsPart (rules : Rules) (prefix depth : ℕ) (items : List Pair) (sessions : Sessions) : Type 0 where
@@ -35,7 +36,8 @@ pub record CanAnswer (rules : Rules) (depth : ℕ) (items : List Pair) : Type 0 
   pub few : length items ≤ rules.items
 
 -- what the items answer and become is what the plain object answers and becomes
-pub record AnswersAlike (rules : Rules) (prefix depth : ℕ) (items : List Pair) (sessions : Sessions) (call : Call) : Type 0 where
+pub record AnswersAlike (rules : Rules) (prefix depth : ℕ) (items : List Pair) (sessions : Sessions)
+    (call : Call) : Type 0 where
   pub reply : reply_in rules items call ≡ reply_of rules sessions call
   pub part : HoldsPart rules prefix depth (items_after rules items call) (map_after rules sessions call)
   pub few : length (items_after rules items call) ≤ rules.items
@@ -44,7 +46,8 @@ pub record AnswersAlike (rules : Rules) (prefix depth : ℕ) (items : List Pair)
 abbrev pub LocalAnswers : Type 0
 LocalAnswers =
     (rules : Rules) (prefix depth : ℕ) (items : List Pair) (sessions : Sessions) (call : Call) →
-    CanAnswer rules depth items → HoldsPart rules prefix depth items sessions → prefix_of rules depth (key_in call) ≡ prefix →
+    CanAnswer rules depth items → HoldsPart rules prefix depth items sessions →
+    prefix_of rules depth (key_in call) ≡ prefix →
     overflows rules depth items call ≡ false → AnswersAlike rules prefix depth items sessions call
 
 -- a call leaves the other parts as they are

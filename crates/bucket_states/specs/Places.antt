@@ -15,7 +15,8 @@ pub record IsPlaceOf (key : Key) (items : List Pair) (at : ℕ) : Type 0 where
   pub rest : without key items ≡ remove items at
 
 -- a call is answered, and leaves these items
-pub record IsReply (rules : Rules) (depth : ℕ) (items : List Pair) (call : Call) (left : List Pair) (given : Reply) : Type 0 where
+pub record IsReply (rules : Rules) (depth : ℕ) (items : List Pair) (call : Call) (left : List Pair)
+    (given : Reply) : Type 0 where
   pub fits : overflows rules depth items call ≡ false
   pub reply : given ≡ reply_in rules items call
   pub after : left ≡ items_after rules items call

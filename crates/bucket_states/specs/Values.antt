@@ -21,5 +21,6 @@ pub record IsSmall (bucket : BucketState) : Type 0 where
 -- they stay so
 abbrev pub StaysSmall : Type 0
 StaysSmall =
-    (rules : Rules) (ops : List (Option Op)) (bucket : BucketState) → HasSeats bucket ops → AreUpdates ops → IsSmall bucket →
+    (rules : Rules) (ops : List (Option Op)) (bucket : BucketState) → HasSeats bucket ops → AreUpdates ops →
+    IsSmall bucket →
     IsSmall (change rules ops bucket)

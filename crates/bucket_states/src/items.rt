@@ -41,7 +41,8 @@ fn insert(items: &mut Vec<Pair>, rules: &Rules, depth: u32, pair: Pair) -> Optio
 
 // Takes the key's pair out.
 fn remove(items: &mut Vec<Pair>, key: &Key) -> Reply
-    ensures answer { (rules : Rules) (depth : ℕ) → IsAnswer rules depth items.old.items (Remove key.now) items.new.items (Some result) }
+    ensures answer { (rules : Rules) (depth : ℕ) →
+        IsAnswer rules depth items.old.items (Remove key.now) items.new.items (Some result) }
     ensures room { vec_capacity items.new ≡ vec_capacity items.old }
 {
     match place_of(items, key) {

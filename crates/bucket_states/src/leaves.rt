@@ -63,7 +63,8 @@ impl Bucket {
         self.replies[seat] = Some(reply);
     }
 
-    /// The two parts of this bucket become two other buckets: the keys whose next hash bit is 0, and those where it is 1.
+    /// The two parts of this bucket become two other buckets: the keys whose next hash bit is 0, and those where it is
+    /// 1.
     ///
     /// The items keep their order, and both parts have all numbers and replies. It takes no memory.
     pub fn split_one(&self, rules: &Rules, zero: &mut Bucket, one: &mut Bucket)
@@ -73,7 +74,8 @@ impl Bucket {
         requires one { CanHold (state_of self.now) one.old }
         ensures zero { state_of zero.new ≡ half rules.now 0 (state_of self.now) }
         ensures one { state_of one.new ≡ half rules.now 1 (state_of self.now) }
-        ensures few { (length zero.new.items.items ≤ length self.now.items.items) × (length one.new.items.items ≤ length self.now.items.items) }
+        ensures few { (length zero.new.items.items ≤ length self.now.items.items)
+            × (length one.new.items.items ≤ length self.now.items.items) }
         ensures room { KeepsRoom zero.old zero.new × KeepsRoom one.old one.new }
     {
         self.half_into(rules, 0, zero);

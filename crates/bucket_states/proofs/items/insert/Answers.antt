@@ -6,7 +6,8 @@ use Rattle.bucket_states.proofs.items.insert.Goals as goal
 pub returns-in-Some-clause-answer : goal.returns-in-Some-clause-answer
 returns-in-Some-clause-answer c =
     let here = rw c.deref.ensures.value at c.in-Some.ensures in
-    IsReply-Insert_held _ _ _ _ _ _ (held_at c.args.pair.key c.args.items.now.items c.in-Some.at c.index.result.now here c.index.ensures)
+    IsReply-Insert_held _ _ _ _ _ _
+    (held_at c.args.pair.key c.args.items.now.items c.in-Some.at c.index.result.now here c.index.ensures)
 
 pub returns-in-None-clause-answer : goal.returns-in-None-clause-answer
 returns-in-None-clause-answer c =

@@ -6,7 +6,9 @@ use Rattle.bucket_states.proofs.items.remove.Goals as goal
 pub returns-in-Some-clause-answer : goal.returns-in-Some-clause-answer
 returns-in-Some-clause-answer c rules depth =
     let here = rw c.deref.ensures.value at c.in-Some.ensures in
-    IsReply-Remove_held rules depth _ _ _ (held_at c.args.key.now c.args.items.now.items c.in-Some.at c.remove.result here c.remove.ensures.value) _ (c.remove.ensures.items ∙ sym here.rest)
+    IsReply-Remove_held rules depth _ _ _
+    (held_at c.args.key.now c.args.items.now.items c.in-Some.at c.remove.result here c.remove.ensures.value) _
+    (c.remove.ensures.items ∙ sym here.rest)
 
 pub returns-in-None-clause-answer : goal.returns-in-None-clause-answer
 returns-in-None-clause-answer c rules depth =

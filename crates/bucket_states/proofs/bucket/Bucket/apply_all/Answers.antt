@@ -12,8 +12,11 @@ loop-seat-preserved c =
           let made = ap state_of w.self-is ∙ w.apply.ensures.state in
           let were = c.loop-seat.invariant in
           record {
-            rest = after_seats-Some c.args.rules.now c.loop-seat.seat c.args.ops.now (state_of c.loop-seat.self) (state_of c.match-op.self) c.loop-seat-test.true w.in-Some.op w.in-Some.is made ∙ were.rest;
-            shape = KeepsShape-trans _ (state_of c.loop-seat.self) _ were.shape (subst (KeepsShape (state_of c.loop-seat.self)) (sym made) (KeepsShape-after_op c.args.rules.now c.loop-seat.seat w.in-Some.op (state_of c.loop-seat.self)));
+            rest = after_seats-Some c.args.rules.now c.loop-seat.seat c.args.ops.now (state_of c.loop-seat.self)
+                (state_of c.match-op.self) c.loop-seat-test.true w.in-Some.op w.in-Some.is made ∙ were.rest;
+            shape = KeepsShape-trans _ (state_of c.loop-seat.self) _ were.shape
+                (subst (KeepsShape (state_of c.loop-seat.self)) (sym made)
+                (KeepsShape-after_op c.args.rules.now c.loop-seat.seat w.in-Some.op (state_of c.loop-seat.self)));
             room = rw w.self-is (record {
               of_items = w.apply.ensures.room.of_items ∙ were.room.of_items;
               of_applied = w.apply.ensures.room.of_applied ∙ were.room.of_applied;
@@ -24,7 +27,8 @@ loop-seat-preserved c =
           let made = ap state_of w.self-is in
           let were = c.loop-seat.invariant in
           record {
-            rest = after_seats-None c.args.rules.now c.loop-seat.seat c.args.ops.now (state_of c.loop-seat.self) (state_of c.match-op.self) c.loop-seat-test.true w.in_default.is made ∙ were.rest;
+            rest = after_seats-None c.args.rules.now c.loop-seat.seat c.args.ops.now (state_of c.loop-seat.self)
+                (state_of c.match-op.self) c.loop-seat-test.true w.in_default.is made ∙ were.rest;
             shape = subst (KeepsShape (state_of c.args.self.now)) (sym made) were.shape;
             room = rw w.self-is were.room;
           })
@@ -33,4 +37,5 @@ loop-seat-preserved c =
 pub returns-clause-state : goal.returns-clause-state
 unfolding change
 returns-clause-state c =
-    sym (after_seats-end c.args.rules.now c.loop-seat.seat c.args.ops.now (state_of c.loop-seat.self) c.loop-seat-test.false) ∙ c.loop-seat.invariant.rest
+    sym (after_seats-end c.args.rules.now c.loop-seat.seat c.args.ops.now (state_of c.loop-seat.self)
+    c.loop-seat-test.false) ∙ c.loop-seat.invariant.rest
