@@ -12,6 +12,8 @@ mod moves;
 mod ready;
 mod run_order;
 mod tables;
+#[cfg(test)]
+mod tests;
 mod turns;
 mod unit_lists;
 
