@@ -88,11 +88,20 @@ fn fills_a_small_table(rt: HostRuntime) -> Result<(), Fail> {
     logs.push(small_log(alloc)?)?;
     let tables = fill(alloc, &starts, &words, &logs)?;
     let found = &tables.found;
-    assert_eq!(rt; found.next.as_slice(), [Some(2), None, None, None, None, None].as_slice());
-    assert_eq!(rt; found.callers.as_slice(), [NONE, NONE, FIRST, NONE, NONE, NONE].as_slice());
+    assert_eq!(rt;
+        found.next.as_slice(),
+        [Some(2), None, None, None, None, None].as_slice()
+    );
+    assert_eq!(rt;
+        found.callers.as_slice(),
+        [NONE, NONE, FIRST, NONE, NONE, NONE].as_slice()
+    );
     assert_eq!(rt; found.units.len(), 1);
     for units in &found.units {
-        assert_eq!(rt; units.as_slice(), [Some(Unit::Row(2)), Some(Unit::Lookup), None].as_slice());
+        assert_eq!(rt;
+            units.as_slice(),
+            [Some(Unit::Row(2)), Some(Unit::Lookup), None].as_slice()
+        );
     }
     assert_eq!(rt; found.versions.len(), 1);
     for version in &found.versions {
@@ -102,7 +111,10 @@ fn fills_a_small_table(rt: HostRuntime) -> Result<(), Fail> {
         assert_eq!(rt; version.callers, NONE);
     }
     let progress = &tables.progress;
-    assert_eq!(rt; progress.placed.as_slice(), [true, true, false, false, false, false].as_slice());
+    assert_eq!(rt;
+        progress.placed.as_slice(),
+        [true, true, false, false, false, false].as_slice()
+    );
     assert_eq!(rt; progress.looks.as_slice(), [0, 1, 0, 0, 0, 0].as_slice());
     assert_eq!(rt; progress.latest, 1);
     assert_eq!(rt; progress.aside.as_slice(), [].as_slice());
