@@ -1,3 +1,5 @@
+ghost use Rattle.std.specs.Prelude.{◌≡◌, IfOk, length};
+
 use crate::calls::{Closed, id_at, place_at, seen_at};
 use crate::moves::{place_row, tell};
 use crate::ready::{has_call_in, is_due, is_free, is_ready_in, unit_in};
@@ -77,14 +79,17 @@ fn found_of(alloc: Global) -> Result<Found, AllocError> {
 // The words of a table in which bucket row 1 was made from row 0.
 fn words_of(alloc: Global, starts: &Starts) -> Result<Vec<u64>, AllocError> {
     let mut words = Vec::new(alloc);
-    for at in 0..200u128 {
-        words.push(u64::from(at == starts.bucket_row(1) + 2))?;
+    for at in 0..200u64 {
+        let is_base = u128::from(at) == starts.bucket_row(1) + 2;
+        words.push(u64::from(is_base))?;
     }
     Ok(words)
 }
 
 // Row 0 is of the opening, and row 1 has one lookup.
-fn progress_of(alloc: Global) -> Result<Progress, AllocError> {
+fn progress_of(alloc: Global) -> Result<Progress, AllocError>
+    ensures { IfOk result (λ progress. length progress.placed.items ≡ 2) }
+{
     Ok(Progress {
         placed: Vec::from_slice(alloc, &[true, false])?,
         looks: Vec::from_slice(alloc, &[0, 1])?,
