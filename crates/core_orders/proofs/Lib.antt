@@ -7,4 +7,5 @@ pub mod Warranted
 pub mod Lookups
 pub mod CallKeys
 pub mod Reopened
+pub mod KeyOrder
 pub mod Reopens

@@ -2,6 +2,7 @@
 use Rattle.std.proofs.Common.{◌≡◌, ℕ, ◌<◌, ◌≤◌, List, [], ◌∷◌, ◌++◌, map, get_or, None, Some, inl, inr, refl, sym, ◌∙◌, subst, arith}
 use Rattle.std.specs.Prelude.{All, IsPermutation, fold}
 use Rattle.std.specs.FinMap.{empty, get-empty}
+use Rattle.std.proofs.lemmas.List.Sorted.{IsPermutation-trans}
 use Rattle.plain_map.specs.declared.keys.Key.{Key}
 use Rattle.plain_map.specs.declared.keys.Pair.{Pair}
 use Rattle.plain_map.specs.declared.rules.Rules.{Rules}
@@ -27,10 +28,12 @@ use Rattle.core_reading.proofs.ClosedPairs.{value_in}
 use Rattle.core_reading.proofs.HeldPairs.{pairs_are_held}
 use Rattle.core_answers.proofs.Tale.{Tale}
 use Rattle.core_answers.proofs.AllRuns.{Tells, all_tell}
+use Rattle.core_orders.specs.KeyOrder.{PairsReopenInAnyTurn, SortedPairsAreHeld}
 use Rattle.core_orders.proofs.Calls.{in_at, at_in}
 use Rattle.core_orders.proofs.CallKeys.{AreGood, KeysAreGood, all_good, records_good, begun_good, keys_after}
 use Rattle.core_orders.proofs.AtEnd.{end_holds, pairs_are_of_order}
 use Rattle.core_orders.proofs.Promised.{order_is_whole}
+use Rattle.core_orders.proofs.KeyOrder.{sorted_is_held}
 use Rattle.core_orders.proofs.Reopened.{was_in, keys_apart, have_room, reopened}
 
 -- after pairs with such keys each key that is held is one
@@ -90,13 +93,9 @@ module _ (setup : Setup) (events : List Event) (run : IsRun setup events) where
     abbrev held : Sessions
     held = sessions_of_order setup events
 
-    -- the closed pairs
-    abbrev pairs : List Pair
-    pairs = closed_pairs setup.shape w.words
-
-    -- they are those that are held
-    moved : IsPermutation (pairs_of held) pairs
-    moved = pairs_are_of_order setup w c locals f t y
+    -- the closed pairs are those that are held
+    moved_at_end : IsPermutation (pairs_of held) (closed_pairs setup.shape w.words)
+    moved_at_end = pairs_are_of_order setup w c locals f t y
 
     -- no class has more keys than a bucket has room for
     few : (key : Key) → class_size (rules_of setup) held (class_of (rules_of setup) key) ≤ (rules_of setup).items
@@ -113,35 +112,57 @@ module _ (setup : Setup) (events : List Event) (run : IsRun setup events) where
               (f.shared.leads.for_it c.dir_top key (omega arith)),
         )
 
-    -- each pair can be kept
-    kept : (pair : Pair) → In pair pairs → IsPair pair
-    kept pair m =
-        let held_at = (pairs_are_held held).there pair (was_in (pairs_of held) pairs pair moved m) in
-        let b = lead setup c c.dir_top pair.key in
-        let there = f.shared.leads.there c.dir_top pair.key (omega arith) in
-        let sound = f.shared.rows.sound b (c.top b) there (omega arith) in
-        let part = end_holds setup w c locals f t y pair.key in
-        let in_items = value_in (last c b).items pair.key pair.value
-        (part.same pair.key (f.shared.leads.for_it c.dir_top pair.key (omega arith)) ∙ held_at) in
-        let at = at_in (last c b).items pair pair in_items in
-        record {
-          key = held_good pair.key pair.value held_at;
-          value = subst (λ (z : Pair). z.value < value_limit) (sym at.2) (sound.small.values at.0 pair at.1);
-        }
+    -- in whatever turn
+    module _ (pairs : List Pair) (moved : IsPermutation (pairs_of held) pairs) where
+      -- each pair can be kept
+      kept : (pair : Pair) → In pair pairs → IsPair pair
+      kept pair m =
+          let held_at = (pairs_are_held held).there pair (was_in (pairs_of held) pairs pair moved m) in
+          let b = lead setup c c.dir_top pair.key in
+          let there = f.shared.leads.there c.dir_top pair.key (omega arith) in
+          let sound = f.shared.rows.sound b (c.top b) there (omega arith) in
+          let part = end_holds setup w c locals f t y pair.key in
+          let in_items = value_in (last c b).items pair.key pair.value
+          (part.same pair.key (f.shared.leads.for_it c.dir_top pair.key (omega arith)) ∙ held_at) in
+          let at = at_in (last c b).items pair pair in_items in
+          record {
+            key = held_good pair.key pair.value held_at;
+            value = subst (λ (z : Pair). z.value < value_limit) (sym at.2) (sound.small.values at.0 pair at.1);
+          }
 
-    -- so they can open the next table
-    opens_next : (All IsPair pairs) × HasDistinctKeys pairs × HaveRoom (rules_of setup) pairs
-        × (sessions_with (rules_of setup) pairs ≡ held)
-    opens_next =
-        let room = have_room held pairs moved (rules_of setup) few in (
-          (λ k d h. kept (get_or pairs k d) (in_at pairs k d h)),
-          keys_apart held pairs moved,
-          room,
-          reopened (rules_of setup) held pairs moved room,
-        )
+      -- so they can open the next table
+      opens_next : (All IsPair pairs) × HasDistinctKeys pairs × HaveRoom (rules_of setup) pairs
+          × (sessions_with (rules_of setup) pairs ≡ held)
+      opens_next =
+          let room = have_room held pairs moved (rules_of setup) few in (
+            (λ k d h. kept (get_or pairs k d) (in_at pairs k d h)),
+            keys_apart held pairs moved,
+            room,
+            reopened (rules_of setup) held pairs moved room,
+          )
 
 -- after every run
 pub pairs_reopen : PairsReopen
 pairs_reopen setup events run =
     let a = all_tell setup events run in
     opens_next setup events run a.common a.locals a.follows a.extra a.holds
+    (closed_pairs setup.shape (world_after setup events).words)
+    (moved_at_end setup events run a.common a.locals a.follows a.extra a.holds)
+
+-- in whatever turn the pairs come
+pub pairs_reopen_in_any_turn : PairsReopenInAnyTurn
+pairs_reopen_in_any_turn setup events pairs run moved =
+    let a = all_tell setup events run in
+    opens_next setup events run a.common a.locals a.follows a.extra a.holds pairs
+    (IsPermutation-trans (pairs_of (sessions_of_order setup events))
+    (closed_pairs setup.shape (world_after setup events).words) pairs
+    (moved_at_end setup events run a.common a.locals a.follows a.extra a.holds) moved)
+
+-- and sorted by their keys they are the pairs of what is held
+pub sorted_pairs_are_held : SortedPairsAreHeld
+sorted_pairs_are_held setup events pairs run moved sorted =
+    let a = all_tell setup events run in
+    sorted_is_held (sessions_of_order setup events) pairs
+    (IsPermutation-trans (pairs_of (sessions_of_order setup events))
+    (closed_pairs setup.shape (world_after setup events).words) pairs
+    (moved_at_end setup events run a.common a.locals a.follows a.extra a.holds) moved) sorted

@@ -12,6 +12,7 @@ ghost use Rattle.core_model.specs.Histories.{
   PairsReopen,
 };
 ghost use Rattle.core_model.specs.Turns.{OneIsReady};
+ghost use Rattle.core_orders.specs.KeyOrder.{PairsReopenInAnyTurn, SortedPairsAreHeld};
 
 /// The order that the closed words tell is never stuck, it is legal for the plain object from the first pairs on, each call
 /// stands after all that its caller had seen, and each answered call and each update that took effect stands once.
@@ -41,8 +42,10 @@ pub fn turn_laws()
     ensures one_ready { OneIsReady }
 {}
 
-/// The pairs of the closed table can open the next one: each can be kept, their keys are distinct and find room, and that
-/// table begins with what is held after the order.
+/// The pairs of the closed table can open the next one, in whatever turn: each can be kept, their keys are distinct and find
+/// room, and that table begins with what is held after the order. Sorted by their keys they are the pairs of what is held.
 pub fn reopen_laws()
     ensures reopen { PairsReopen }
+    ensures any_turn { PairsReopenInAnyTurn }
+    ensures sorted { SortedPairsAreHeld }
 {}

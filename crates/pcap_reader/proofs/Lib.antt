@@ -1,5 +1,6 @@
 pub mod CaptureFacts
 pub mod EveryCapture
+pub mod MadeLemmas
 pub mod OneCapture
 pub mod ReaderFacts
 pub mod WindowFacts

@@ -7,7 +7,7 @@ use Rattle.pcap_reader.specs.declared.fault.CaptureFault.{CaptureFault}
 use Rattle.pcap_reader.specs.declared.fault.CaptureFault.TheVariants.{ReadFault, ShortHeader, Magic, Version, LinkType, RecordLength, Memory}
 use Rattle.pcap_reader.specs.declared.head.TheConstants.{FILE_HEAD}
 use Rattle.pcap_reader.specs.Capture.{HasFileHead, ShowsFault, IsOverlong, bytes_of}
-use Rattle.pcap_reader.specs.Reading.{Reading, to_come, OfInput, OnInputFault, GivesRecord, Took}
+use Rattle.pcap_reader.specs.Reading.{Reading, to_come, OfInput, OnInputFault, GivesRecord, IsRefusedOn, Took, buffer_length}
 use Rattle.pcap_reader.specs.Record.{BeginsRecord, given_out}
 use Rattle.pcap_reader.specs.Window.{Gathers, IsDrained}
 use Rattle.pcap_reader.proofs.CaptureFacts.{head_front, refuses_magic_front, refuses_version_front, refuses_link_front, overlong_front, first_record, first_record_saved, first_record_rest, length-first_record}
@@ -135,9 +135,10 @@ holding reading pending packet = record reading { pending = pending; packet = pa
 -- a record that the held bytes begin with is given out
 pub gives_record : (old : Reading) (held packet : List ℕ) (captured : ℕ) (before after : Option (List ℕ))
     → old.ended ≡ false → Gathers old.pending held before after → BeginsRecord old.order held captured
+    → length held ≤ buffer_length
     → GivesRecord old (given_out (holding old held packet) captured) (to_come old before)
     (to_come (given_out (holding old held packet) captured) after)
-gives_record old held packet captured before after going g begins =
+gives_record old held packet captured before after going g begins room =
     let saved = first_record held captured in
     let same : old.pending ++ g.taken ≡ bytes_of saved ++ drop captured (drop 16 held) = g.held
     ∙ sym (first_record_rest held captured) in
@@ -149,6 +150,7 @@ gives_record old held packet captured before after going g begins =
           g.told;
       taken = g.taken;
       held = same;
+      room = subst (λ (l : List ℕ). length l ≤ buffer_length) (sym (first_record_rest held captured)) room;
       offset = ap (λ n. old.offset + n) (sym (length-first_record old.order held captured begins));
       given = refl;
       goes_on = going;
@@ -162,32 +164,46 @@ as_told g = record { taken = g.taken; held = g.held; told = sym (append-nil g.ta
 -- what was taken of the source, with a record given out
 pub took_record : (old : Reading) (held packet : List ℕ) (captured : ℕ) (before after : Option (List ℕ)) →
     old.ended ≡ false → Gathers old.pending held before after → BeginsRecord old.order held captured →
+    length held ≤ buffer_length →
     Took before after (λ taken. GivesRecord old (given_out (holding old held packet) captured)
     (to_come old (Some taken)) (to_come (given_out (holding old held packet) captured) (Some [])))
-took_record old held packet captured before after going g begins = (
+took_record old held packet captured before after going g begins room = (
   g.taken,
   g.told,
-  gives_record old held packet captured (Some g.taken) (Some []) going (as_told g) begins,
+  gives_record old held packet captured (Some g.taken) (Some []) going (as_told g) begins room,
 )
 
 -- what was taken of the source, with the head read
 pub took_head : (order : Order) (empty held seen rest : List ℕ) (before after : Option (List ℕ)) → empty ≡ [] →
     seen ≡ held → Gathers empty held before after → HasFileHead order seen → rest ≡ drop FILE_HEAD held →
-    Took before after (λ taken. HasFileHead order taken × (rest ≡ drop FILE_HEAD taken))
-took_head order empty held seen rest before after none same g h e =
+    length held ≤ buffer_length →
+    Took before after
+    (λ taken. HasFileHead order taken × (rest ≡ drop FILE_HEAD taken) × (length taken ≤ buffer_length))
+took_head order empty held seen rest before after none same g h e room =
     let all : g.taken ≡ held = ap (λ l. l ++ g.taken) (sym none) ∙ g.held in (
       g.taken,
       g.told,
-      (subst (λ (l : List ℕ). HasFileHead order l) (same ∙ sym all) h, e ∙ ap (drop FILE_HEAD) (sym all)),
+      (
+        subst (λ (l : List ℕ). HasFileHead order l) (same ∙ sym all) h,
+        e ∙ ap (drop FILE_HEAD) (sym all),
+        subst (λ (l : List ℕ). length l ≤ buffer_length) (sym all) room,
+      ),
     )
 
 -- and with a fault of the head
 pub took_shown : (fault : CaptureFault) (empty held seen : List ℕ) (before after : Option (List ℕ)) → empty ≡ [] →
-    seen ≡ held → Gathers empty held before after → ShowsFault seen fault →
-    OnInputFault fault (Took before after (λ taken. ShowsFault taken fault))
-took_shown fault empty held seen before after none same g shown =
+    seen ≡ held → Gathers empty held before after → ShowsFault seen fault → length held ≤ buffer_length →
+    OnInputFault fault (Took before after (IsRefusedOn fault))
+took_shown fault empty held seen before after none same g shown room =
     let all : g.taken ≡ held = ap (λ l. l ++ g.taken) (sym none) ∙ g.held in
-    on_any fault (g.taken, g.told, subst (λ (l : List ℕ). ShowsFault l fault) (same ∙ sym all) shown)
+    on_any fault (
+      g.taken,
+      g.told,
+      (
+        subst (λ (l : List ℕ). ShowsFault l fault) (same ∙ sym all) shown,
+        subst (λ (l : List ℕ). length l ≤ buffer_length) (sym all) room,
+      ),
+    )
   where
     on_any : {P : Type 0} (fault : CaptureFault) → P → OnInputFault fault P
     on_any ReadFault p = tt

@@ -3,7 +3,7 @@
 ghost use Rattle.std.specs.Prelude.{◌≡◌, ◌≤◌, ◌<◌, ◌-◌, ◌^◌, ◌⊎◌, ℕ, [], false, true, length, drop, Some, IfSome, IfOk, IfErr, OnOk, OnErr};
 ghost use Rattle.edge_traits.specs.Edge.{Rose};
 ghost use Rattle.pcap_reader.specs.Capture.{HasFileHead, IsCut, IsRemainder, ShowsFault};
-ghost use Rattle.pcap_reader.specs.Reading.{GivesNone, GivesRecord, IfEnding, IsAtStart, IsOpenedOn, IsWithinRecords, MatchPacket, OfInput, OnInputFault, OnMemory, OnReadFault, TakesFewer, Took, to_come};
+ghost use Rattle.pcap_reader.specs.Reading.{GivesNone, GivesRecord, IfEnding, IsAtStart, IsOpenedOn, IsRefusedOn, IsWithinRecords, MatchPacket, OfInput, OnInputFault, OnMemory, OnReadFault, TakesFewer, Took, buffer_length, to_come};
 ghost use Rattle.pcap_reader.specs.Record.{BeginsRecord, IsShown, OnCut, given_out};
 ghost use Rattle.pcap_reader.specs.Window.{Gathers, IsDrained};
 
@@ -74,7 +74,7 @@ impl Reader {
         ensures fault { IfErr result (λ fault. OnInputFault fault
             (OfInput (S.left source.old) (λ bytes. ShowsFault bytes fault))) }
         ensures took_fault { IfErr result (λ fault. OnInputFault fault
-            (Took (S.left source.old) (S.left source.new) (λ taken. ShowsFault taken fault))) }
+            (Took (S.left source.old) (S.left source.new) (IsRefusedOn fault))) }
 
         // A read failed, before the head was there.
         ensures read_fault { IfErr result (λ fault. OnReadFault fault
@@ -102,7 +102,7 @@ impl Reader {
     /// Reads on to the next record, or to the ending of the capture.
     ///
     /// Takes no memory. The source is read only where the bytes that are held show neither a whole
-    /// record nor an overlong one.
+    /// record nor an overlong one, and what is taken of it and not given out has room in the buffer.
     /// Faults: `ReadFault`, only where the source's count rose, and then every record that is whole in
     /// the bytes taken was given out before; `RecordLength`, exactly where the record at the reader's
     /// offset shows a captured length above the limit. After an end, a rest or a fault the reader has
@@ -207,6 +207,7 @@ fn gather_head<S: Source>(window: &mut Window, source: &mut S) -> Result<(), Fai
         ⊎ IsDrained window.old.unread window.new.unread (S.left source.old)) }
     ensures bytes { Gathers window.old.unread window.new.unread (S.left source.old) (S.left source.new) }
     ensures short { OnErr result (length window.new.unread < FILE_HEAD) }
+    ensures room { length window.new.unread ≤ buffer_length }
     ensures failed { OnErr result (Rose (S.faults source.old) (S.faults source.new)) }
     ensures counted { S.faults source.old ≤ S.faults source.new }
 {
@@ -228,6 +229,7 @@ fn await_record<S: Source>(
     ensures end { IfOk result (λ seen. OnCut seen (IsDrained window.old.unread window.new.unread (S.left source.old))) }
     ensures bytes { Gathers window.old.unread window.new.unread (S.left source.old) (S.left source.new) }
     ensures cut { OnErr result (IsCut order window.new.unread) }
+    ensures room { length window.new.unread ≤ buffer_length }
     ensures failed { OnErr result (Rose (S.faults source.old) (S.faults source.new)) }
     ensures counted { S.faults source.old ≤ S.faults source.new }
 {

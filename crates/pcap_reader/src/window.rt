@@ -6,6 +6,7 @@
 ghost use Rattle.std.specs.Prelude.{◌≡◌, ◌≤◌, ◌<◌, ◌+◌, ◌-◌, [], length, take, drop, slice_range, vec_len, IfOk, OnErr};
 ghost use Rattle.std.specs.Io.KnownBytes.{IsAtEnd, Keeps};
 ghost use Rattle.edge_traits.specs.Edge.{Rose};
+ghost use Rattle.pcap_reader.specs.Reading.{buffer_length};
 ghost use Rattle.pcap_reader.specs.Window.{Fills, Gathers, Held};
 
 use crate::WHOLE_RECORD;
@@ -57,9 +58,10 @@ impl Window {
         })
     }
 
-    /// The bytes not yet taken.
+    /// The bytes not yet taken, which have room in the buffer.
     pub fn unread(&self) -> &[u8]
-        ensures { result.now ≡ self.now.unread }
+        ensures bytes { result.now ≡ self.now.unread }
+        ensures room { length result.now ≤ buffer_length }
     {
         &self.buf[self.start..self.end]
     }

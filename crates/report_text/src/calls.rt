@@ -1,18 +1,18 @@
-//! The line of an answered or a refused call.
+//! The line of an answered, a refused or a pending call.
 
 ghost use Rattle.std.specs.Prelude.{◌≡◌, ℕ, ◌+◌, ◌*◌, ◌≤◌, [], ◌∷◌, ◌++◌, codes, decimal, length, take, OnOk, OnErr};
 ghost use Rattle.std.specs.List.{join_by};
 ghost use Rattle.flow_keys.specs.FlowText.{HasText};
 ghost use Rattle.plain_map.specs.Calls.{key_in};
 ghost use Rattle.trace_share.specs.declared.outcome.Outcome.TheVariants.{Answered, Refused};
-ghost use Rattle.report_text.specs.Report.{after_words, call_in, call_words, full_words, outcome_line, reply_words, short_word, steps_words, value_in, verb_word};
+ghost use Rattle.report_text.specs.Report.{after_words, call_in, call_words, full_words, outcome_line, pending_line, reply_words, short_word, steps_words, value_in, verb_word};
 ghost use Rattle.report_text.specs.Lines.{room, Puts};
 
 use crate::pieces::{
     begin_line, end_line, make_room, put_digits, put_named, put_number, put_text, put_word,
 };
 use flow_keys::key_text;
-use plain_map::{Call, Full, FullKind, Record, Reply, Seen};
+use plain_map::{Call, Full, FullKind, Pending, Record, Reply, Seen};
 use std::alloc::{AllocError, Global};
 use trace_share::Outcome;
 
@@ -40,6 +40,38 @@ pub fn outcome_text(
         Outcome::Refused { packet, call, full } => put_refused(out, *packet, seat, call, full),
     }
     Ok(())
+}
+
+/// Appends the line of a call that had begun and was not answered.
+///
+/// Of the counts that the call saw, those of the first `seats` seats are told.
+pub fn pending_text(
+    _alloc: Global,
+    out: &mut Vec<u8>,
+    seats: u32,
+    pending: &Pending,
+) -> Result<(), AllocError>
+    requires seats { seats ≤ 8 }
+    requires key { HasText (key_in pending.now.call) }
+    ensures appended { OnOk result (out.new.items ≡ out.old.items ++ pending_line seats pending.now) }
+    ensures kept { OnErr result (out.new.items ≡ out.old.items) }
+{
+    make_room(out, LINE_ROOM)?;
+    put_pending(out, seats, pending);
+    Ok(())
+}
+
+// Appends the line of a pending call.
+fn put_pending(out: &mut Vec<u8>, seats: u32, pending: &Pending)
+    requires seats { seats ≤ 8 }
+    requires key { HasText (key_in pending.now.call) }
+    requires space { 384 ≤ room out.old }
+    ensures { out.new.items ≡ out.old.items ++ pending_line seats pending.now }
+{
+    begin_line(out, b"pending");
+    put_call(out, pending.packet, pending.seat, &pending.call);
+    put_after(out, seats, &pending.seen);
+    end_line(out);
 }
 
 // Appends the line of an answered call.

@@ -8,13 +8,15 @@ mod parts;
 mod pieces;
 mod session;
 mod tail;
+mod trial;
 
-pub use calls::outcome_text;
+pub use calls::{outcome_text, pending_text};
 pub use head::head_text;
 pub use order::order_text;
 pub use parts::{Ending, Head, Tail};
 pub use session::session_text;
 pub use tail::tail_text;
+pub use trial::{Trial, trial_text};
 
 #[cfg(test)]
 mod tests;

@@ -5,10 +5,13 @@ ghost use Rattle.flow_keys.specs.FlowText.{HasText};
 ghost use Rattle.plain_map.specs.Calls.{key_in};
 ghost use Rattle.report_text.specs.Report.{IsEnding};
 
-use crate::{Ending, Head, Tail, head_text, order_text, outcome_text, session_text, tail_text};
+use crate::{
+    Ending, Head, Tail, Trial, head_text, order_text, outcome_text, pending_text, session_text,
+    tail_text, trial_text,
+};
 use hash_bits::Hashing;
 use pcap_reader::CaptureFault;
-use plain_map::{Call, CallId, Full, FullKind, Key, Pair, Record, Reply, Seen};
+use plain_map::{Call, CallId, Full, FullKind, Key, Pair, Pending, Record, Reply, Seen};
 use std::alloc::{AllocError, Global};
 use std::test::Fail;
 use trace_share::{Outcome, Share};
@@ -385,5 +388,54 @@ fn orders_are_told(rt: HostRuntime) -> Result<(), Fail> {
         order 1 2 3 4 5 6 7 8 9 10 11 12 13 14 15 16\n\
         order 17\n";
     assert_eq!(rt; out.as_slice(), text);
+    Ok(())
+}
+
+// A call that had begun and had seen one call of seat 1.
+#[test]
+fn a_pending_call_is_told(rt: HostRuntime) -> Result<(), Fail> {
+    let pending = Pending {
+        seat: 0,
+        number: 2,
+        packet: 7,
+        call: Call::Insert(key(1), 7),
+        seen: seen(0, 1),
+    };
+    let mut text = Vec::new(rt.alloc());
+    pending_text(rt.alloc(), &mut text, 2, &pending)?;
+    assert_eq!(rt;
+        text.as_slice(),
+        b"pending 7 seat 0 insert 10.0.0.1:1-10.0.0.2:80/tcp after 0,1\n".as_slice()
+    );
+    Ok(())
+}
+
+// The first three packets of number 0 are an acknowledgement and two that open a flow.
+#[test]
+fn a_trial_is_told(rt: HostRuntime) -> Result<(), Fail> {
+    let trial = Trial {
+        number: 0,
+        packets: 3,
+        seats: 2,
+        items: 8,
+        depth: 10,
+        start: 0,
+        seed: 0,
+        calls: 3,
+        new: 2,
+        old: 0,
+        noroom: 0,
+        gone: 0,
+        found: 0,
+        absent: 1,
+        full: 0,
+        sessions: 2,
+    };
+    let mut text = Vec::new(rt.alloc());
+    trial_text(rt.alloc(), &mut text, &trial)?;
+    let wanted = b"flowdir trial number 0 packets 3 seats 2 items 8 depth 10 start 0 seed 0\n\
+        calls 3 new 2 old 0 noroom 0 gone 0 found 0 absent 1 full 0\n\
+        sessions 2\n";
+    assert_eq!(rt; text.as_slice(), wanted.as_slice());
     Ok(())
 }

@@ -7,6 +7,7 @@ ghost use Rattle.word_rows.specs.LayoutView.{shape_of};
 ghost use Rattle.word_rows.specs.Shape.{AreBelow, first_of};
 ghost use Rattle.seat_machine.specs.Starts.{HasStarts};
 
+use crate::limits::MOST_WORDS;
 use hash_bits::Hashing;
 use plain_map::Rules;
 use step_counts::{DIRECTORY_HEAD_WORDS, SeatRows, bucket_row_words};
@@ -23,7 +24,7 @@ pub struct Desk {
     pub seat: u32,
     /// The first number of each of its ranges.
     pub first: SeatRows,
-    /// The words of a bucket row, at most 69.
+    /// The words of a bucket row, at most `MOST_WORDS`.
     pub row_words: u64,
     /// The first word of the bucket rows.
     bucket_rows: u64,
@@ -74,7 +75,7 @@ impl Desk {
     /// How many words a bucket row has.
     pub fn row_length(&self) -> usize
         ensures value { result ≡ row_words (shape_of self.now.layout).settings }
-        ensures few { result ≤ 69 }
+        ensures few { result ≤ MOST_WORDS }
     {
         self.row_words as usize
     }

@@ -25,6 +25,7 @@ ghost use Rattle.seat_machine.specs.Tries.{directory_trying};
 use crate::asking::DirectoryAttempt;
 use crate::desk::Desk;
 use crate::directories::{bucket_in, load_directory};
+use crate::limits::MOST_LEAVES;
 use crate::loading::load_buckets;
 use crate::ops::find_ops;
 use crate::own::Own;
@@ -34,7 +35,7 @@ use crate::storing::{Found, store_change};
 use core_model::Round;
 use dir_states::{Change, Loaded, NewLeaf};
 use hash_bits::bits;
-use plain_map::{BucketRow, Reply};
+use plain_map::{BucketRow, MOST_SEATS, Reply};
 use step_counts::{DIRECTORY_HEAD_WORDS, SeatRows};
 
 /// How a directory try went.
@@ -64,7 +65,7 @@ fn make_change(desk: &Desk, found: &Found, change: &mut Change, fresh: u64)
         (map as_loaded found.now.loaded.now) found.now.ops.now }
     ensures directory { directory_of change.new ≡
         with_leaves fresh (leaves_of change.new) (as_directory found.now.attempt.directory.now) }
-    ensures few { length (leaves_of change.new) ≤ 200 }
+    ensures few { length (leaves_of change.new) ≤ MOST_LEAVES }
     ensures room { ChangeHasRoom (settings_at desk.now).seats (settings_at desk.now).items
         (settings_at desk.now).depth change.new }
 {
@@ -82,7 +83,7 @@ fn make_change(desk: &Desk, found: &Found, change: &mut Change, fresh: u64)
 // The reply to the seat's call in the leaf of its key, and that leaf's row, where the first leaf has this row.
 fn answer_in(desk: &Desk, own: &Own, leaves: &[NewLeaf], row: u64) -> Option<(Reply, u64)>
     requires own { IsHashed desk.now.rules.hashing own.now.key }
-    requires few { length leaves.now ≤ 200 }
+    requires few { length leaves.now ≤ MOST_LEAVES }
     requires small { row < 2 ^ 63 }
     requires loaded { (loaded : List LoadedBucket) ×
         All (CanBeSpelled (settings_at desk.now) loaded) (map as_leaf leaves.now) }
@@ -118,7 +119,7 @@ fn publish<S: Steps>(
     requires own { IsOwn (S.now steps.old) own.now }
     requires used { used.old ≡ (S.now steps.old).account.used }
     requires turn { (1 ≤ found.now.attempt.turn) × (found.now.attempt.turn ≤ 2) }
-    requires few { length leaves.now ≤ 200 }
+    requires few { length leaves.now ≤ MOST_LEAVES }
     requires leaves { map as_leaf leaves.now ≡
         made_leaves (S.now steps.old).setup (directory_trying found.now.attempt) found.now.ops.now
         (map as_loaded found.now.loaded.now) }
@@ -182,7 +183,7 @@ fn change_directory<S: Steps>(
         (settings_at desk.now).depth change.new }
 {
     let seats = desk.layout.settings().seats as usize;
-    let mut buffer = [None; 8];
+    let mut buffer = [None; MOST_SEATS];
     let ops = &mut buffer[..seats];
     let asked = find_ops(steps, desk, attempt, ops);
     let (count, looked) = load_buckets(steps, desk, &own.key, attempt, ops, row, loaded);

@@ -9,10 +9,10 @@ ghost use Rattle.seat_machine.specs.Desks.{IsOf};
 ghost use Rattle.seat_machine.specs.Owns.{IsOwn};
 
 use crate::desk::Desk;
+use crate::limits::MOST_WORDS;
 use crate::own::Own;
 use crate::rows::load_row;
 use crate::steps::Steps;
-use crate::tries::MOST_WORDS;
 use crate::words::{applied_in, reply_in};
 use plain_map::Reply;
 

@@ -16,6 +16,7 @@ mod directories;
 mod directory_tries;
 mod finding;
 mod last_looks;
+mod limits;
 mod loading;
 mod looking;
 mod lookups;
@@ -32,6 +33,7 @@ mod updates;
 mod words;
 
 pub use desk::Desk;
+pub use limits::MOST_WORDS;
 pub use lookups::lookup;
 pub use room::Room;
 pub use steps::Steps;

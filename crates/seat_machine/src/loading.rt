@@ -22,13 +22,13 @@ ghost use Rattle.seat_machine.specs.Tries.{directory_trying};
 use crate::asking::DirectoryAttempt;
 use crate::desk::Desk;
 use crate::directories::bucket_in;
+use crate::limits::{LOADING_STEPS, MOST_WORDS};
 use crate::rows::load_row;
 use crate::steps::Steps;
-use crate::tries::MOST_WORDS;
 use bucket_machine::Hashed;
 use bucket_states::Op;
 use dir_states::Loaded;
-use plain_map::BucketRow;
+use plain_map::{BucketRow, MOST_SEATS};
 use word_rows::row_laws;
 
 // Whether the bucket is among those that were loaded.
@@ -128,7 +128,7 @@ pub fn load_buckets<S: Steps>(
     requires depth { attempt.now.directory.now.depth ≤ 64 }
     requires entries { IsWhole attempt.now.directory.now }
     requires seats { length ops.now ≤ length loaded.old }
-    requires few { length ops.now ≤ 8 }
+    requires few { length ops.now ≤ MOST_SEATS }
     requires room { HasBucketRoom (settings_at desk.now).seats (settings_at desk.now).items room.old }
     requires each { All (HasLoadedRoom (settings_at desk.now)) loaded.old }
     ensures goes { S.now steps.new ≡ later (S.now steps.old) result.1
@@ -137,7 +137,7 @@ pub fn load_buckets<S: Steps>(
     ensures makes { IsChange (S.now steps.old).setup (directory_trying attempt.now) ops.now
         (map as_loaded (take result.0 loaded.new)) }
     ensures count { result.0 ≤ length loaded.new }
-    ensures few { result.1 ≤ 600 }
+    ensures few { result.1 ≤ LOADING_STEPS }
     ensures len { length loaded.new ≡ length loaded.old }
     ensures room { HasBucketRoom (settings_at desk.now).seats (settings_at desk.now).items room.new }
     ensures each { All (HasLoadedRoom (settings_at desk.now)) loaded.new }

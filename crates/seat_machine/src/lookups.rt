@@ -12,16 +12,16 @@ use crate::finding::{find, see_done};
 use crate::looking::look;
 use crate::steps::Steps;
 use core_model::Aim;
-use plain_map::{Call, Key, Record, Seen};
+use plain_map::{Call, Key, MOST_SEATS, Record, Seen};
 use step_counts::ITEM_WORDS;
 
 /// The seen counts as they stand in a record.
 pub fn counts(seen: &[u64]) -> Seen
-    requires long { length seen.now ≤ 8 }
+    requires long { length seen.now ≤ MOST_SEATS }
     requires few { All (λ n. n < 2 ^ 32) seen.now }
     ensures { result ≡ seen_counts seen.now }
 {
-    let mut counts = [0; 8];
+    let mut counts = [0; MOST_SEATS];
     for i in 0..seen.len() {
         counts[i] = seen[i] as u32;
     }
@@ -35,7 +35,7 @@ pub fn lookup<S: Steps>(steps: &mut S, desk: &Desk, packet: u32, number: u32, ke
     ensures answered { S.answered steps.new result (S.now steps.old).account.used }
 {
     let seats = desk.layout.settings().seats;
-    let mut room = [0; 8];
+    let mut room = [0; MOST_SEATS];
     let words = &mut room[..seats as usize];
     see_done(steps, desk, words);
     let seen = counts(words);

@@ -14,16 +14,18 @@ ghost use Rattle.seat_machine.specs.Tries.{after_all_ops, after_ops, announcing,
 
 use crate::asking::Trying;
 use crate::desk::Desk;
+use crate::limits::FINDING_STEPS;
 use crate::runs::load_run;
 use crate::steps::Steps;
 use bucket_states::Op;
+use plain_map::MOST_SEATS;
 use step_counts::OP_WORDS;
 use word_rows::{read_op, row_laws};
 
 // The op that these words spell.
 fn read_found(words: &[u64; OP_WORDS], seat: usize) -> Op
     requires spelled { IsOpSoFar words.now }
-    requires seats { seat < 8 }
+    requires seats { seat < MOST_SEATS }
     ensures is { result ≡ op_in_words seat words.now }
     ensures small { IsSmallOp result }
 {
@@ -50,7 +52,7 @@ fn load_op<S: Steps, A: Trying>(
         reading (A.round attempt.now) (A.attempt attempt.now (S.now steps.old).setup) found.now op [] }
     requires start { start ≡ place (S.now steps.old).setup.shape (OpWord op 0) }
     requires few { start < 2 ^ 63 }
-    requires seats { length found.now < 8 }
+    requires seats { length found.now < MOST_SEATS }
     ensures goes { S.now steps.new ≡ later (S.now steps.old) 5
         (after_ops (S.now steps.old).setup (A.round attempt.now) (A.attempt attempt.now (S.now steps.old).setup)
         (more found.now (Some result))) }
@@ -81,7 +83,7 @@ fn find_op<S: Steps, A: Trying>(
         (after_ops (S.now steps.old).setup (A.round attempt.now) (A.attempt attempt.now (S.now steps.old).setup)
         (more found.now result.0)) }
     ensures small { IfSome result.0 IsSmallOp }
-    ensures few { result.1 ≤ 6 }
+    ensures few { result.1 ≤ 1 + OP_WORDS }
 {
     steps.stands();
     let word = steps.load(desk.layout.announcement(found.len() as u32));
@@ -91,7 +93,7 @@ fn find_op<S: Steps, A: Trying>(
     steps.stands();
     let start = desk.layout.op_word(word - 1, 0);
     let op = load_op(steps, start, attempt, found, word - 1);
-    (Some(op), 6)
+    (Some(op), 1 + OP_WORDS as u64)
 }
 
 /// Finds what all seats announce, and tells how many steps that took.
@@ -112,7 +114,7 @@ pub fn find_ops<S: Steps, A: Trying>(
         (after_all_ops (S.now steps.old).setup (A.round attempt.now)
         (A.attempt attempt.now (S.now steps.old).setup) ops.new) }
     ensures updates { AreUpdates ops.new }
-    ensures few { result ≤ 48 }
+    ensures few { result ≤ FINDING_STEPS }
     ensures len { length ops.new ≡ length ops.old }
 {
     let mut spent = 0;

@@ -10,6 +10,7 @@ ghost use Rattle.seat_machine.specs.Outcomes.{ending, ending_of_round};
 
 use crate::desk::Desk;
 use crate::directory_tries::{Changed, try_directory};
+use crate::limits::TRIES_STEPS;
 use crate::own::Own;
 use crate::room::Room;
 use crate::steps::Steps;
@@ -32,7 +33,7 @@ fn try_buckets<S: Steps>(
     requires own { IsOwn (S.now steps.old) own.now }
     requires used { used.old ≡ (S.now steps.old).account.used }
     ensures goes { S.now steps.new ≡ went (S.now steps.old) used.new result.1 (ending round result.0) }
-    ensures few { result.1 ≤ 1200 }
+    ensures few { result.1 ≤ TRIES_STEPS }
 {
     let mut turn = 1;
     let mut first = None;
@@ -109,7 +110,7 @@ pub fn try_round<S: Steps>(
     requires own { IsOwn (S.now steps.old) own.now }
     requires used { used.old ≡ (S.now steps.old).account.used }
     ensures goes { S.now steps.new ≡ went (S.now steps.old) used.new result.1 (ending_of_round round result.0) }
-    ensures few { result.1 < 2 ^ 62 + 1200 }
+    ensures few { result.1 < 2 ^ 62 + TRIES_STEPS }
     ensures room { HasAllRoom (settings_at desk.now) room.new }
 {
     let (answer, spent) = try_buckets(steps, desk, own, used, round);

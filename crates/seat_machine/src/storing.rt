@@ -21,9 +21,9 @@ ghost use Rattle.seat_machine.specs.Tries.{directory_trying};
 
 use crate::asking::DirectoryAttempt;
 use crate::desk::Desk;
+use crate::limits::{LEAF_STEPS, MOST_LEAVES, MOST_WORDS};
 use crate::runs::store_run;
 use crate::steps::Steps;
-use crate::tries::MOST_WORDS;
 use bucket_states::Op;
 use dir_states::{Change, DirState, Loaded, NewLeaf, base_of};
 use plain_map::BucketRow;
@@ -92,7 +92,7 @@ fn store_leaves<S: Steps>(
         (map as_loaded found.now.loaded.now) }
     requires spelled { All (CanBeSpelled (settings_at desk.now) (map as_loaded found.now.loaded.now))
         (map as_leaf leaves.now) }
-    requires few { length leaves.now ≤ 200 }
+    requires few { length leaves.now ≤ MOST_LEAVES }
     requires small { bucket < 2 ^ 63 }
     requires low { number < 2 ^ 63 }
     requires row { HasBucketRoom (settings_at desk.now).seats (settings_at desk.now).items row.old }
@@ -100,7 +100,7 @@ fn store_leaves<S: Steps>(
         later (S.now steps.old) result (storing (S.now steps.old) (changing found.now) result) }
     ensures left { drop result (puts_of (S.now steps.old) (changing found.now)) ≡
         directory_row_puts (S.now steps.old) (changing found.now) }
-    ensures short { result ≤ 14000 }
+    ensures short { result ≤ LEAF_STEPS }
     ensures row { HasBucketRoom (settings_at desk.now).seats (settings_at desk.now).items row.new }
 {
     let mut stored = 0;
@@ -174,7 +174,7 @@ pub fn store_change<S: Steps>(
     requires directory { directory_of change.now ≡
         made_directory (S.now steps.old).setup (S.now steps.old).seat used.now
         (directory_trying found.now.attempt) found.now.ops.now (map as_loaded found.now.loaded.now) }
-    requires few { length (leaves_of change.now) ≤ 200 }
+    requires few { length (leaves_of change.now) ≤ MOST_LEAVES }
     requires row { HasBucketRoom (settings_at desk.now).seats (settings_at desk.now).items row.old }
     ensures goes { S.now steps.new ≡ later (S.now steps.old) result
         (DirExchange found.now.attempt.round (directory_trying found.now.attempt) found.now.ops.now

@@ -15,17 +15,15 @@ ghost use Rattle.seat_machine.specs.Outcomes.{IsEarly, outcome};
 
 use crate::asking::Attempt;
 use crate::desk::Desk;
+use crate::limits::{CHANGE_STEPS, MOST_WORDS, TRY_STEPS};
 use crate::ops::find_ops;
 use crate::own::Own;
 use crate::rows::{load_row, store_row};
 use crate::steps::Steps;
 use crate::words::{applied_in, change, reply_in};
 use core_model::Round;
-use plain_map::Reply;
+use plain_map::{MOST_SEATS, Reply};
 use step_counts::SeatRows;
-
-/// The most words of a bucket row.
-pub(crate) const MOST_WORDS: usize = 69;
 
 /// How a try went.
 #[derive(Clone, Copy)]
@@ -88,11 +86,11 @@ pub fn change_bucket<S: Steps>(
     requires words { length words.old ≡ bucket_row_words (settings_of (S.now steps.old).setup) }
     requires spelled { SpellSomeBucket (settings_of (S.now steps.old).setup) words.old }
     ensures goes { S.now steps.new ≡ went (S.now steps.old) used.new result.1 (outcome round turn result.0) }
-    ensures few { result.1 ≤ 200 }
+    ensures few { result.1 ≤ CHANGE_STEPS }
     ensures len { length words.new ≡ length words.old }
 {
     let seats = desk.layout.settings().seats as usize;
-    let mut ops = [None; 8];
+    let mut ops = [None; MOST_SEATS];
     let found = &mut ops[..seats];
     let attempt = Attempt {
         round,
@@ -137,7 +135,7 @@ pub fn try_bucket<S: Steps>(
     requires own { IsOwn (S.now steps.old) own.now }
     ensures goes { S.now steps.new ≡ went (S.now steps.old) used.new result.1 (outcome round turn result.0) }
     ensures early { IsEarly turn result.0 }
-    ensures few { result.1 ≤ 300 }
+    ensures few { result.1 ≤ TRY_STEPS }
 {
     let size = desk.row_length();
     let mut buffer = [0; MOST_WORDS];
@@ -152,9 +150,6 @@ pub fn try_bucket<S: Steps>(
     }
     if words[3] == 1 {
         return (Tried::ToDirectory, spent);
-    }
-    if turn > 2 {
-        unreachable!()
     }
     let (tried, more) = change_bucket(steps, desk, own, used, round, turn, first, row, words);
     (tried, spent + more)

@@ -20,7 +20,7 @@ use crate::rounds::try_round;
 use crate::steps::Steps;
 use bucket_machine::Hashed;
 use core_model::{Aim, Round};
-use plain_map::{Call, Record, Reply};
+use plain_map::{Call, MOST_SEATS, Record, Reply};
 use step_counts::{OP_WORDS, SeatRows};
 use word_rows::{OpRow, write_op};
 
@@ -90,7 +90,7 @@ pub fn update<S: Steps>(
     ensures room { HasAllRoom (settings_at desk.now) room.new }
 {
     let seats = desk.layout.settings().seats;
-    let mut done = [0; 8];
+    let mut done = [0; MOST_SEATS];
     let words = &mut done[..seats as usize];
     see_done(steps, desk, words);
     let seen = counts(words);

@@ -5,4 +5,5 @@ pub mod StepLemmas
 mod Parts
 mod Seats
 mod OpeningLemmas
+mod BlankLemmas
 mod TestLemmas

@@ -13,6 +13,7 @@ at_place [] i x d e = absurd (some-ne-none x (sym e))
 at_place (y ∷ ys) zero x d e = (omega arith, some-injective y x e)
 at_place (y ∷ ys) (suc i) x d e = let r = at_place ys i x d e in (omega (arith, r.0), r.1)
 
+-- what stands at a place, mapped
 pub elem_map : {X Y : Type 0} (f : X → Y) (xs : List X) (i : ℕ) (x : X) → get_elem? xs i ≡ some x →
     get_elem? (map f xs) i ≡ some (f x)
 elem_map f [] i x e = absurd (some-ne-none x (sym e))
@@ -21,6 +22,7 @@ elem_map f (y ∷ ys) (suc i) x e = elem_map f ys i x e
 
 -- where the sum is that of one place alone, it is 0 at every other
 module _ {X : Type 0} (f : X → ℕ) where
+  -- then it is 0 at each other place
   pub zero_elsewhere : (xs : List X) (i k : ℕ) (none d : X) → f none ≡ 0 → i < length xs → k < length xs → k ≢ i →
       sum_by f xs ≡ f (get_or xs i d) → f (get_or xs k d) ≡ 0
   zero_elsewhere xs i k none d z hi hk ne s =
@@ -32,6 +34,7 @@ module _ {X : Type 0} (f : X → ℕ) where
 
 -- one element changes, and the others keep or change theirs
 module _ {X : Type 0} (P : X → Type 0) where
+  -- then all keep it
   pub all_but_one : (xs : List X) (i : ℕ) (y : X) → P y →
       ((k : ℕ) (d : X) → k < length xs → k ≢ i → P (get_or xs k d)) → All P (set xs i y)
   all_but_one xs i y p q k d h =
@@ -49,10 +52,12 @@ fold-snoc f w [] e = refl
 fold-snoc f w (x ∷ xs) e = fold-snoc f (f w x) xs e
 
 module _ {E : Type 0} (p : E → Bool) where
+  -- is counted where it passes
   pub count-snoc : (es : List E) (e : E) → count_by p (es ++ e ∷ []) ≡ count_by p es + cond (p e) 1 0
   count-snoc es e = sum_by-append (λ x. cond (p x) 1 0) es (e ∷ [])
       ∙ omega (arith, sum_by-cons (λ (x : E). cond (p x) 1 0) e [])
 
+-- a place that is there needs no default
 pub get_or_default : {X : Type 0} (xs : List X) (k : ℕ) (d e : X) → k < length xs → get_or xs k d ≡ get_or xs k e
 get_or_default [] k d e h = absurd (omega arith)
 get_or_default (x ∷ xs) zero d e h = refl

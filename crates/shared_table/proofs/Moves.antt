@@ -27,12 +27,14 @@ use Rattle.shared_table.specs.Rule.{bundles, Holds, M, alone, IsReached, asked_b
 use Rattle.shared_table.proofs.Lists.{at_place, elem_map, zero_elsewhere, all_but_one, get_or_default, count-snoc}
 use Rattle.shared_table.proofs.Worlds.{is_event, steps_world, words_are, found_is, run-snoc, world-snoc, length-world}
 
+-- a test as a number
 abbrev bit : Bool → ℕ
 bit b = cond b 1 0
 
 -- a bundle without the seat stays, where the world changes at that seat alone
 module _ (setup : Setup) (events : List Event) (e : Event) (s : SeatState)
     (now : (world_after setup (events ++ e ∷ [])).seats ≡ set (world_after setup events).seats e.seat s) where
+  -- what is known of another seat stays
   stays : (h : Holding) → h.seat ≢ e.seat → IsOfRun setup events h → IsOfRun setup (events ++ e ∷ []) h
   stays h ne r = record {
     opened = r.opened;
@@ -46,6 +48,7 @@ module _ (setup : Setup) (events : List Event) (e : Event) (s : SeatState)
         count-snoc (λ (x : Event). eqb x.seat h.seat) r.later e ∙ omega (arith, r.own, ap bit far);
   }
 
+  -- so a bundle without the seat stays
   all_stay : (b : Bundle) → count_by (λ (h : Holding). eqb h.seat e.seat) b ≡ 0 → All (IsOfRun setup events) b →
       All (IsOfRun setup (events ++ e ∷ [])) b
   all_stay b none all k d inside =
@@ -68,64 +71,83 @@ mine_of c s r id h at =
 module _ (asked : ℕ × Call) (h : Holding) (s : State (Unit {0}) View) (r : Holds h.setup s) (id : ℕ)
     (at : get_elem? s.views id ≡ some (alone h).0)
     (may : MayStep h.setup h.seat asked h.state.account h.state.stand) where
+  -- what the table was opened with
   abbrev c : Setup
   c = h.setup
 
+  -- what the seat asks for
   abbrev a : Ask
   a = asked_by h asked
 
+  -- the event of its step
   abbrev e : Event
   e = event_of h.seat asked h.state
 
+  -- the world before the step
   abbrev w : World
   w = world_after c r.events
 
+  -- the word of the step
   abbrev word : ℕ
   word = place c.shape (address_of a)
 
+  -- what it held
   abbrev n : ℕ
   n = get_or s.words word 0
 
+  -- the run with the step
   abbrev run : List Event
   run = r.events ++ e ∷ []
 
+  -- the holding after the step
   abbrev then : Holding
   then = after_step h asked (told a n) r.events
 
+  -- the seat's view is among the views
   there : get_elem? (bundles s.views) id ≡ some (h ∷ [])
   there = elem_map (λ (v : View). v.bundle) s.views id (alone h).0 at
 
+  -- at a place of the list
   inside : id < length (bundles s.views)
   inside = (at_place (bundles s.views) id (h ∷ []) [] there).0
 
+  -- which has this bundle
   is_mine : get_or (bundles s.views) id [] ≡ h ∷ []
   is_mine = (at_place (bundles s.views) id (h ∷ []) [] there).1
 
+  -- the seat is one of the run's
   mine : IsOfRun c r.events h
   mine = mine_of c s r id h at
 
+  -- the world has its state
   now_here : seat_in w h.seat ≡ h.state
   now_here = sym mine.state
 
+  -- what it is told is what the definition finds
   found_same : told a n ≡ found_by c a w.words
   found_same = ap (λ (ws : List ℕ). told a (get_or ws word 0)) r.same_words ∙ found_is c a w.words
 
+  -- the world after the step
   world_is : world_after c run ≡ record {
     words = words_after c a w.words;
     seats = set w.seats h.seat (advanced c h.seat asked h.state (found_by c a w.words));
   }
   world_is = world-snoc c r.events e ∙ steps_world c h.seat asked w h.state mine.seat now_here may
 
+  -- in which this seat alone changed
   seats_are : (world_after c run).seats ≡ set w.seats e.seat then.state
   seats_are = ap (λ (x : World). x.seats) world_is
       ∙ ap (λ (k : ℕ). set w.seats h.seat (advanced c h.seat asked h.state k)) (sym found_same)
 
+  -- the run with the step is a run
   runs : IsRun c run
   runs = run-snoc c r.events e r.is_run (is_event c h.seat asked w h.state mine.seat now_here may)
 
+  -- the world has all seats
   long : length w.seats ≡ seats_of c
   long = length-world c r.events
 
+  -- the seat has its new state
   here : seat_in (world_after c run) h.seat ≡ then.state
   here =
       ap (λ (ss : List SeatState). get_or ss h.seat fresh_seat) seats_are
@@ -135,6 +157,7 @@ module _ (asked : ℕ × Call) (h : Holding) (s : State (Unit {0}) View) (r : Ho
   abbrev after : State (Unit {0}) View
   after = stepped s word (becomes a n) id [] (alone then).0 keeps
 
+  -- one view changed
   bundles_are : bundles after.views ≡ set (bundles s.views) id (then ∷ [])
   bundles_are = map-set (λ (v : View). v.bundle) s.views id (alone then).0
 
@@ -142,6 +165,7 @@ module _ (asked : ℕ × Call) (h : Holding) (s : State (Unit {0}) View) (r : Ho
   abbrev times_of : ℕ → Bundle → ℕ
   times_of seat b = count_by (λ (x : Holding). eqb x.seat seat) b
 
+  -- a seat stands once in a bundle of its own
   one_time : (x : Holding) → x.seat ≡ h.seat → times_of h.seat (x ∷ []) ≡ 1
   one_time x same = omega (
     arith,
@@ -149,6 +173,7 @@ module _ (asked : ℕ × Call) (h : Holding) (s : State (Unit {0}) View) (r : Ho
     ap bit (eq-eqb x.seat h.seat same),
   )
 
+  -- a step leaves the numbers of the seats as they are
   same_times : (seat : ℕ) → times_of seat (then ∷ []) ≡ times_of seat (h ∷ [])
   same_times seat = omega (
     arith,
@@ -156,6 +181,7 @@ module _ (asked : ℕ × Call) (h : Holding) (s : State (Unit {0}) View) (r : Ho
     sum_by-cons (λ (y : Holding). cond (eqb y.seat seat) 1 0) h [],
   )
 
+  -- the other views stay true
   others : (k : ℕ) (d : Bundle) → k < length (bundles s.views) → k ≢ id →
       All (IsOfRun c run) (get_or (bundles s.views) k d)
   others k d hk ne =
@@ -168,6 +194,7 @@ module _ (asked : ℕ × Call) (h : Holding) (s : State (Unit {0}) View) (r : Ho
       all_stay c r.events e then.state seats_are (get_or (bundles s.views) k d) (ap (times_of h.seat) same_d ∙ zero)
       (r.of_run k d hk)
 
+  -- and the seat's own is true of the new run
   mine_after : IsOfRun c run then
   mine_after = record {
     opened = refl;
@@ -178,6 +205,7 @@ module _ (asked : ℕ × Call) (h : Holding) (s : State (Unit {0}) View) (r : Ho
     own = refl;
   }
 
+  -- so the rule holds after the step
   goes_on : Holds c after
   goes_on = record {
     events = run;
@@ -195,6 +223,7 @@ module _ (asked : ℕ × Call) (h : Holding) (s : State (Unit {0}) View) (r : Ho
         ∙ omega (arith, cut, ap (times_of seat) is_mine, same_times seat, was);
   }
 
+  -- and the step tells what a step of the seat has to tell
   stepped_to : (k : ℕ) → told a k ≡ told a n → Steps asked h k (alone then)
   stepped_to k same = record {
     before = r.events;
@@ -211,12 +240,15 @@ abbrev first_or : Holding → List Holding → Holding
 first_or d [] = d
 first_or d (x ∷ xs) = x
 
+-- a token of one seat has one holding
 pub alone_is : (h k : Holding) → alone h ≡ alone k → h ≡ k
 alone_is h k e = ap (λ (m : M). first_or h m.0.bundle) e
 
+-- what a step tells, by any word of which the seat is told the same
 abbrev pub Tells : ℕ × Call → Ask → M → ℕ → M → Type 0
 Tells asked a m n w = (k : ℕ) → told a k ≡ told a n → Moved asked m k w
 
+-- a seat that may step can take its step, at the place of its word
 moves_at : (c : Setup) (slots id : ℕ) (asked : ℕ × Call) (h : Holding) →
     MayStep h.setup h.seat asked h.state.account h.state.stand →
     Allows (Holds c) slots id (alone h) (place h.setup.shape (address_of (asked_by h asked)))
@@ -234,6 +266,7 @@ moves_at c slots id asked h may s r _ at _ =
           (stepped_to asked h s r' id at may k told_same),
     )
 
+-- so can one that asks for it
 pub moves : (c : Setup) (slots id : ℕ) (asked : ℕ × Call) (a : Ask) (h : Holding) (m : M) → AsksFor asked a h m →
     Allows (Holds c) slots id m (place h.setup.shape (address_of a)) (becomes a) (λ n w. Tells asked a m n w)
 moves c slots id asked a h m ask =
@@ -249,6 +282,7 @@ loads c slots id asked from h m ask s r homes at few =
     let go = moves c slots id asked (Load from) h m ask s r homes at few in
     (go.0, go.1, go.2, go.3, go.4 (get_or s.words (place h.setup.shape from) 0) refl)
 
+-- a store
 pub stores : (c : Setup) (slots id : ℕ) (asked : ℕ × Call) (to : Address) (word k : ℕ) (h : Holding) (m : M) →
     AsksFor asked (Store to word) h m →
     Allows (Holds c) slots id m (place h.setup.shape to) (λ _. word) (λ _ w. Moved asked m k w)
@@ -256,10 +290,12 @@ stores c slots id asked to word k h m ask s r homes at few =
     let go = moves c slots id asked (Store to word) h m ask s r homes at few in
     (go.0, go.1, go.2, go.3, go.4 k refl)
 
+-- the two ways to choose are one
 either_is : (b : Bool) (x y : ℕ) → cond b x y ≡ either b x y
 either_is true x y = refl
 either_is false x y = refl
 
+-- an exchange
 pub exchanges : (c : Setup) (slots id : ℕ) (asked : ℕ × Call) (at : Address) (old new : ℕ) (h : Holding) (m : M) →
     AsksFor asked (Exchange at old new) h m →
     Allows (Holds c) slots id m (place h.setup.shape at) (λ n. either (eqb n old) new n) (λ n w. Moved asked m n w)
@@ -272,6 +308,7 @@ exchanges c slots id asked at old new h m ask =
 
 -- ---- at the place of its word
 
+-- what is asked for is a word of the table
 pub on_word : EveryStepFits → (shape : Shape) (asked : ℕ × Call) (a : Ask) (m : M) → IsFor shape asked a m →
     IsOnWord shape a
 on_word law shape asked a m f =
@@ -280,10 +317,12 @@ on_word law shape asked a m f =
     subst (λ (u : Shape × Ask). IsOnWord u.0 u.1) (λ i. (f.shape_is i, f.asks.asks i))
     (law h.setup h.known h.seat asked h.state r.run r.seat r.state f.asks.may).on_word
 
+-- the place of a word, by the shape of the table
 place_is : (shape : Shape) (asked : ℕ × Call) (a : Ask) (m : M) (f : IsFor shape asked a m) (at : Address) (p : ℕ) →
     p ≡ place shape at → place f.holding.setup.shape at ≡ p
 place_is shape asked a m f at p e = ap (λ (u : Shape). place u at) f.shape_is ∙ sym e
 
+-- a load there
 pub loads_at : (c : Setup) (slots id : ℕ) (shape : Shape) (asked : ℕ × Call) (from : Address) (m : M) (p : ℕ) →
     IsFor shape asked (Load from) m → p ≡ place shape from →
     Allows (Holds c) slots id m p (λ n. n) (λ n w. Moved asked m n w)
@@ -291,6 +330,7 @@ loads_at c slots id shape asked from m p f e =
     subst (λ (k : ℕ). Allows (Holds c) slots id m k (λ n. n) (λ n w. Moved asked m n w))
     (place_is shape asked (Load from) m f from p e) (loads c slots id asked from f.holding m f.asks)
 
+-- a store there
 pub stores_at : (c : Setup) (slots id : ℕ) (shape : Shape) (asked : ℕ × Call) (to : Address) (word : ℕ) (m : M)
     (p : ℕ) → IsFor shape asked (Store to word) m → p ≡ place shape to →
     Allows (Holds c) slots id m p (λ _. word) (λ _ w. Moved asked m word w)
@@ -298,6 +338,7 @@ stores_at c slots id shape asked to word m p f e =
     subst (λ (k : ℕ). Allows (Holds c) slots id m k (λ _. word) (λ _ w. Moved asked m word w))
     (place_is shape asked (Store to word) m f to p e) (stores c slots id asked to word word f.holding m f.asks)
 
+-- an exchange there
 pub exchanges_at : (c : Setup) (slots id : ℕ) (shape : Shape) (asked : ℕ × Call) (at : Address) (old new : ℕ) (m : M)
     (p : ℕ) → IsFor shape asked (Exchange at old new) m → p ≡ place shape at →
     Allows (Holds c) slots id m p (λ n. either (eqb n old) new n) (λ n w. Moved asked m n w)

@@ -41,7 +41,8 @@ bucket_places : (shape : Shape) (row j : ℕ) →
     place shape (BucketRowWord row (suc j)) ≡ suc (place shape (BucketRowWord row j))
 bucket_places shape row j = omega arith
 
-directory_places : (shape : Shape) (row j : ℕ) →
+-- and so do those of a directory row
+pub directory_places : (shape : Shape) (row j : ℕ) →
     place shape (DirectoryWord row (suc j)) ≡ suc (place shape (DirectoryWord row j))
 directory_places shape row j = omega arith
 
@@ -125,10 +126,12 @@ pub words_there : (shape : Shape) → 2 ^ shape.settings.depth ≤ count_of shap
 unfolding number_after
 words_there shape = omega arith
 
+-- so many bucket rows too
 pub rows_there : (shape : Shape) → 2 ^ shape.settings.depth ≤ count_of shape BucketRows
 unfolding number_after
 rows_there shape = omega arith
 
+-- and one directory row
 pub directory_there : (shape : Shape) → 0 < count_of shape DirRows
 unfolding number_after
 directory_there shape = omega arith
@@ -143,6 +146,7 @@ directory_fits shape depth within shallow inside =
     omega (arith, up, last)
 
 module _ (setup : Setup) (s : IsSetup setup) where
+  -- the leaves of the opening
   abbrev leaves : List NewLeaf
   leaves = first_leaves setup
 
@@ -158,6 +162,7 @@ module _ (setup : Setup) (s : IsSetup setup) where
       ((opens setup s).good i d h).0 ((opens setup s).small (λ k e lt. (s.pairs k e lt).value) i d h) refl
       refl).spells.0
 
+  -- the directory before they are put in
   abbrev before : DirectoryState
   before = record { depth = setup.shape.settings.start; entries = replicate (2 ^ setup.shape.settings.start) 0 }
 
@@ -166,6 +171,7 @@ module _ (setup : Setup) (s : IsSetup setup) where
   directory_shallow = now-shallow (rules_of setup) (can setup s).range before (can setup s).within 0 leaves
       (opening-apart (rules_of setup) (seats_of setup) setup.shape.settings.start setup.first (can setup s)).shallow
 
+  -- and it has a place for each prefix of its depth
   pub directory_long : length (opening_directory setup.shape.settings.start leaves).entries ≡ 2 ^
       (opening_directory setup.shape.settings.start leaves).depth
   directory_long = now-long (rules_of setup) (can setup s).range before (can setup s).within 0 leaves

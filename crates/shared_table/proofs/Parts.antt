@@ -25,44 +25,56 @@ use Rattle.shared_table.specs.Gathered.{holdings, HasAll}
 use Rattle.shared_table.proofs.Lists.{at_place, elem_map}
 use Rattle.shared_table.proofs.Moves.{alone_is}
 
+-- a test as a number
 abbrev bit : Bool → ℕ
 bit b = cond b 1 0
 
+-- how often a seat stands in a bundle
 abbrev times_of : ℕ → Bundle → ℕ
 times_of seat b = count_by (λ (h : Holding). eqb h.seat seat) b
 
+-- in two bundles it stands as often as in both
 times-append : (seat : ℕ) (xs ys : Bundle) → times_of seat (xs ++ ys) ≡ times_of seat xs + times_of seat ys
 times-append seat xs ys = sum_by-append (λ (h : Holding). bit (eqb h.seat seat)) xs ys
 
+-- one holding more counts where it is the seat's
 times-cons : (seat : ℕ) (h : Holding) (xs : Bundle) → times_of seat (h ∷ xs) ≡ bit (eqb h.seat seat) + times_of seat xs
 times-cons seat h xs = sum_by-cons (λ (x : Holding). bit (eqb x.seat seat)) h xs
 
+-- cutting the first holding off loses none
 times_cut : (seat : ℕ) (b : Bundle) → times_of seat (tail_of b) + times_of seat (head_of b) ≡ times_of seat b
 times_cut seat [] = refl
 times_cut seat (h ∷ hs) = omega (arith, times-cons seat h hs, times-cons seat h [])
 
 module _ (c : Setup) (s : State (Unit {0}) View) (r : Holds c s) (id : ℕ) (v : View)
     (at : get_elem? s.views id ≡ some v) where
+  -- a view is among the views
   there : get_elem? (bundles s.views) id ≡ some v.bundle
   there = elem_map (λ (u : View). u.bundle) s.views id v at
 
+  -- at a place of the list
   pub inside : id < length (bundles s.views)
   inside = (at_place (bundles s.views) id v.bundle [] there).0
 
+  -- which has its bundle
   pub found : get_or (bundles s.views) id [] ≡ v.bundle
   found = (at_place (bundles s.views) id v.bundle [] there).1
 
+  -- so all its holdings are of the run
   pub all_of : All (IsOfRun c r.events) v.bundle
   all_of = subst (All (IsOfRun c r.events)) found (r.of_run id [] inside)
 
+-- what holds of all holds of the first
 head_all : (P : Holding → Type 0) (b : Bundle) → All P b → All P (head_of b)
 head_all P [] a = a
 head_all P (h ∷ hs) a = All-cons P h [] (All-head P h hs a) (All-nil P)
 
+-- and of the others
 tail_all : (P : Holding → Type 0) (b : Bundle) → All P b → All P (tail_of b)
 tail_all P [] a = a
 tail_all P (h ∷ hs) a = All-tail P h hs a
 
+-- a view can be cut in two
 pub splits : (c : Setup) (id : ℕ) (v : View) → Splits (Holds c) id v (others v) (foremost v)
 splits c id v s r at =
     let P : Bundle → Type 0 = λ b. All (IsOfRun c r.events) b in
@@ -95,6 +107,7 @@ splits c id v s r at =
           );
     }
 
+-- two views can be put together
 pub joins : (c : Setup) (id : ℕ) (v : View) (other : ℕ) (w : View) → Joins (Holds c) id v other w (together v w) spent
 joins c id v other w s r at ne at' =
     let P : Bundle → Type 0 = λ b. All (IsOfRun c r.events) b in
@@ -153,6 +166,7 @@ fresh_times c seat k (suc n) =
           )
     ]
 
+-- and all of them are of the run without events
 fresh_all : (c : Setup) (k n : ℕ) → k + n ≤ seats_of c → All (IsOfRun c []) (fresh_from c k n)
 fresh_all c k zero h = All-nil (IsOfRun c [])
 fresh_all c k (suc n) h =
@@ -168,6 +182,7 @@ fresh_all c k (suc n) h =
     })
     (fresh_all c (suc k) n (omega arith))
 
+-- so the rule holds at the opening
 pub opens : (c : Setup) (words : List ℕ) → IsSetup c → words ≡ opening_words c → Holds c (opening words [] (whole c))
 opens c words ok is = record {
   events = [];
@@ -189,16 +204,19 @@ abbrev times_below : ℕ → Bundle → ℕ
 times_below zero b = 0
 times_below (suc n) b = times_of n b + times_below n b
 
+-- in no holdings none stands
 below_nil : (n : ℕ) → times_below n [] ≡ 0
 below_nil zero = refl
 below_nil (suc n) = omega (arith, below_nil n)
 
+-- one holding more counts where its seat is below
 below_cons : (n : ℕ) (h : Holding) (hs : Bundle) → times_below n (h ∷ hs) ≡ bit (ltb h.seat n) + times_below n hs
 below_cons zero h hs = grind (arith, nat_tests)
 below_cons (suc n) h hs =
     let step : bit (ltb h.seat (suc n)) ≡ bit (eqb h.seat n) + bit (ltb h.seat n) = grind (arith, nat_tests) in
     omega (arith, below_cons n h hs, times-cons n h hs, step)
 
+-- all seats of holdings of a run are below their number
 below_length : (c : Setup) (events : List Event) (b : Bundle) → All (IsOfRun c events) b →
     times_below (seats_of c) b ≡ length b
 below_length c events [] a = below_nil (seats_of c)
@@ -208,10 +226,12 @@ below_length c events (h ∷ hs) a =
     omega (arith, below_cons (seats_of c) h hs, below_length c events hs (All-tail (IsOfRun c events) h hs a), one)
 
 module _ (b : Bundle) (n : ℕ) (few : (seat : ℕ) → seat < n → times_of seat b ≤ 1) where
+  -- where each stands at most once, so many seats stand at most so often
   below_few : (m : ℕ) → m ≤ n → times_below m b ≤ m
   below_few zero h = omega arith
   below_few (suc m) h = omega (arith, below_few m (omega arith), few m (omega arith))
 
+  -- and where they stand so often, each stands exactly once
   each_once : (m : ℕ) → m ≤ n → times_below m b ≡ m → (seat : ℕ) → seat < m → times_of seat b ≡ 1
   each_once zero h all seat k = absurd (omega arith)
   each_once (suc m) h all seat k =
@@ -221,6 +241,7 @@ module _ (b : Bundle) (n : ℕ) (few : (seat : ℕ) → seat < n → times_of se
         | inr ne ↦ each_once m (omega arith) rest seat (omega (arith, ne))
       ]
 
+-- each seat is left as its holding says
 all_left : (c : Setup) (events : List Event) (seats : List SeatValue) → All (IsOfRun c events) (holdings seats) →
     All (IsLeft c events) seats
 all_left c events [] a = All-nil (IsLeft c events)
@@ -232,6 +253,7 @@ all_left c events (s ∷ seats) a =
     })
     (all_left c events seats (All-tail (IsOfRun c events) s.holding (holdings seats) a))
 
+-- a seat is counted alike among holdings and among seats
 count_same : (seat : ℕ) (seats : List SeatValue) →
     times_of seat (holdings seats) ≡ count_by (λ (s : SeatValue). eqb s.holding.seat seat) seats
 count_same seat [] = refl
@@ -242,10 +264,12 @@ count_same seat (s ∷ seats) = omega (
   count_same seat seats,
 )
 
+-- there are as many holdings as seats
 length-holdings : (seats : List SeatValue) → length (holdings seats) ≡ length seats
 length-holdings [] = refl
 length-holdings (s ∷ seats) = omega (arith, length-holdings seats)
 
+-- all seats that are put together leave one run
 pub ends : (c : Setup) (id : ℕ) (me : M) (seats : List SeatValue) (words : List ℕ) (slots : List (Unit {0})) →
     length seats ≡ seats_of c →
     me ≡ (record { bundle = holdings seats }, []) → Final (Seen (Holds c) id me.0) words slots → Ran c words seats
@@ -274,10 +298,12 @@ ends c id me seats words slots all is f =
 
 -- ---- seats that are put together
 
+-- what holds of all seats holds of those before the last, and of it
 pub all_of-end : (t : TableValue) (xs : List SeatValue) (x : SeatValue) → All (IsOf t) (xs ++ x ∷ []) →
     All (IsOf t) xs × IsOf t x
 all_of-end t xs x h = All-pop (IsOf t) (xs ++ x ∷ []) xs (Some x) refl h
 
+-- one seat more is put before those that are gathered
 pub gathers : (t : TableValue) (done : List SeatValue) (x : SeatValue) (a b a' : Token) → HasAll t done a →
     b.me ≡ alone x.holding → a'.table_id ≡ a.table_id → a'.me ≡ (together a.me.0 b.me.0, a.me.1) →
     HasAll t (x ∷ done) a'
@@ -285,10 +311,12 @@ gathers t done x a b a' h is table me =
     let f : M → M → M = λ m k. (together m.0 k.0, m.1) in
     record { table = table ∙ h.table; me = me ∙ (λ i. f (h.me i) (is i)) }
 
+-- the first seat is gathered alone
 pub gathers_first : (t : TableValue) (x : SeatValue) (a : Token) → x.table_id ≡ t.table_id →
     a.table_id ≡ x.table_id → a.me ≡ alone x.holding → HasAll t (x ∷ []) a
 gathers_first t x a table a_table me = record { table = a_table ∙ table; me = me }
 
+-- one word more of a list
 pub take_at : (l : List ℕ) (i n : ℕ) → get_elem? l i ≡ some n → take (i + 1) l ≡ take i l ++ n ∷ []
 take_at [] i n e = absurd (some-ne-none n (sym e))
 take_at (x ∷ xs) zero n e = ap (λ (k : ℕ). k ∷ []) (some-injective x n e)
@@ -297,12 +325,14 @@ take_at (x ∷ xs) (suc i) n e = let f : suc i + 1 ≡ suc (i + 1) = omega arith
 
 -- ---- seats that are dealt
 
+-- the seats from one on are it and those from the next on
 pub deal_one : (c : Setup) (k n : ℕ) → k < n → fresh_from c k (n - k) ≡ fresh c k ∷ fresh_from c (k + 1) (n - (k + 1))
 deal_one c k n h =
     let e : n - k ≡ suc (n - (k + 1)) = omega arith in
     let f : suc k ≡ k + 1 = omega arith in
     ap (fresh_from c k) e ∙ ap (λ (j : ℕ). fresh c k ∷ fresh_from c j (n - (k + 1))) f
 
+-- cutting a seat off leaves those from the next on
 pub dealt : (c : Setup) (me left right : M) (k n : ℕ) → k < n →
     me ≡ (record { bundle = fresh_from c k (n - k) }, []) → left ≡ (others me.0, me.1) → right ≡ (foremost me.0, []) →
     (left ≡ (record { bundle = fresh_from c (k + 1) (n - (k + 1)) }, [])) × (right ≡ alone (fresh c k))
@@ -313,6 +343,7 @@ dealt c me left right k n h is l r =
     let g : M → M = λ m. (foremost m.0, []) in
     (l ∙ ap f at, r ∙ ap g at)
 
+-- a seat that has made no call is reached by the run without events
 pub reached_fresh : (c : Setup) (k : ℕ) → IsSetup c → k < seats_of c → IsReached (fresh c k)
 reached_fresh c k ok h = record {
   run = record { opened = ok; follow = tt };
@@ -320,6 +351,7 @@ reached_fresh c k ok h = record {
   state = get_or-replicate (seats_of c) k fresh_seat fresh_seat h;
 }
 
+-- one new seat more at the end
 pub new_seats-snoc : (t : TableValue) (i n : ℕ) → new_seats t i (n + 1) ≡ new_seats t i n ++ new_seat t (i + n) ∷ []
 new_seats-snoc t i zero = let e : i + 0 ≡ i = omega arith in ap (λ (k : ℕ). new_seat t k ∷ []) (sym e)
 new_seats-snoc t i (suc n) =
@@ -328,6 +360,7 @@ new_seats-snoc t i (suc n) =
     ap (new_seats t i) e ∙ ap (λ (l : List SeatValue). new_seat t i ∷ l)
     (new_seats-snoc t (suc i) n ∙ ap (λ (k : ℕ). new_seats t (suc i) n ++ new_seat t k ∷ []) f)
 
+-- a seat that is dealt is the next new one
 pub one_more : (t : TableValue) (out out' : List SeatValue) (x : SeatValue) (k : ℕ)
     (table : x.table_id ≡ t.table_id) → alone (fresh t.setup k) ≡ alone x.holding → out ≡ new_seats t 0 k →
     out' ≡ out ++ x ∷ [] → out' ≡ new_seats t 0 (k + 1)

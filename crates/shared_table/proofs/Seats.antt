@@ -33,6 +33,7 @@ pub published_last : (spent : List SeatRows) (used : SeatRows) → published (sp
 published_last spent used =
     get_or_push spent used no_rows (length (spent ++ used ∷ []) - 1) (omega (arith, length_push spent used))
 
+-- the first of the views, or this one
 abbrev first_view : View → List View → View
 first_view d [] = d
 first_view d (v ∷ vs) = v

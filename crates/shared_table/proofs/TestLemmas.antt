@@ -4,6 +4,7 @@ use Rattle.std.specs.Prelude.{All}
 use Rattle.std.proofs.lemmas.List.Elements.{All-nil, All-cons}
 use Rattle.shared_table.specs.Values.{IsNew, TableValue, new_seat, new_seats}
 
+-- new seats are new
 pub all_new : (t : TableValue) (seat many : ℕ) → All (IsNew t) (new_seats t seat many)
 all_new t seat zero = All-nil (IsNew t)
 all_new t seat (suc many) =

@@ -16,6 +16,7 @@ use Rattle.core_model.specs.Steps.{begin_of, flight_in, phase_in, MayStep, event
 use Rattle.shared_table.proofs.Lists.{fold-snoc}
 
 module _ (setup : Setup) (seat : ℕ) (asked : ℕ × Call) where
+  -- an event of a seat that may step is its step
   acts : (world : World) (account : Account) (stand : Stand) → MayStep setup seat asked account stand →
       act setup world seat account stand (begin_of stand asked) ≡ step_of setup world seat account
       (flight_in account stand asked) (phase_in stand)
@@ -23,11 +24,13 @@ module _ (setup : Setup) (seat : ℕ) (asked : ℕ × Call) where
       asked.1 refused) may.0
   acts world account (InFlight flight phase) may = refl
 
+  -- what it begins is what its stand lets it begin
   fits : (account : Account) (stand : Stand) → MayStep setup seat asked account stand →
       FitsStand account stand (begin_of stand asked)
   fits account Idle may = (refl, may.1)
   fits account (InFlight flight phase) may = refl
 
+  -- so it is an event of the world
   pub is_event : (world : World) (state : SeatState) → seat < seats_of setup → seat_in world seat ≡ state →
       MayStep setup seat asked state.account state.stand →
       IsEvent setup world (event_of seat asked state)
@@ -39,6 +42,7 @@ module _ (setup : Setup) (seat : ℕ) (asked : ℕ × Call) where
             (subst (λ (s : SeatState). MayStep setup seat asked s.account s.stand) (sym at) may);
       })
 
+  -- and the world after it is the one after that step
   pub steps_world : (world : World) (state : SeatState) → seat < seats_of setup → seat_in world seat ≡ state →
       MayStep setup seat asked state.account state.stand →
       happens setup world (event_of seat asked state) ≡ step_of setup world seat state.account
@@ -51,6 +55,7 @@ module _ (setup : Setup) (seat : ℕ) (asked : ℕ × Call) where
 
 -- the words after a step: one word becomes what the step makes of it
 module _ (setup : Setup) where
+  -- which word, and what it becomes
   pub words_are : (a : Ask) (words : List ℕ) →
       words_after setup a words ≡ set words (place setup.shape (address_of a))
       (becomes a (get_or words (place setup.shape (address_of a)) 0))
@@ -64,6 +69,7 @@ module _ (setup : Setup) where
       go true = refl
       go false = sym (set-get_or words (place setup.shape at) 0)
 
+  -- what the seat is told is what the definition finds
   pub found_is : (a : Ask) (words : List ℕ) →
       told a (get_or words (place setup.shape (address_of a)) 0) ≡ found_by setup a words
   found_is Nothing words = refl
@@ -77,16 +83,19 @@ module _ (setup : Setup) where
   follow-snoc world [] e a h = (h, tt)
   follow-snoc world (x ∷ xs) e a h = (a.0, follow-snoc (happens setup world x) xs e a.1 h)
 
+  -- is a run
   pub run-snoc : (es : List Event) (e : Event) → IsRun setup es → IsEvent setup (world_after setup es) e →
       IsRun setup (es ++ e ∷ [])
   run-snoc es e r h = record { opened = r.opened; follow = follow-snoc (opening_world setup) es e r.follow h }
 
+  -- whose world is the one after the event
   pub world-snoc : (es : List Event) (e : Event) →
       world_after setup (es ++ e ∷ []) ≡ happens setup (world_after setup es) e
   world-snoc es e = fold-snoc (happens setup) (opening_world setup) es e
 
 -- the seats of a world stay as many
 module _ (setup : Setup) where
+  -- after a seat's act
   length-act : (world : World) (seat : ℕ) (account : Account) (stand : Stand) (begin : Option (ℕ × Call)) →
       length (act setup world seat account stand begin).seats ≡ length world.seats
   length-act world seat account Idle None = refl
@@ -98,6 +107,7 @@ module _ (setup : Setup) where
       go None = length-set world.seats seat _
   length-act world seat account (InFlight flight phase) begin = length-set world.seats seat _
 
+  -- after an event
   length-happens : (world : World) (e : Event) → length (happens setup world e).seats ≡ length world.seats
   length-happens world e = go (ltb e.seat (seats_of setup))
     where
@@ -106,9 +116,11 @@ module _ (setup : Setup) where
       go true = length-act world e.seat (seat_in world e.seat).account (seat_in world e.seat).stand e.begin
       go false = refl
 
+  -- after events
   length-fold : (world : World) (es : List Event) → length (fold (happens setup) world es).seats ≡ length world.seats
   length-fold world [] = refl
   length-fold world (e ∷ es) = length-fold (happens setup world e) es ∙ length-happens world e
 
+  -- so a run has all seats
   pub length-world : (es : List Event) → length (world_after setup es).seats ≡ seats_of setup
   length-world es = length-fold (opening_world setup) es ∙ length-replicate (seats_of setup) fresh_seat

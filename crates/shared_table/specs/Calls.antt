@@ -18,6 +18,7 @@ use Rattle.shared_table.specs.declared.rule.Plan.{Plan}
 use Rattle.shared_table.specs.SeatValues.{SeatValue}
 use Rattle.shared_table.specs.Rule.{M, alone, IsReached, plain}
 
+-- the token of a seat of this table
 abbrev pub Token : Type 0
 Token = Seat (Unit {0}) View
 
@@ -60,6 +61,7 @@ pub record RunningValue : Type 0 where
   pub holding : Holding
   pub done : Bool
 
+-- the first of the holdings, or this one
 abbrev pub first_or : Holding → List Holding → Holding
 first_or d [] = d
 first_or d (x ∷ xs) = x
@@ -68,6 +70,7 @@ first_or d (x ∷ xs) = x
 abbrev pub holding_of : Plan → M → Holding
 holding_of key me = first_or (record { setup = plain key; seat = 0; state = fresh_seat; known = [] }) me.0.bundle
 
+-- what contracts see of a call, by its token
 abbrev pub running_value : Plan → Token → Bool → RunningValue
 running_value key token done = record { table_id = token.table_id; holding = holding_of key token.me; done = done }
 
@@ -92,6 +95,7 @@ pub record Began (asked : ℕ × Call) (was : List SeatValue) (table_id : TableI
   pub table : table_id ≡ first.table_id
   pub under : Under asked first.holding now
 
+-- the token is that of one seat of the table, and a call that has not ended had begun with it
 pub record IsRunning (asked : ℕ × Call) (was : List SeatValue) (key : Plan) (table_id : TableId) (token : Token)
     (done : Bool) : Type 0 where
   pub table : token.table_id ≡ table_id

@@ -1,5 +1,6 @@
 -- How the fields of a seat and of a directory give their values.
 use Rattle.std.specs.Prelude.{◌≡◌, ℕ, List, [], ◌∷◌, length}
+use Rattle.std.specs.Mem.Slots.{IsFull, slots_items, slots_len}
 use Rattle.atomic_table.specs.Seated.{TableId}
 use Rattle.step_counts.specs.declared.rows.SeatRows.{SeatRows}
 use Rattle.step_counts.specs.StepCounts.{need_of}
@@ -16,11 +17,12 @@ use Rattle.seat_machine.specs.Desks.{IsOf, settings_at}
 use Rattle.seat_machine.specs.Rooms.{HasAllRoom}
 use Rattle.shared_table.specs.declared.view.View.{View}
 use Rattle.shared_table.specs.declared.directory.Directory.TheInside as directory
+use Rattle.shared_table.specs.declared.in_place.ClosedTable.TheInside as closed
 use Rattle.shared_table.specs.Rule.{plain, IsReached}
 use Rattle.shared_table.specs.Seating.{no_call}
 use Rattle.shared_table.specs.Calls.{first_or, going_of}
 use Rattle.shared_table.specs.SeatValues.{SeatValue}
-use Rattle.shared_table.specs.Values.{TableValue}
+use Rattle.shared_table.specs.Values.{ClosedValue, TableValue}
 
 -- the holdings of a badge, which has one view or none
 abbrev pub bundle_of : List View → List Holding
@@ -40,6 +42,7 @@ holding_of_desk desk = record {
 abbrev pub holding_in : Desk → List View → Holding
 holding_in desk views = first_or (holding_of_desk desk) (bundle_of views)
 
+-- what contracts see of a seat
 abbrev pub seat_value : Desk → TableId → List View → SeatValue
 seat_value desk table_id views = record { table_id = table_id; holding = holding_in desk views }
 
@@ -61,6 +64,7 @@ pub record SeatStands (desk : Desk) (room : Room) (views : List View) (used size
   pub between : IsBetween desk used sizes need answered (holding_in desk views)
   pub room_is : HasAllRoom (settings_at desk) room
 
+-- what contracts see of a directory
 abbrev pub table_value : directory.Inside → TableValue
 table_value d = record { table_id = d.table.shared.table_id; setup = plain d.table.shared.key }
 
@@ -69,3 +73,13 @@ pub record TableStands (d : directory.Inside) : Type 0 where
   pub shape : shape_of d.layout ≡ (plain d.table.shared.key).shape
   pub words : d.table.shared.table_id.words ≡ word_count (shape_of d.layout)
   pub slots : d.table.shared.table_id.slots ≡ 0
+
+-- what contracts see of a closed table
+abbrev pub closed_value : closed.Inside → ClosedValue
+closed_value t = record { shape = shape_of t.layout; words = slots_items t.table.words }
+
+-- all words of a closed table are there, and it has no slots
+pub record ClosedStands (t : closed.Inside) : Type 0 where
+  pub full : IsFull t.table.words
+  pub counts : slots_len t.table.words ≡ t.count
+  pub slots : slots_len t.table.slots ≡ 0

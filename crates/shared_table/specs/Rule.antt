@@ -13,12 +13,15 @@ use Rattle.core_model.specs.Steps.{MayStep, event_of, ask_of, advanced, told}
 use Rattle.shared_table.specs.declared.view.View.{View}
 use Rattle.shared_table.specs.declared.rule.Plan.{Plan}
 
+-- the bundles of the views
 abbrev pub bundles : List View → List Bundle
 bundles views = map (λ v. v.bundle) views
 
+-- the rule: there is a run that all views are of
 abbrev pub Holds : Setup → State (Unit {0}) View → Type 0
 Holds setup s = Shows setup s.words (bundles s.views)
 
+-- what a table was opened with, as the definitions see it
 abbrev pub plain : Plan → Setup
 plain plan = record {
   shape = record { settings = plan.settings; ranges = plan.rows.items };
@@ -26,6 +29,7 @@ plain plan = record {
   first = plan.first.items;
 }
 
+-- what a token knows
 abbrev pub M : Type 0
 M = Me (Unit {0}) View
 
@@ -45,6 +49,7 @@ pub record IsReached (h : Holding) : Type 0 where
   pub seat : h.seat < seats_of h.setup
   pub state : seat_in (world_after h.setup h.known) h.seat ≡ h.state
 
+-- what the seat asks for, where it is to make this call
 abbrev pub asked_by : Holding → ℕ × Call → Ask
 asked_by h asked = ask_of h.setup h.seat asked h.state
 
@@ -66,9 +71,11 @@ pub record Steps (asked : ℕ × Call) (h : Holding) (n : ℕ) (w : M) : Type 0 
   pub is : w ≡ alone (after_step h asked (told (asked_by h asked) n) before)
   pub reached : IsReached (after_step h asked (told (asked_by h asked) n) before)
 
+-- a token of one seat knows its step then
 abbrev pub Moved : ℕ × Call → M → ℕ → M → Type 0
 Moved asked m n w = (h : Holding) → m ≡ alone h → Steps asked h n w
 
+-- the same, whichever kind of step it is
 abbrev pub acted : ℕ × Call → Step (Unit {0}) → M → ℕ → M → Type 0
 acted asked st m n w = Moved asked m n w
 

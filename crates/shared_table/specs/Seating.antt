@@ -7,9 +7,11 @@ use Rattle.core_model.specs.SeatStates.{fresh_seat}
 use Rattle.core_model.specs.Shown.{Holding}
 use Rattle.shared_table.specs.declared.view.View.{View}
 
+-- a call that stands where none is being made
 abbrev pub no_call : ℕ × Call
 no_call = (0, Lookup (record { k0 = 0; k1 = 0 }))
 
+-- a seat that has made no call
 abbrev pub fresh : Setup → (seat : ℕ) → Holding
 fresh setup seat = record { setup = setup; seat = seat; state = fresh_seat; known = [] }
 
@@ -18,6 +20,7 @@ abbrev pub fresh_from : Setup → (seat many : ℕ) → List Holding
 fresh_from setup seat zero = []
 fresh_from setup seat (suc many) = fresh setup seat ∷ fresh_from setup (suc seat) many
 
+-- the view of all seats
 abbrev pub whole : Setup → View
 whole setup = record { bundle = fresh_from setup 0 (seats_of setup) }
 
@@ -26,13 +29,16 @@ abbrev pub tail_of : List Holding → List Holding
 tail_of [] = []
 tail_of (h ∷ hs) = hs
 
+-- and the first of them
 abbrev pub head_of : List Holding → List Holding
 head_of [] = []
 head_of (h ∷ hs) = h ∷ []
 
+-- the view without its first seat
 abbrev pub others : View → View
 others v = record { bundle = tail_of v.bundle }
 
+-- and with it alone
 abbrev pub foremost : View → View
 foremost v = record { bundle = head_of v.bundle }
 
@@ -40,5 +46,6 @@ foremost v = record { bundle = head_of v.bundle }
 abbrev pub together : View → View → View
 together v w = record { bundle = w.bundle ++ v.bundle }
 
+-- a view that was put before another is empty then
 abbrev pub spent : View
 spent = record { bundle = [] }

@@ -8,7 +8,7 @@ use Rattle.plain_map.specs.Room.{first_short, left_of, published, refusal}
 use Rattle.plain_map.specs.Serving.{IsNext}
 use Rattle.step_counts.specs.StepCounts.{need_of}
 use Rattle.step_counts.specs.declared.rows.SeatRows.{SeatRows}
-use Rattle.word_rows.specs.Shape.{sizes_of}
+use Rattle.word_rows.specs.Shape.{Shape, sizes_of}
 use Rattle.core_model.specs.declared.events.Event.{Event}
 use Rattle.core_model.specs.Setup.{Setup, seats_of, settings_of}
 use Rattle.core_model.specs.Worlds.{IsRun, world_after, seat_in}
@@ -18,15 +18,22 @@ use Rattle.shared_table.specs.SeatValues.{SeatValue, account_of}
 use Rattle.shared_table.specs.Rule.{IsReached}
 use Rattle.shared_table.specs.Calls.{Learned}
 
+-- a table that runs: which one, and what it was opened with
 pub record TableValue : Type 0 where
   pub table_id : TableId
   pub setup : Setup
+
+-- a closed table: its shape, and its words
+pub record ClosedValue : Type 0 where
+  pub shape : Shape
+  pub words : List ℕ
 
 -- the seat is one of the table's
 pub record IsOf (t : TableValue) (s : SeatValue) : Type 0 where
   pub table : s.table_id ≡ t.table_id
   pub setup : s.holding.setup ≡ t.setup
 
+-- the seat stays the same one of the same table
 pub record IsSame (a b : SeatValue) : Type 0 where
   pub table : b.table_id ≡ a.table_id
   pub setup : b.holding.setup ≡ a.holding.setup
@@ -45,8 +52,8 @@ abbrev pub refused_at : SeatValue → Call → Option Full
 refused_at s call = refusal (left_in s) (need_of (settings_of s.holding.setup)) call
 
 -- the call was answered: its record is the seat's next, and what the seat knows of the run has exactly its steps more
--- of
--- the seat, and leads to its records. The steps are those that such a call may have, and the reply is that of its row
+-- of the seat, and leads to its records. The steps are those that such a call may have, and the reply is that of its
+-- row
 pub record Answers (packet : ℕ) (call : Call) (was now : SeatValue) (made : Record) : Type 0 where
   pub next : IsNext (account_of was).records packet call made
   pub records : (account_of now).records ≡ (account_of was).records ++ made ∷ []
@@ -73,6 +80,7 @@ pub record Ran (setup : Setup) (words : List ℕ) (seats : List SeatValue) : Typ
 abbrev pub new_seat : TableValue → (seat : ℕ) → SeatValue
 new_seat t seat = record { table_id = t.table_id; holding = fresh t.setup seat }
 
+-- and so many from one on
 abbrev pub new_seats : TableValue → (seat many : ℕ) → List SeatValue
 new_seats t seat zero = []
 new_seats t seat (suc many) = new_seat t seat ∷ new_seats t (suc seat) many

@@ -1,13 +1,13 @@
 //! What a directory leaves when it is closed: its words, and what they say.
 
-ghost use Rattle.std.specs.Prelude.{◌≡◌, IfOk, map};
+ghost use Rattle.std.specs.Prelude.{◌≡◌, IfOk, IsPermutation, map};
+ghost use Rattle.std.specs.List.Sorted.{IsSortedByKey};
+ghost use Rattle.plain_map.specs.Keys.{key_cmp};
 ghost use Rattle.word_rows.specs.LayoutView.{shape_of};
 ghost use Rattle.core_model.specs.Closed.{closed_depth, closed_leaves, closed_pairs};
-ghost use Rattle.core_order.specs.Views.{as_closed_leaf};
+ghost use Rattle.closed_words.specs.Views.{as_leaf};
 
-use core_order::{ClosedLeaf, closed_depth, closed_leaves, closed_pairs};
-use core_values::PlainSetup;
-use hash_bits::Hashing;
+use closed_words::{ClosedLeaf, Starts, Words, closed_depth, closed_leaves, closed_pairs};
 use plain_map::Pair;
 use std::alloc::{AllocError, Global};
 use word_rows::Layout;
@@ -19,37 +19,76 @@ pub struct ClosedRows {
     pub words: Vec<u64>,
 }
 
+impl Words for ClosedRows {
+    ghost words = { λ rows. rows.words.items };
+
+    fn count(&self) -> usize {
+        self.words.len()
+    }
+
+    fn word(&self, at: usize) -> u64 {
+        self.words[at]
+    }
+}
+
 impl ClosedRows {
     /// The depth of the directory.
-    pub fn depth(&self, alloc: Global) -> u64
+    pub fn depth(&self) -> u64
         ensures { result ≡ closed_depth (shape_of self.now.layout) self.now.words.items }
     {
-        closed_depth(&self.setup(alloc), &self.words)
+        depth_in(&self.layout, self)
     }
 
     /// The leaves, in the order of their prefixes as bit strings. The only error is want of memory.
     pub fn leaves(&self, alloc: Global) -> Result<Vec<ClosedLeaf>, AllocError>
-        ensures { IfOk result (λ leaves. map as_closed_leaf leaves.items
+        ensures { IfOk result (λ leaves. map as_leaf leaves.items
             ≡ closed_leaves (shape_of self.now.layout) self.now.words.items) }
     {
-        closed_leaves(alloc, &self.setup(alloc), &self.words)
+        leaves_in(alloc, &self.layout, self)
     }
 
-    /// The pairs that are held, leaf by leaf. The only error is want of memory.
+    /// The pairs that are held, in the order of their keys. The only error is want of memory.
+    ///
+    /// After a run they are the pairs of the sessions that its order leaves: `core_orders::reopen_laws`.
     pub fn pairs(&self, alloc: Global) -> Result<Vec<Pair>, AllocError>
-        ensures { IfOk result (λ pairs. pairs.items ≡ closed_pairs (shape_of self.now.layout) self.now.words.items) }
+        ensures held { IfOk result (λ pairs.
+            IsPermutation (closed_pairs (shape_of self.now.layout) self.now.words.items) pairs.items) }
+        ensures sorted { IfOk result (λ pairs. IsSortedByKey (λ pair. pair.key) key_cmp pairs.items) }
     {
-        closed_pairs(alloc, &self.setup(alloc), &self.words)
+        pairs_in(alloc, &self.layout, self)
     }
+}
 
-    // The words are read by their layout alone.
-    fn setup(&self, alloc: Global) -> PlainSetup
-        ensures { result.layout ≡ self.now.layout }
-    {
-        PlainSetup {
-            layout: self.layout,
-            hashing: Hashing::Ports(0),
-            first: Vec::new(alloc),
-        }
-    }
+// The depth of the directory, in these words.
+pub(crate) fn depth_in<W: Words>(layout: &Layout, words: &W) -> u64
+    ensures { result ≡ closed_depth (shape_of layout.now) (W.words words.now) }
+{
+    closed_depth(&Starts::new(layout), words)
+}
+
+// The leaves, in the order of their prefixes as bit strings.
+pub(crate) fn leaves_in<W: Words>(
+    alloc: Global,
+    layout: &Layout,
+    words: &W,
+) -> Result<Vec<ClosedLeaf>, AllocError>
+    ensures { IfOk result (λ leaves. map as_leaf leaves.items
+        ≡ closed_leaves (shape_of layout.now) (W.words words.now)) }
+{
+    closed_leaves(alloc, &Starts::new(layout), words)
+}
+
+// The pairs, in the order of their keys.
+pub(crate) fn pairs_in<W: Words>(
+    alloc: Global,
+    layout: &Layout,
+    words: &W,
+) -> Result<Vec<Pair>, AllocError>
+    ensures held { IfOk result (λ pairs.
+        IsPermutation (closed_pairs (shape_of layout.now) (W.words words.now)) pairs.items) }
+    ensures sorted { IfOk result (λ pairs. IsSortedByKey (λ pair. pair.key) key_cmp pairs.items) }
+{
+    let mut pairs = closed_pairs(alloc, &Starts::new(layout), words)?;
+    pairs.sort_unstable_by_key(|pair| pair.key);
+    Ok(pairs)
 }

@@ -4,26 +4,31 @@ ghost use Rattle.std.specs.Prelude.{◌≡◌, ℕ, ◌<◌, ◌^◌, [], All, E
 ghost use Rattle.plain_map.specs.declared.leaves.OpenFault.TheVariants.{NoRoom};
 ghost use Rattle.bucket_states.specs.Parts.{HasDistinctKeys};
 ghost use Rattle.word_rows.specs.Shape.{AreBelow};
-ghost use Rattle.std.specs.Mem.Slots.{IsFull, slots_items, slots_len};
 ghost use Rattle.word_rows.specs.Places.{word_count};
 ghost use Rattle.word_rows.specs.LayoutView.{shape_of};
 ghost use Rattle.core_model.specs.Setup.{IsFirstWithoutRoom, IsPair, IsSetup, rules_of, seats_of};
-ghost use Rattle.core_model.specs.Worlds.{opening_words};
+ghost use Rattle.core_model.specs.Opening.{opening_directory};
+ghost use Rattle.core_model.specs.Worlds.{first_leaves as leaves_of, opening_words};
+ghost use Rattle.dir_states.specs.Openings.{first_directory, first_leaves};
 ghost use Rattle.shared_table.specs.Rule.{plain};
 ghost use Rattle.shared_table.specs.Seating.{whole};
 ghost use Rattle.shared_table.specs.Values.{IsOf, Ran, new_seats};
 ghost use Rattle.shared_table.specs.Openings.{setup_of};
 ghost use Rattle.shared_table.specs.Gathered.{HasAll};
 
+use crate::blank::{Blank, clear_all};
 use crate::closed::ClosedRows;
-use crate::opening::first_words;
+use crate::in_place::ClosedTable;
+use crate::opening::{first_state, put_all};
 use crate::rule::{Deal, Gather, OneRun, Plan};
 use crate::running::{Token, Words};
 use crate::seat::{Seat, seated, unseated};
 use crate::view::View;
-use atomic_table::{Closed, Table};
+use atomic_table::Table;
+use closed_words::Words as ClosedWords;
+use dir_states::Opening;
 use hash_bits::Hashing;
-use plain_map::{OpenFault, Pair};
+use plain_map::{BucketRow, OpenFault, Pair};
 use seat_machine::Room;
 use std::alloc::{AllocError, Global};
 use std::marker::Model;
@@ -109,12 +114,11 @@ fn gather(words: &Words, mut seats: Vec<Seat>) -> Token
 }
 
 // All words of a closed table.
-fn read_all(closed: &Closed<(), Global>, count: usize, out: &mut Vec<u64>)
-    requires words { (slots_len closed.now.words ≡ count) × IsFull closed.now.words }
-    requires out { (out.old.items ≡ []) × (vec_capacity out.old ≡ count) }
-    ensures { out.new.items ≡ slots_items closed.now.words }
+fn read_all(closed: &ClosedTable, out: &mut Vec<u64>)
+    requires out { (out.old.items ≡ []) × (vec_capacity out.old ≡ length closed.now.words) }
+    ensures { out.new.items ≡ closed.now.words }
 {
-    for i in 0..count {
+    for i in 0..closed.count() {
         out.push_reserved(closed.word(i));
     }
 }
@@ -141,6 +145,35 @@ impl Directory {
         ensures no_room { (place : ℕ) → result ≡ Err (NoRoom place) →
             IsFirstWithoutRoom (rules_of (setup_of settings.now hashing rows.now first.now)) first.now place }
     {
+        Directory::open_in(
+            alloc,
+            &mut Blank::new(alloc),
+            settings,
+            hashing,
+            rows,
+            first,
+        )
+    }
+
+    /// The same, from words that are kept from one opening to the next: what is 0 there is not written again.
+    pub fn open_in(
+        alloc: Global,
+        blank: &mut Blank,
+        settings: &Settings,
+        hashing: Hashing,
+        rows: &[SeatRows],
+        first: &[Pair],
+    ) -> Result<(Directory, Vec<Seat>), OpenFault>
+        requires each_seat { length rows.now ≡ settings.now.seats }
+        requires small { All (AreBelow (2 ^ 32)) rows.now }
+        requires pairs { All IsPair first.now }
+        requires distinct { HasDistinctKeys first.now }
+        ensures setup { IfOk result (λ r. r.0.setup ≡ setup_of settings.now hashing rows.now first.now) }
+        ensures seats { IfOk result (λ r. r.1.items ≡ new_seats r.0 0 settings.now.seats) }
+        ensures room { IfOk result (λ r. IsSetup r.0.setup) }
+        ensures no_room { (place : ℕ) → result ≡ Err (NoRoom place) →
+            IsFirstWithoutRoom (rules_of (setup_of settings.now hashing rows.now first.now)) first.now place }
+    {
         let (Ok(rows), Ok(first)) = (copied_rows(alloc, rows), copied_pairs(alloc, first)) else {
             return Err(OpenFault::Memory);
         };
@@ -151,11 +184,37 @@ impl Directory {
             first,
         };
         let layout = Layout::new(settings, &plan.rows);
-        let words = first_words(alloc, &layout, &plan)?;
-        match Directory::of_words(alloc, layout, &plan, &words) {
+        let made = first_state(alloc, &plan)?;
+        match Directory::of_opening(alloc, blank, layout, &plan, &made) {
             Ok(opened) => Ok(opened),
             Err(_) => Err(OpenFault::Memory),
         }
+    }
+
+    // A table with this opening, and its seats in order.
+    fn of_opening(
+        alloc: Global,
+        blank: &mut Blank,
+        layout: Layout,
+        plan: &Plan,
+        made: &Opening,
+    ) -> Result<(Directory, Vec<Seat>), AllocError>
+        requires setup { IsSetup (plain plan.now) }
+        requires shape { shape_of layout ≡ (plain plan.now).shape }
+        requires leaves { first_leaves made.now ≡ leaves_of (plain plan.now) }
+        requires directory { first_directory made.now ≡
+            opening_directory plan.now.settings.start (first_leaves made.now) }
+        ensures setup { IfOk result (λ r. r.0.setup ≡ plain plan.now) }
+        ensures seats { IfOk result (λ r. r.1.items ≡ new_seats r.0 0 plan.now.settings.seats) }
+    {
+        let mut row = BucketRow::with_room(alloc, layout.settings())?;
+        blank.resize(layout.words() as usize)?;
+        let mut words = blank.take(alloc);
+        put_all(&layout, plan, made, &mut row, &mut words);
+        let opened = Directory::of_words(alloc, layout, plan, &words);
+        clear_all(&layout, plan, made, &mut words);
+        blank.put_back(words);
+        opened
     }
 
     // A table over these words, which are those of the opening, and its seats in order.
@@ -200,16 +259,31 @@ impl Directory {
         ensures ran { IfOk result (λ rows. Ran self.setup rows.words.items seats.items) }
         ensures layout { IfOk result (λ rows. shape_of rows.layout ≡ self.setup.shape) }
     {
-        let count = self.layout.words() as usize;
-        let mut words = match Vec::with_capacity(alloc, count) {
+        let mut words = match Vec::with_capacity(alloc, self.layout.words() as usize) {
             Ok(words) => words,
             Err(failed) => return Err((failed, self, seats)),
         };
+        let closed = self.close_in_place(seats);
+        read_all(&closed, &mut words);
+        let layout = *closed.layout();
+        Ok(ClosedRows { layout, words })
+    }
+
+    /// Ends the run, and leaves its words where they stand. It takes all seats of the table, in any order, and no memory.
+    pub fn close_in_place(self, seats: Vec<Seat>) -> ClosedTable
+        requires seats { All (IsOf self) seats.items }
+        requires all { vec_len seats ≡ seats_of self.setup }
+        ensures ran { Ran self.setup result.words seats.items }
+        ensures shape { result.shape ≡ self.setup.shape }
+        ensures count { length result.words ≡ word_count self.setup.shape }
+    {
+        let count = self.layout.words() as usize;
         let Directory { table, layout } = self;
         let token = gather(&table.shared, seats);
-        let closed = table.close_with(token);
-        read_all(&closed, count, &mut words);
-        closed.free();
-        Ok(ClosedRows { layout, words })
+        ClosedTable {
+            layout,
+            table: table.close_with(token),
+            count,
+        }
     }
 }

@@ -1,20 +1,26 @@
 //! The directory that threads share: its words, its seats, and their calls.
 #![tactic(auto)]
 
+mod blank;
 mod caller;
 mod closed;
 mod directory;
+mod in_place;
 mod opening;
 mod rule;
 mod running;
 mod seat;
 mod view;
 
+pub use blank::Blank;
 pub use caller::Caller;
 pub use closed::ClosedRows;
 pub use directory::Directory;
+pub use in_place::ClosedTable;
 pub use running::Running;
 pub use seat::Seat;
 
+#[cfg(test)]
+mod closing_tests;
 #[cfg(test)]
 mod tests;

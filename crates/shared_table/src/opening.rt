@@ -21,12 +21,10 @@ ghost use Rattle.shared_table.specs.Rule.{plain};
 use crate::rule::Plan;
 use dir_states::{DirState, NewLeaf, Opening, opening};
 use plain_map::{BucketRow, OpenFault, Rules};
-use std::alloc::{AllocError, Global};
+use seat_machine::MOST_WORDS;
+use std::alloc::Global;
 use step_counts::{DIRECTORY_HEAD_WORDS, bucket_row_words};
 use word_rows::{Layout, place_laws};
-
-// The most words that a bucket row has.
-const MOST_WORDS: usize = 69;
 
 // Writes a row from this place on.
 fn put_row(words: &mut [u64], start: usize, row: &[u64])
@@ -79,8 +77,14 @@ fn put_directory(layout: &Layout, directory: &DirState, words: &mut [u64])
     put_row(words, start + DIRECTORY_HEAD_WORDS, &directory.entries);
 }
 
-// Writes an opening into words that are all 0.
-fn put_all(layout: &Layout, plan: &Plan, made: &Opening, row: &mut BucketRow, words: &mut [u64])
+/// Writes an opening into words that are all 0.
+pub(crate) fn put_all(
+    layout: &Layout,
+    plan: &Plan,
+    made: &Opening,
+    row: &mut BucketRow,
+    words: &mut [u64],
+)
     requires setup { IsSetup (plain plan.now) }
     requires shape { shape_of layout.now ≡ (plain plan.now).shape }
     requires leaves { first_leaves made.now ≡ leaves_of (plain plan.now) }
@@ -98,40 +102,15 @@ fn put_all(layout: &Layout, plan: &Plan, made: &Opening, row: &mut BucketRow, wo
     put_directory(layout, made.state(), words);
 }
 
-// The words of an opening.
-fn words_of(
-    alloc: Global,
-    layout: &Layout,
-    plan: &Plan,
-    made: &Opening,
-) -> Result<Vec<u64>, AllocError>
-    requires setup { IsSetup (plain plan.now) }
-    requires shape { shape_of layout.now ≡ (plain plan.now).shape }
-    requires leaves { first_leaves made.now ≡ leaves_of (plain plan.now) }
-    requires directory { first_directory made.now ≡
-        opening_directory plan.now.settings.start (first_leaves made.now) }
-    ensures words { IfOk result (λ words. words.items ≡ opening_words (plain plan.now)) }
-    ensures count { IfOk result (λ words. length words.items ≡ word_count (plain plan.now).shape) }
-{
-    let mut words = vec![in alloc; 0; layout.words() as usize]?;
-    let mut row = BucketRow::with_room(alloc, layout.settings())?;
-    put_all(layout, plan, made, &mut row, &mut words);
-    Ok(words)
-}
-
-/// The words that a table opens with.
+/// The leaves and the directory that a table opens with.
 ///
 /// `NoRoom` comes exactly where a pair finds as many earlier ones of its class as a bucket has room for.
-pub(crate) fn first_words(
-    alloc: Global,
-    layout: &Layout,
-    plan: &Plan,
-) -> Result<Vec<u64>, OpenFault>
-    requires asked { IsAsked (plain plan.now) }
-    requires shape { shape_of layout.now ≡ (plain plan.now).shape }
+pub(crate) fn first_state(alloc: Global, plan: &Plan) -> Result<Opening, OpenFault>
+    requires { IsAsked (plain plan.now) }
     ensures setup { IfOk result (λ _. IsSetup (plain plan.now)) }
-    ensures words { IfOk result (λ words. words.items ≡ opening_words (plain plan.now)) }
-    ensures count { IfOk result (λ words. length words.items ≡ word_count (plain plan.now).shape) }
+    ensures leaves { IfOk result (λ made. first_leaves made ≡ leaves_of (plain plan.now)) }
+    ensures directory { IfOk result (λ made. first_directory made ≡
+        opening_directory plan.now.settings.start (first_leaves made)) }
     ensures no_room { (place : ℕ) → result ≡ Err (NoRoom place) →
         IsFirstWithoutRoom (rules_of (plain plan.now)) plan.now.first.items place }
 {
@@ -143,13 +122,10 @@ pub(crate) fn first_words(
         depth: plan.settings.depth,
         hashing: plan.hashing,
     };
-    if let Err(no_room) = opening(&rules, plan.settings.start, &plan.first, &mut made) {
-        return Err(OpenFault::NoRoom {
+    match opening(&rules, plan.settings.start, &plan.first, &mut made) {
+        Ok(()) => Ok(made),
+        Err(no_room) => Err(OpenFault::NoRoom {
             place: no_room.place,
-        });
-    }
-    match words_of(alloc, layout, plan, &made) {
-        Ok(words) => Ok(words),
-        Err(_) => Err(OpenFault::Memory),
+        }),
     }
 }

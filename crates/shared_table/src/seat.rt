@@ -1,6 +1,7 @@
 //! One seat of a directory, which answers one call after the other.
 //!
-//! **Words**: those of its directory; a seat writes its announcement, its done word, and rows and bucket words of its own.
+//! **Words**: those of its directory; a seat writes its announcement, its done word, and rows and bucket words of its
+//! own.
 //! **Keeps**: `OneRun`, the rule that there is a run.
 //! **Steps**: at most `bound(settings)` of its own for an update, exactly those of its row for a lookup.
 //! **Why it ends**: each call is straight code over its own steps; no loop waits for another seat.

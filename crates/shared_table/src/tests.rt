@@ -9,7 +9,8 @@ ghost use Rattle.shared_table.specs.SeatValues.{account_of};
 ghost use Rattle.shared_table.specs.Values.{IsNew, IsOf, new_seat, new_seats};
 
 use crate::{Caller, ClosedRows, Directory, Seat};
-use core_order::{ClosedLeaf, PlainClosing, PlainPlaced, order};
+use closed_words::ClosedLeaf;
+use core_order::{PlainClosing, PlainPlaced, order};
 use core_values::PlainSetup;
 use hash_bits::Hashing;
 use plain_map::{Call, FullKind, Key, Pair, PlainMap, Record, Reply, Rules, Server};
@@ -131,7 +132,7 @@ fn a_table_has_its_words(rt: HostRuntime) -> Result<(), Fail> {
     assert_eq!(rt; (full.what, full.left, full.need), (FullKind::OpRows, 0, 1));
     let rows = closed_one(rt.alloc(), directory, seat)?;
     assert_eq!(rt; rows.words, words_with(rt.alloc(), 98, inserted)?);
-    assert_eq!(rt; rows.depth(rt.alloc()), 1);
+    assert_eq!(rt; rows.depth(), 1);
     assert_eq!(rt;
         rows.pairs(rt.alloc())?.as_slice(),
         [Pair { key: KEY, value: 1 }].as_slice()

@@ -44,15 +44,15 @@ pub Leaves-exact :
     (answer ≡ status.WriteFault → ⊥) →
     Leaves plan bytes left before after answer → (answer ≡ status_for records ending) ⊎ (answer ≡ status.Memory)
 Leaves-exact plan bytes left before after status.Done records ending one capture no_read no_write leaves =
-    let held = leaves.1.1.1.0 in
+    let held = leaves.1.1.1.holds.0 in
     inl (few_records held.0 (Ok leaves.0) held.2
     ∙ same_status bytes held.0 records (Ok leaves.0) ending one held.1 capture)
 Leaves-exact plan bytes left before after status.BadCapture records ending one capture no_read no_write leaves =
-    let held = leaves.1.1.1 in
+    let held = leaves.1.1.1.holds in
     inl (few_records held.0 (Err leaves.0) held.2
     ∙ same_status bytes held.0 records (Err leaves.0) ending one held.1 capture)
 Leaves-exact plan bytes left before after status.Limit records ending one capture no_read no_write leaves =
-    let held = leaves.1.1.1.0 in
+    let held = leaves.1.1.1.holds.0 in
     inl (many_records held.0 held.1 held.3 ∙ same_status bytes held.0 records held.1 ending one held.2 capture)
 Leaves-exact plan bytes left before after status.ReadFault records ending one capture no_read no_write leaves =
     absurd (no_read refl)

@@ -9,18 +9,19 @@ use Rattle.pcap_reader.specs.declared.fault.CaptureFault.TheVariants as fault
 use Rattle.pcap_reader.specs.declared.head.TheConstants.{FILE_HEAD}
 use Rattle.pcap_reader.specs.Capture.{Saved, bytes_of, HasFileHead, ShowsFault}
 use Rattle.pcap_reader.specs.Laws.{HasCapture, HoldsFront}
-use Rattle.pcap_reader.specs.Reading.{Reading, GivesRecord, OfInput, OnInputFault, OnReadFault, IsAtStart, IsOpenedOn, TakesFewer, Took, to_come}
+use Rattle.pcap_reader.specs.Reading.{Reading, GivesRecord, OfInput, OnInputFault, OnReadFault, IsAtStart, IsOpenedOn, IsRefusedOn, TakesFewer, Took, to_come}
 use Rattle.plain_map.specs.declared.calls.Call.{Call}
 use Rattle.report_text.specs.declared.parts.Ending.{Ending}
 use Rattle.report_text.specs.declared.parts.Ending.TheVariants.{ReadFault, Limit, Fault}
 use Rattle.trace_runner.specs.declared.intake.Intake.{Intake}
-use Rattle.trace_runner.specs.Input.{Serves, packet_limit, packets_of}
+use Rattle.trace_runner.specs.Input.{Serves, TakesFew, packet_limit, packets_of}
 use Rattle.trace_runner.specs.PacketCalls.{MakesCall, MakeCalls, numbered}
 use Rattle.trace_runner.specs.Endings.{ending_at}
 use Rattle.trace_runner.specs.Reading.{HasRead, MeetsEnding, TakesCall, IsIntake}
 use Rattle.pcap_reader.proofs.CaptureFacts.{head_front}
 use Rattle.trace_runner.proofs.CallLemmas.{MakeCalls-more}
 use Rattle.trace_runner.proofs.InputLemmas.{HasRead-next}
+use Rattle.trace_runner.proofs.TakenLemmas.{TakesFew-all, TakesFew-none}
 use Rattle.trace_runner.proofs.ServingLemmas.{Serves-ended, Serves-limit, Serves-refused, Serves-none}
 
 -- the records that were given out, one further, and the calls that their packets make
@@ -217,7 +218,8 @@ none_served bytes after intake ending calls packets is serves =
 stopped :
     (bytes : List ℕ) (after : Option (List ℕ)) (fault : CaptureFault) (intake : Intake) (ending : Ending) →
     intake.calls.items ≡ [] → intake.packets ≡ 0 →
-    intake.ending ≡ ending → ending_at fault ≡ Some ending → OnInputFault fault (ShowsFault bytes fault) →
+    intake.ending ≡ ending → ending_at fault ≡ Some ending →
+    OnInputFault fault (ShowsFault bytes fault × TakesFew bytes after []) →
     OnReadFault fault (TakesFewer FILE_HEAD (Some bytes) after) → IsIntake bytes after intake
 stopped bytes after fault.ReadFault intake ending calls packets ends is shown takes =
     let same : intake.ending ≡ ReadFault = cc in
@@ -227,31 +229,44 @@ stopped bytes after fault.Memory intake ending calls packets ends is shown takes
 stopped bytes after (fault.ShortHeader have) intake ending calls packets ends is shown takes =
     let same : intake.ending ≡ Fault (fault.ShortHeader have) = cc in
     none_served bytes after intake (Fault (fault.ShortHeader have)) calls packets same
-    (Serves-refused bytes after (fault.ShortHeader have) shown)
+    (Serves-refused bytes after (fault.ShortHeader have) shown.0 shown.1)
 stopped bytes after (fault.Magic found) intake ending calls packets ends is shown takes =
     let same : intake.ending ≡ Fault (fault.Magic found) = cc in
     none_served bytes after intake (Fault (fault.Magic found)) calls packets same
-    (Serves-refused bytes after (fault.Magic found) shown)
+    (Serves-refused bytes after (fault.Magic found) shown.0 shown.1)
 stopped bytes after (fault.Version major minor) intake ending calls packets ends is shown takes =
     let same : intake.ending ≡ Fault (fault.Version major minor) = cc in
     none_served bytes after intake (Fault (fault.Version major minor)) calls packets same
-    (Serves-refused bytes after (fault.Version major minor) shown)
+    (Serves-refused bytes after (fault.Version major minor) shown.0 shown.1)
 stopped bytes after (fault.LinkType found) intake ending calls packets ends is shown takes =
     let same : intake.ending ≡ Fault (fault.LinkType found) = cc in
     none_served bytes after intake (Fault (fault.LinkType found)) calls packets same
-    (Serves-refused bytes after (fault.LinkType found) shown)
-stopped bytes after (fault.RecordLength offset found) intake ending calls packets ends is shown takes = absurd shown
+    (Serves-refused bytes after (fault.LinkType found) shown.0 shown.1)
+stopped bytes after (fault.RecordLength offset found) intake ending calls packets ends is shown takes = absurd shown.0
 
+-- what follows from two facts of a fault of the input
+on_both : {P Q R : Type 0} (fault : CaptureFault) → OnInputFault fault P → OnInputFault fault Q → (P → Q → R) →
+    OnInputFault fault R
+on_both fault.ReadFault p q make = tt
+on_both (fault.ShortHeader have) p q make = make p q
+on_both (fault.Magic found) p q make = make p q
+on_both (fault.Version major minor) p q make = make p q
+on_both (fault.LinkType found) p q make = make p q
+on_both (fault.RecordLength offset found) p q make = make p q
+on_both fault.Memory p q make = tt
+
+-- the same for an input that tells its bytes, where it does
 pub IsIntake-stopped :
     (before after : Option (List ℕ)) (fault : CaptureFault) (intake : Intake) (ending : Ending) →
     intake.calls.items ≡ [] → intake.packets ≡ 0 →
     intake.ending ≡ ending → ending_at fault ≡ Some ending →
     OnInputFault fault (OfInput before (λ (bytes : List ℕ). ShowsFault bytes fault)) →
-    OnReadFault fault (TakesFewer FILE_HEAD before after) →
+    OnInputFault fault (Took before after (IsRefusedOn fault)) → OnReadFault fault (TakesFewer FILE_HEAD before after) →
     IfSome before (λ (bytes : List ℕ). IsIntake bytes after intake)
-IsIntake-stopped None after fault intake ending calls packets ends is shown takes = tt
-IsIntake-stopped (Some bytes) after fault intake ending calls packets ends is shown takes =
-    stopped bytes after fault intake ending calls packets ends is shown takes
+IsIntake-stopped None after fault intake ending calls packets ends is shown took takes = tt
+IsIntake-stopped (Some bytes) after fault intake ending calls packets ends is shown took takes =
+    stopped bytes after fault intake ending calls packets ends is
+    (on_both fault shown took (λ here there. (here, TakesFew-none bytes there.0 after there.1 there.2.1))) takes
 
 -- what was taken behind a right file head is what was taken of the input
 pub IsIntake-taken :
@@ -271,7 +286,7 @@ IsIntake-taken before between after reading intake opened start goes =
 pub IsIntake-untaken :
     (before after : Option (List ℕ)) (fault : CaptureFault) (intake : Intake) (ending : Ending) →
     intake.calls.items ≡ [] → intake.packets ≡ 0 → intake.ending ≡ ending → ending_at fault ≡ Some ending →
-    OnInputFault fault (Took before after (λ taken. ShowsFault taken fault)) →
+    OnInputFault fault (Took before after (IsRefusedOn fault)) →
     OnReadFault fault (TakesFewer FILE_HEAD before after) → Took before after (λ taken. IsIntake taken (Some []) intake)
 IsIntake-untaken before after fault.ReadFault intake ending calls packets ends is shown takes = (
   takes.taken,
@@ -283,18 +298,26 @@ IsIntake-untaken before after fault.Memory intake ending calls packets ends is s
 IsIntake-untaken before after (fault.ShortHeader have) intake ending calls packets ends is shown takes = (
   shown.0,
   shown.1,
-  stopped shown.0 (Some []) (fault.ShortHeader have) intake ending calls packets ends is shown.2
-      tt,
+  stopped shown.0 (Some []) (fault.ShortHeader have) intake ending calls packets ends is
+      (shown.2.0, TakesFew-all shown.0 shown.2.1) tt,
 )
-IsIntake-untaken before after (fault.Magic found) intake ending calls packets ends is shown takes =
-    (shown.0, shown.1, stopped shown.0 (Some []) (fault.Magic found) intake ending calls packets ends is shown.2 tt)
+IsIntake-untaken before after (fault.Magic found) intake ending calls packets ends is shown takes = (
+  shown.0,
+  shown.1,
+  stopped shown.0 (Some []) (fault.Magic found) intake ending calls packets ends is
+      (shown.2.0, TakesFew-all shown.0 shown.2.1) tt,
+)
 IsIntake-untaken before after (fault.Version major minor) intake ending calls packets ends is shown takes = (
   shown.0,
   shown.1,
   stopped shown.0 (Some []) (fault.Version major minor) intake ending calls packets ends is
-      shown.2 tt,
+      (shown.2.0, TakesFew-all shown.0 shown.2.1) tt,
 )
-IsIntake-untaken before after (fault.LinkType found) intake ending calls packets ends is shown takes =
-    (shown.0, shown.1, stopped shown.0 (Some []) (fault.LinkType found) intake ending calls packets ends is shown.2 tt)
+IsIntake-untaken before after (fault.LinkType found) intake ending calls packets ends is shown takes = (
+  shown.0,
+  shown.1,
+  stopped shown.0 (Some []) (fault.LinkType found) intake ending calls packets ends is
+      (shown.2.0, TakesFew-all shown.0 shown.2.1) tt,
+)
 IsIntake-untaken before after (fault.RecordLength offset found) intake ending calls packets ends is shown takes =
-    absurd shown.2
+    absurd shown.2.0

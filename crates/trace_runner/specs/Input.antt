@@ -1,8 +1,9 @@
 -- What a run serves of its input.
 -- Source: pcap-savefile(5), by the definition of a capture.
-use Rattle.std.specs.Prelude.{◌≡◌, ℕ, ◌<◌, ◌≤◌, List, [], ◌++◌, length, map, take, Option, Some, Result, Ok, Err}
+use Rattle.std.specs.Prelude.{◌≡◌, ℕ, ◌<◌, ◌≤◌, ◌+◌, List, [], ◌++◌, length, map, sum_by, take, Option, Some, Result, Ok, Err}
 use Rattle.pcap_reader.specs.declared.fault.CaptureFault.{CaptureFault}
-use Rattle.pcap_reader.specs.Capture.{Saved, Capture}
+use Rattle.pcap_reader.specs.Capture.{Saved, Capture, file_head_length, record_head_length}
+use Rattle.pcap_reader.specs.Reading.{buffer_length}
 use Rattle.report_text.specs.declared.parts.Ending.{Ending}
 use Rattle.report_text.specs.declared.parts.Ending.TheVariants.{Done, ReadFault, Limit, Fault}
 
@@ -27,6 +28,19 @@ HoldsMore bytes packets =
     × (packet_limit < length records)
     × (packets ≡ packets_of (take packet_limit records))
 
+-- how many bytes the file head and the records of these packets are
+abbrev pub served_length : List (List ℕ) → ℕ
+served_length packets = file_head_length + sum_by (λ packet. record_head_length + length packet) packets
+
+-- of the bytes some were taken, beyond the records of these packets no more than a buffer of them, and the others are
+-- left
+pub record TakesFew (bytes : List ℕ) (left : Option (List ℕ)) (packets : List (List ℕ)) : Type 0 where
+  pub taken : List ℕ
+  pub others : List ℕ
+  pub parts : bytes ≡ taken ++ others
+  pub rest : left ≡ Some others
+  pub few : length taken ≤ served_length packets + buffer_length
+
 -- of the bytes some were taken, and these packets are those that are whole in them
 abbrev pub HoldsTaken : List ℕ → Option (List ℕ) → List (List ℕ) → Type 0
 HoldsTaken bytes left packets =
@@ -34,9 +48,14 @@ HoldsTaken bytes left packets =
     × (left ≡ Some others)
     × HoldsPackets taken packets ending
 
+-- the bytes, of which these are left, hold these packets, and have this ending
+abbrev pub HoldsUntil : List ℕ → Option (List ℕ) → List (List ℕ) → Ending → Type 0
+HoldsUntil bytes left packets (Done rest) = HoldsPackets bytes packets (Ok rest) × (left ≡ Some [])
+HoldsUntil bytes left packets (Fault fault) = HoldsPackets bytes packets (Err fault)
+HoldsUntil bytes left packets (Limit limit) = HoldsMore bytes packets × (limit ≡ packet_limit)
+HoldsUntil bytes left packets ReadFault = HoldsTaken bytes left packets
+
 -- Of an input with these bytes, of which these are left, these packets are served, and so it ended.
-abbrev pub Serves : List ℕ → Option (List ℕ) → List (List ℕ) → Ending → Type 0
-Serves bytes left packets (Done rest) = HoldsPackets bytes packets (Ok rest) × (left ≡ Some [])
-Serves bytes left packets (Fault fault) = HoldsPackets bytes packets (Err fault)
-Serves bytes left packets (Limit limit) = HoldsMore bytes packets × (limit ≡ packet_limit)
-Serves bytes left packets ReadFault = HoldsTaken bytes left packets
+pub record Serves (bytes : List ℕ) (left : Option (List ℕ)) (packets : List (List ℕ)) (ending : Ending) : Type 0 where
+  pub holds : HoldsUntil bytes left packets ending
+  pub takes : TakesFew bytes left packets

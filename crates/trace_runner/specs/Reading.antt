@@ -1,9 +1,8 @@
 -- How far the reading of an input has come.
 use Rattle.std.specs.Prelude.{◌≡◌, ℕ, ◌+◌, List, [], ◌++◌, length, drop, flat_map, All, Option, Some, IfSome, IsSome, Result, Ok, Err}
-use Rattle.std.specs.Io.KnownBytes.{Keeps}
 use Rattle.pcap_reader.specs.declared.head.TheConstants.{FILE_HEAD}
 use Rattle.pcap_reader.specs.Capture.{Saved, bytes_of, HasFileHead, IsSaved, IsCut, IsRemainder}
-use Rattle.pcap_reader.specs.Reading.{Reading, to_come}
+use Rattle.pcap_reader.specs.Reading.{GivesNone, Reading, to_come}
 use Rattle.plain_map.specs.declared.calls.Call.{Call}
 use Rattle.report_text.specs.declared.parts.Ending.{Ending}
 use Rattle.report_text.specs.declared.parts.Ending.TheVariants.{Done, ReadFault, Limit, Fault}
@@ -19,13 +18,17 @@ abbrev pub EndsWith : Reading → Option (List ℕ) → Result ℕ CaptureFault 
 EndsWith reading left ending = IfSome (to_come reading left)
     (λ bytes. IsRemainder reading.order reading.offset bytes ending)
 
--- a reader that stood at `old` met this ending, where its source had `before` left and has `after`
-abbrev pub MeetsEnding : Reading → Reading → Option (List ℕ) → Option (List ℕ) → Ending → Type 0
-MeetsEnding old new before after (Done rest) = EndsWith old before (Ok rest) × (IsSome before → after ≡ Some [])
-MeetsEnding old new before after (Fault fault) = EndsWith old before (Err fault)
-MeetsEnding old new before after ReadFault =
-    IsCut old.order new.pending × Keeps (to_come old before) (to_come new after)
-MeetsEnding old new before after (Limit limit) = ⊥
+-- a reader that stood at `old`, where its source had `before` left and has `after`, has this ending before it
+abbrev pub StandsBefore : Reading → Reading → Option (List ℕ) → Option (List ℕ) → Ending → Type 0
+StandsBefore old new before after (Done rest) = EndsWith old before (Ok rest) × (IsSome before → after ≡ Some [])
+StandsBefore old new before after (Fault fault) = EndsWith old before (Err fault)
+StandsBefore old new before after ReadFault = IsCut old.order new.pending
+StandsBefore old new before after (Limit limit) = ⊥
+
+-- it met this ending, and gave out nothing more
+pub record MeetsEnding (old new : Reading) (before after : Option (List ℕ)) (ending : Ending) : Type 0 where
+  pub none : GivesNone old new (to_come old before) (to_come new after)
+  pub ends : StandsBefore old new before after ending
 
 -- of the bytes of an input these records have been given out, and the reader stands behind them
 pub record HasRead (bytes : List ℕ) (reading : Reading) (left : Option (List ℕ)) (records : List Saved) : Type 0 where

@@ -4,10 +4,14 @@
 mod deals;
 mod laws;
 mod outcome;
+mod workers;
 
 pub use deals::{Share, deal, seat_for};
 pub use laws::deal_laws;
 pub use outcome::Outcome;
+pub use workers::{Worker, serve_all};
 
 #[cfg(test)]
 mod tests;
+#[cfg(test)]
+mod worker_tests;

@@ -3,6 +3,7 @@ use Rattle.std.specs.Prelude.{All}
 use Rattle.plain_map.specs.Rows.{HasBucketRoom}
 use Rattle.dir_states.specs.Rooms.{HasItems}
 use Rattle.dir_states.specs.Views.{as_loaded}
+use Rattle.seat_machine.specs.declared.limits.TheConstants.{LOOK_STEPS}
 use Rattle.seat_machine.specs.Desks.{settings_at}
 use Rattle.seat_machine.specs.Loads.{HasLoaded}
 use Rattle.seat_machine.specs.Rooms.{HasLoadedRoom}
@@ -16,7 +17,7 @@ invariant-loop-i g l = record {
       (directory_trying l.fn.attempt)
       l.fn.ops (take l.i l.fn.ops) (map as_loaded (take l.count l.loaded)) l.spent;
   few : l.count ≤ l.i;
-  short : l.spent ≤ 70 * l.i;
+  short : l.spent ≤ LOOK_STEPS * l.i;
   room : HasBucketRoom (settings_at l.fn.desk).seats (settings_at l.fn.desk).items l.room;
   each : All (HasLoadedRoom (settings_at l.fn.desk)) l.loaded;
   items : All (HasItems (settings_at l.fn.desk).items) (take l.count l.loaded);

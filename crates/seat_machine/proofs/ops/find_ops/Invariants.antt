@@ -1,4 +1,5 @@
-use Rattle.std.proofs.Common.{◌≡◌, ◌≤◌, ◌*◌, length, take}
+use Rattle.std.proofs.Common.{◌≡◌, ◌+◌, ◌≤◌, ◌*◌, length, take}
+use Rattle.step_counts.specs.declared.TheConstants.{OP_WORDS}
 use Rattle.seat_machine.specs.Found.{HasFound}
 use Rattle.seat_machine.proofs.ops.find_ops.Given as goal
 
@@ -7,5 +8,5 @@ invariant-loop-i g l = record {
   len : length l.ops ≡ length l.initial.ops;
   found : HasFound (g.S.Steps.now l.initial.steps) (g.S.Steps.now l.steps) (g.A.Trying.round l.fn.attempt)
       (g.A.Trying.attempt l.fn.attempt (g.S.Steps.now l.initial.steps).setup) (take l.i l.ops) l.spent;
-  few : l.spent ≤ 6 * l.i;
+  few : l.spent ≤ (1 + OP_WORDS) * l.i;
 }

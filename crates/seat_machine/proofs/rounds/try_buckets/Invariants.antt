@@ -1,5 +1,6 @@
-use Rattle.std.proofs.Common.{◌≡◌, ◌-◌, ◌*◌, ◌≤◌}
+use Rattle.std.proofs.Common.{◌≡◌, ◌+◌, ◌-◌, ◌*◌, ◌≤◌}
 use Rattle.core_model.specs.Phases.{TryWord}
+use Rattle.seat_machine.specs.declared.limits.TheConstants.{TRY_STEPS}
 use Rattle.seat_machine.specs.Going.{went}
 use Rattle.seat_machine.proofs.rounds.try_buckets.Given as goal
 
@@ -8,7 +9,7 @@ invariant-tries g l = record {
   goes : g.S.Steps.now l.steps ≡ went (g.S.Steps.now l.initial.steps) l.used l.spent
       (TryWord l.fn.round l.turn l.first);
   turn : (1 ≤ l.turn) × (l.turn ≤ 3);
-  few : l.spent ≤ 300 * l.turn;
+  few : l.spent + TRY_STEPS ≤ TRY_STEPS * l.turn;
 }
 
 abbrev pub decreases-tries : goal.decreases-tries

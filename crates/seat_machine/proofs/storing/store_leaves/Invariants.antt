@@ -2,6 +2,7 @@ use Rattle.std.proofs.Common.{◌≡◌, ◌+◌, ◌*◌, ◌++◌, ◌≤◌, 
 use Rattle.plain_map.specs.Rows.{HasBucketRoom}
 use Rattle.core_model.specs.Stores.{base_of_leaf, leaf_puts}
 use Rattle.dir_states.specs.Views.{as_leaf, as_loaded}
+use Rattle.seat_machine.specs.declared.limits.TheConstants.{LOOK_STEPS}
 use Rattle.seat_machine.specs.Changes.{changing}
 use Rattle.seat_machine.specs.Desks.{settings_at}
 use Rattle.seat_machine.specs.Going.{later}
@@ -16,6 +17,6 @@ invariant-loop-i g l = record {
       ≡ leaf_puts (g.S.Steps.now l.initial.steps).setup (base_of_leaf (map as_loaded l.fn.found.loaded.now))
       (l.fn.bucket + l.i) (l.fn.number + l.i) (drop l.i (map as_leaf l.fn.leaves))
       ++ directory_row_puts (g.S.Steps.now l.initial.steps) (changing l.fn.found);
-  few : l.stored ≤ 70 * l.i;
+  few : l.stored ≤ LOOK_STEPS * l.i;
   row : HasBucketRoom (settings_at l.fn.desk).seats (settings_at l.fn.desk).items l.row;
 }

@@ -1,10 +1,9 @@
 use Rattle.std.proofs.Common.{◌≡◌, take, vec_len, vec_capacity}
-use Rattle.std.specs.Mem.Slots.{slots_items}
 use Rattle.shared_table.proofs.directory.read_all.Given as goal
 
 abbrev pub invariant-loop-i : goal.invariant-loop-i
 invariant-loop-i l = record {
-  items : l.out.items ≡ take l.i (slots_items l.closed.words);
+  items : l.out.items ≡ take l.i l.closed.words;
   len : vec_len l.out ≡ l.i;
-  room : vec_capacity l.out ≡ l.fn.count;
+  room : vec_capacity l.out ≡ vec_capacity l.initial.out;
 }

@@ -12,7 +12,7 @@ returns-in-Some-clause-served g c =
     IsIntake-stopped (g.S.Source.left c.args.source.now) (g.S.Source.left c.open.new.source) c.in-Err.fault
     c.empty.result c.in-Some.ending
     c.empty.ensures.calls c.empty.ensures.packets c.empty.ensures.ending (sym c.ending_at.ensures ∙ c.in-Some.is)
-    c.in-Err.ensures.fault c.in-Err.ensures.interrupted
+    c.in-Err.ensures.fault c.in-Err.ensures.took_fault c.in-Err.ensures.interrupted
 
 pub returns-in-Some-clause-took : goal.returns-in-Some-clause-took
 returns-in-Some-clause-took g c =

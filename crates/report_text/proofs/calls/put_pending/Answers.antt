@@ -1,0 +1,8 @@
+use Rattle.report_text.specs.Report.{pending_line}
+use Rattle.report_text.proofs.LineLemmas.{◌⨟◌, line_whole}
+use Rattle.report_text.proofs.calls.put_pending.Goals as goal
+
+pub returns : goal.returns
+unfolding pending_line
+returns c =
+    line_whole c.begin_line.ensures.begins (c.put_call.ensures.puts ⨟ c.put_after.ensures.puts) c.end_line.ensures.ends

@@ -1,0 +1,94 @@
+//! The text of a trial.
+
+ghost use Rattle.std.specs.Prelude.{◌≡◌, ◌+◌, ◌≤◌, ◌++◌, OnOk, OnErr};
+ghost use Rattle.report_text.specs.Trials.{answers_line, sessions_line, trial_line, trial_lines};
+ghost use Rattle.report_text.specs.Lines.{room};
+
+use crate::pieces::{begin_line, end_line, make_room, put_named, put_number, put_word};
+use std::alloc::{AllocError, Global};
+
+// At least the length of the lines of a trial.
+const TRIAL_ROOM: usize = 512;
+
+/// What a trial tells: its settings, how the calls of the made capture were answered, and what is left.
+#[derive(Clone, Copy, Debug, PartialEq, Eq)]
+pub struct Trial {
+    /// What the capture was made of.
+    pub number: u64,
+    pub packets: u64,
+    pub seats: u32,
+    pub items: u32,
+    pub depth: u32,
+    pub start: u32,
+    pub seed: u64,
+    pub calls: u64,
+    /// Of the calls, those with each reply.
+    pub new: u64,
+    pub old: u64,
+    pub noroom: u64,
+    pub gone: u64,
+    pub found: u64,
+    pub absent: u64,
+    /// Refused calls.
+    pub full: u64,
+    /// Pairs that are left.
+    pub sessions: u64,
+}
+
+/// Appends the three lines of a trial.
+pub fn trial_text(_alloc: Global, out: &mut Vec<u8>, trial: &Trial) -> Result<(), AllocError>
+    ensures appended { OnOk result (out.new.items ≡ out.old.items ++ trial_lines trial.now) }
+    ensures kept { OnErr result (out.new.items ≡ out.old.items) }
+{
+    make_room(out, TRIAL_ROOM)?;
+    put_trial(out, trial);
+    put_answers(out, trial);
+    put_sessions(out, trial);
+    Ok(())
+}
+
+// Appends the settings of a trial.
+fn put_trial(out: &mut Vec<u8>, trial: &Trial)
+    requires { 165 ≤ room out.old }
+    ensures appended { out.new.items ≡ out.old.items ++ trial_line trial.now }
+    ensures taken { room out.old ≤ room out.new + 165 }
+{
+    begin_line(out, b"flowdir");
+    put_word(out, b"trial");
+    put_named(out, b"number", trial.number);
+    put_named(out, b"packets", trial.packets);
+    put_named(out, b"seats", trial.seats);
+    put_named(out, b"items", trial.items);
+    put_named(out, b"depth", trial.depth);
+    put_named(out, b"start", trial.start);
+    put_named(out, b"seed", trial.seed);
+    end_line(out);
+}
+
+// Appends how the calls were answered.
+fn put_answers(out: &mut Vec<u8>, trial: &Trial)
+    requires { 212 ≤ room out.old }
+    ensures appended { out.new.items ≡ out.old.items ++ answers_line trial.now }
+    ensures taken { room out.old ≤ room out.new + 212 }
+{
+    begin_line(out, b"calls");
+    put_number(out, trial.calls);
+    put_named(out, b"new", trial.new);
+    put_named(out, b"old", trial.old);
+    put_named(out, b"noroom", trial.noroom);
+    put_named(out, b"gone", trial.gone);
+    put_named(out, b"found", trial.found);
+    put_named(out, b"absent", trial.absent);
+    put_named(out, b"full", trial.full);
+    end_line(out);
+}
+
+// Appends how many sessions are left.
+fn put_sessions(out: &mut Vec<u8>, trial: &Trial)
+    requires { 30 ≤ room out.old }
+    ensures { out.new.items ≡ out.old.items ++ sessions_line trial.now }
+{
+    begin_line(out, b"sessions");
+    put_number(out, trial.sessions);
+    end_line(out);
+}
