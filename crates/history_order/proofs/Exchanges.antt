@@ -22,7 +22,8 @@ range_ends a zero = ap (λ x. x ∷ []) (none a)
   where
     none : (x : ℕ) → x ≡ x + 0
     none x = omega arith
-range_ends a (suc n) = ap (λ xs. a ∷ xs) (range_ends (a + 1) n ∙ ap (λ x. range_with_len (a + 1) n ++ x ∷ []) (more a n))
+range_ends a (suc n) = ap (λ xs. a ∷ xs) (range_ends (a + 1) n ∙ ap (λ x. range_with_len (a + 1) n ++ x ∷ []) (more a
+    n))
   where
     more : (x i : ℕ) → x + 1 + i ≡ x + suc i
     more x i = omega arith
@@ -42,7 +43,10 @@ line_turned base f top based first (suc most) (suc v) o less =
     let before : base (f (suc v)) ≡ Some (f v) = ap (λ n. base (f n)) (sym (add-one v)) ∙ based v (omega (arith, o)) in
     ap (λ next. reverse (f (suc v) ∷ line base most next)) before
     ∙ reverse-append (f (suc v) ∷ []) (line base most (Some (f v)))
-    ∙ ap (λ xs. xs ++ f (suc v) ∷ []) (line_turned base f top based first most v (omega (arith, o)) (omega (arith, less)))
+    ∙ ap (λ xs. xs ++ f (suc v) ∷ []) (line_turned base f top based first most v (omega (arith, o)) (omega (
+      arith,
+      less,
+    )))
     ∙ sym (map_ends (range_with_len 0 (suc v)) (suc v))
     ∙ ap (λ x. map f (range_with_len 0 (suc v) ++ x ∷ [])) (plus (suc v))
     ∙ ap (map f) (sym (range_ends 0 (suc v)))
@@ -102,7 +106,8 @@ module _ (setup : Setup) (words : List ℕ) (k : Book) (w : Written setup words 
       ]
 
   -- the new ones of a version are named by it
-  pub new_named : (v : ℕ) (known : List ℕ) (b : ℕ) → v ≤ k.dir_top → In b (new_beside setup.shape words known (k.dir_row v)) →
+  pub new_named : (v : ℕ) (known : List ℕ) (b : ℕ) → v ≤ k.dir_top → In b (new_beside setup.shape words known
+      (k.dir_row v)) →
       In b (entries_at v)
   new_named v known b o i =
       each_in (entries_at v) b (in_filter (λ x. not (is_among known x)) (each_once (entries_at v)) b i).0
@@ -118,7 +123,15 @@ module _ (setup : Setup) (words : List ℕ) (k : Book) (w : Written setup words 
         | inr e ↦ ap not e
         | inl e ↦
             let r = h.from b (among_is_in known b e) in
-            absurd (omega (arith, r.1, (w.entries r.0 b (omega (arith, r.1, o)) (entry_from r.0 b (omega (arith, r.1, o)) r.2)).1))
+            absurd (omega (
+              arith,
+              r.1,
+              (w.entries r.0 b (omega (arith, r.1, o)) (entry_from r.0 b (omega (
+                arith,
+                r.1,
+                o,
+              )) r.2)).1,
+            ))
       ])
 
   -- those of a later version are its new leaves
@@ -211,7 +224,8 @@ module _ (setup : Setup) (words : List ℕ) (k : Book) (w : Written setup words 
       ap (λ x. base (k.row_at b x)) (sym (add-one i)) ∙ base_is setup words k w b (i + 1) n (omega (arith, o))
       ∙ w.bases b i n (omega (arith, o)) in
       elim (subst (λ next. In row (k.row_at b (suc i) ∷ while_true test (line base most next))) before
-      (subst (λ t. In row (cond t (k.row_at b (suc i) ∷ while_true test (line base most (base (k.row_at b (suc i))))) []))
+      (subst (λ t. In row (cond t (k.row_at b (suc i) ∷ while_true test (line base most (base (k.row_at b (suc i)))))
+      []))
       passes m)) [
         | inl e ↦ (i, omega (arith, o), e ∙ ap (k.row_at b) (sym (add-one i)))
         | inr j ↦ rows_from b n most i row (omega (arith, o)) j
@@ -263,7 +277,8 @@ module _ (setup : Setup) (words : List ℕ) (k : Book) (w : Written setup words 
       In (k.row_at b (i + 1)) (exchanged_in setup.shape words all_leaves)
   exchanged_to b i n less =
       let ls = leaf_there [] 0 (suc k.dir_top) b before_none n (omega arith) (omega (arith, w.born_within b n)) in
-      flat_map_in (λ buckets. flat_map (exchanged_of setup.shape words) buckets) all_leaves ls.0 (k.row_at b (i + 1)) ls.1
+      flat_map_in (λ buckets. flat_map (exchanged_of setup.shape words) buckets) all_leaves ls.0 (k.row_at b (i + 1))
+      ls.1
       (flat_map_in (exchanged_of setup.shape words) ls.0 b (k.row_at b (i + 1)) ls.2
       (subst (λ q. In (k.row_at b (i + 1)) (while_true (is_exchanged setup.shape words)
       (bucket_line setup.shape words (Some q)))) (sym (w.word_is b n))

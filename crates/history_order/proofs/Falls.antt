@@ -52,8 +52,14 @@ module _ (found : Found) (old new : Progress) where
       ((row : ℕ) → In row (firsts_of found old.latest) → row < length old.placed.items) →
       left_of found new < left_of found old
   version_falls w inside firsts =
-      omega (arith, fewer_all old.placed.items (firsts_of found old.latest) firsts, ap (count_by not) w.placed,
-      ap sum w.looks, w.latest, inside)
+      omega (
+        arith,
+        fewer_all old.placed.items (firsts_of found old.latest) firsts,
+        ap (count_by not) w.placed,
+        ap sum w.looks,
+        w.latest,
+        inside,
+      )
 
 -- one row is brought at most
 next_few : (found : Found) (row : ℕ) → length (free_next found row) ≤ 1
@@ -77,30 +83,45 @@ brought_few found looks row = if_few (slice_index looks row == 0) (free_next fou
 all_few : (found : Found) (looks rows : List ℕ) → length (flat_map (brought found looks) rows) ≤ length rows
 all_few found looks [] = omega arith
 all_few found looks (x ∷ xs) =
-    omega (arith, length-append (brought found looks x) (flat_map (brought found looks) xs), brought_few found looks x,
-    all_few found looks xs)
+    omega (
+      arith,
+      length-append (brought found looks x) (flat_map (brought found looks) xs),
+      brought_few found looks x,
+      all_few found looks xs,
+    )
 
 module _ (found : Found) (old new : Progress) where
   -- so many rows are then aside at most
   pub row_aside_few : (row : ℕ) → RowIsPlaced found row old new →
       length new.aside.items ≤ length old.aside.items + 1
   row_aside_few row w =
-      omega (arith, ap length w.aside, length-append old.aside.items (brought found old.looks.items row),
-      brought_few found old.looks.items row)
+      omega (
+        arith,
+        ap length w.aside,
+        length-append old.aside.items (brought found old.looks.items row),
+        brought_few found old.looks.items row,
+      )
 
   pub look_aside_few : (row : ℕ) → LookIsPlaced found row old new →
       length new.aside.items ≤ length old.aside.items + 1
   look_aside_few row w =
-      omega (arith, ap length w.aside,
-      length-append old.aside.items (if is_marked_done new.placed.items new.looks.items row then free_next found row else []),
-      if_few (is_marked_done new.placed.items new.looks.items row) (free_next found row) (next_few found row))
+      omega (
+        arith,
+        ap length w.aside,
+        length-append old.aside.items (if is_marked_done new.placed.items new.looks.items row then free_next found row
+            else []),
+        if_few (is_marked_done new.placed.items new.looks.items row) (free_next found row) (next_few found row),
+      )
 
   pub version_aside_few : VersionIsPlaced found old new →
       length new.aside.items ≤ length old.aside.items + length (firsts_of found old.latest)
   version_aside_few w =
-      omega (arith, ap length w.aside,
-      length-append old.aside.items (flat_map (brought found old.looks.items) (firsts_of found old.latest)),
-      all_few found old.looks.items (firsts_of found old.latest))
+      omega (
+        arith,
+        ap length w.aside,
+        length-append old.aside.items (flat_map (brought found old.looks.items) (firsts_of found old.latest)),
+        all_few found old.looks.items (firsts_of found old.latest),
+      )
 
 -- a version has few first rows
 pub firsts_few : (found : Found) (latest : ℕ) → length (firsts_of found latest) < 2 ^ 64

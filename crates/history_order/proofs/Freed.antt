@@ -81,13 +81,13 @@ module _ (words : List ℕ) (logs : List (List Record)) (begun : List Pending) (
       In x (aside_of words logs begun t found f old) → In x (aside_of words logs begun t found f new)
   kept_on old new latest rows x i = elim (in_both x (map ByBucketRow old.aside.items)
       (next_version words logs begun t found f old.latest) i) [
-    | inl j ↦
-        let r = in_map ByBucketRow old.aside.items x j in
-        subst (λ z. In z (aside_of words logs begun t found f new)) (sym r.2)
-        (row_aside words logs begun t found f new r.0 (rows r.0 r.1))
-    | inr j ↦ in_right x (map ByBucketRow new.aside.items) (next_version words logs begun t found f new.latest)
-        (subst (λ n. In x (next_version words logs begun t found f n)) (sym latest) j)
-  ]
+        | inl j ↦
+            let r = in_map ByBucketRow old.aside.items x j in
+            subst (λ z. In z (aside_of words logs begun t found f new)) (sym r.2)
+            (row_aside words logs begun t found f new r.0 (rows r.0 r.1))
+        | inr j ↦ in_right x (map ByBucketRow new.aside.items) (next_version words logs begun t found f new.latest)
+            (subst (λ n. In x (next_version words logs begun t found f n)) (sym latest) j)
+      ]
 
   -- a piece that is not placed is left
   pub is_left : (p : Placing) (x : Piece) → Stays t.setup closing_of_turns p →
@@ -180,20 +180,20 @@ module _ (words : List ℕ) (logs : List (List Record)) (begun : List Pending) (
           In x (aside_of words logs begun t found f new)
       kept x other i = elim (in_both x (map ByBucketRow old.aside.items)
           (next_version words logs begun t found f old.latest) i) [
-        | inl j ↦
-            let r = in_map ByBucketRow old.aside.items x j in
-            elim (in_both r.0 now.aside.items (row ∷ []) (subst (In r.0) aside r.1)) [
-              | inl k ↦ subst (λ z. In z (aside_of words logs begun t found f new)) (sym r.2)
-                  (row_aside words logs begun t found f new r.0 (subst (In r.0) (sym c.aside)
-                  (in_left r.0 now.aside.items (brought found now.looks.items row) k)))
-              | inr k ↦ elim k [
-                | inl same ↦ absurd (other (r.2 ∙ ap ByBucketRow same))
-                | inr none ↦ elim none [ ]
-              ]
-            ]
-        | inr j ↦ in_right x (map ByBucketRow new.aside.items) (next_version words logs begun t found f new.latest)
-            (subst (λ n. In x (next_version words logs begun t found f n)) (sym (c.latest ∙ latest)) j)
-      ]
+            | inl j ↦
+                let r = in_map ByBucketRow old.aside.items x j in
+                elim (in_both r.0 now.aside.items (row ∷ []) (subst (In r.0) aside r.1)) [
+                  | inl k ↦ subst (λ z. In z (aside_of words logs begun t found f new)) (sym r.2)
+                      (row_aside words logs begun t found f new r.0 (subst (In r.0) (sym c.aside)
+                      (in_left r.0 now.aside.items (brought found now.looks.items row) k)))
+                  | inr k ↦ elim k [
+                    | inl same ↦ absurd (other (r.2 ∙ ap ByBucketRow same))
+                    | inr none ↦ elim none [ ]
+                  ]
+                ]
+            | inr j ↦ in_right x (map ByBucketRow new.aside.items) (next_version words logs begun t found f new.latest)
+                (subst (λ n. In x (next_version words logs begun t found f n)) (sym (c.latest ∙ latest)) j)
+          ]
 
       bring : (r base : ℕ) → base_of_row t.setup closing_of_turns r ≡ Some base →
           TouchesRow words logs begun t found f y base → In (ByBucketRow r) (pieces_of t.setup.shape closing_of_turns) →
@@ -246,8 +246,13 @@ module _ (words : List ℕ) (logs : List (List Record)) (begun : List Pending) (
       length old.placed.items ≡ count_of t.setup.shape BucketRows → (row : ℕ) →
       In row (firsts_of found old.latest) → row < length old.placed.items
   version_firsts old one few long row i =
-      omega (arith, long, firsts_inside words logs begun t found f (t.book.dir_row old.latest) row
-      (version_known old.latest one few) (subst (In row) (firsts_found words logs begun t found f old.latest one few) i))
+      omega (
+        arith,
+        long,
+        firsts_inside words logs begun t found f (t.book.dir_row old.latest) row
+            (version_known old.latest one few) (subst (In row) (firsts_found words logs begun t found f old.latest one
+            few) i),
+      )
 
   -- what comes of its first rows is set aside
   pub version_bring : (old new : Progress) → VersionIsPlaced found old new → 1 ≤ old.latest →
@@ -276,11 +281,11 @@ module _ (words : List ℕ) (logs : List (List Record)) (begun : List Pending) (
       × (calls_in t.setup.shape closing_of_turns (ByBucketRow row) ≡ [])
   version_sound old new c was row i = elim (in_both row old.aside.items
       (flat_map (brought found old.looks.items) (firsts_of found old.latest)) (subst (In row) c.aside i)) [
-    | inl j ↦ was row j
-    | inr j ↦
-        let b = in_flat_map (brought found old.looks.items) (firsts_of found old.latest) row j in
-        brought_is words logs begun t found f old.looks.items row b.0 b.2
-  ]
+        | inl j ↦ was row j
+        | inr j ↦
+            let b = in_flat_map (brought found old.looks.items) (firsts_of found old.latest) row j in
+            brought_is words logs begun t found f old.looks.items row b.0 b.2
+      ]
 
   -- the turn of the next version, where it has no calls
   pub going_version : (old new : Progress) (count : List ℕ) (p : Placing) →
@@ -361,10 +366,11 @@ module _ (words : List ℕ) (logs : List (List Record)) (begun : List Pending) (
           In x (aside_of words logs begun t found f new)
       kept x other i = elim (in_both x (map ByBucketRow old.aside.items)
           (next_version words logs begun t found f old.latest) i) [
-        | inl j ↦
-            let r = in_map ByBucketRow old.aside.items x j in
-            subst (λ z. In z (aside_of words logs begun t found f new)) (sym r.2)
-            (row_aside words logs begun t found f new r.0 (subst (In r.0) (sym c.aside)
-            (in_left r.0 old.aside.items (flat_map (brought found old.looks.items) (firsts_of found old.latest)) r.1)))
-        | inr j ↦ absurd (other (in_next words logs begun t found f old.latest x j).1)
-      ]
+            | inl j ↦
+                let r = in_map ByBucketRow old.aside.items x j in
+                subst (λ z. In z (aside_of words logs begun t found f new)) (sym r.2)
+                (row_aside words logs begun t found f new r.0 (subst (In r.0) (sym c.aside)
+                (in_left r.0 old.aside.items (flat_map (brought found old.looks.items) (firsts_of found old.latest))
+                r.1)))
+            | inr j ↦ absurd (other (in_next words logs begun t found f old.latest x j).1)
+          ]

@@ -76,13 +76,13 @@ module _ (words : List ℕ) (logs : List (List Record)) (begun : List Pending) (
       In row progress.aside.items
   aside_row progress row i = elim (in_both (ByBucketRow row) (map ByBucketRow progress.aside.items)
       (next_version progress.latest) i) [
-    | inl j ↦
-        let r = in_map ByBucketRow progress.aside.items (ByBucketRow row) j in
-        subst (λ n. In n progress.aside.items) (one (sym r.2)) r.1
-    | inr j ↦
-        let n = in_next progress.latest (ByBucketRow row) j in
-        (let bad : ByBucketRow row ≡ ByDirectoryRow (t.book.dir_row progress.latest) = n.1 in cc)
-  ]
+        | inl j ↦
+            let r = in_map ByBucketRow progress.aside.items (ByBucketRow row) j in
+            subst (λ n. In n progress.aside.items) (one (sym r.2)) r.1
+        | inr j ↦
+            let n = in_next progress.latest (ByBucketRow row) j in
+            (let bad : ByBucketRow row ≡ ByDirectoryRow (t.book.dir_row progress.latest) = n.1 in cc)
+      ]
     where
       one : {a b : ℕ} → ByBucketRow a ≡ ByBucketRow b → a ≡ b
       one e = cc

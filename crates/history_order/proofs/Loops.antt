@@ -22,7 +22,8 @@ pub stays : {B : Type 0} → (done rest now all done_then : List B) → done_the
 stays done rest now all done_then same is were = ap (λ xs. xs ++ rest) same ∙ ap (λ xs. done ++ xs) (sym is) ∙ were
 
 -- what an element gives goes over
-pub some_goes : {A B : Type 0} → (f : A → Option B) (xs : List A) (i : ℕ) (d : A) (y : B) (done all done_then : List B) →
+pub some_goes : {A B : Type 0} → (f : A → Option B) (xs : List A) (i : ℕ) (d : A) (y : B) (done all done_then : List
+    B) →
     i < length xs → f (get_or xs i d) ≡ Some y → done_then ≡ done ++ y ∷ [] →
     done ++ filter_map f (drop i xs) ≡ all → done_then ++ filter_map f (drop (i + 1) xs) ≡ all
 some_goes f xs i d y done all done_then inside gives more were =

@@ -131,8 +131,11 @@ module _ (words : List ℕ) (logs : List (List Record)) (begun : List Pending) (
   pub free_calls : (unit : Unit) (x : Piece) → In x (pieces_of t.setup.shape told_closing) →
       IsUnit words logs begun t 0 0 unit x → is_free found unit ≡ true → calls_in t.setup.shape told_closing x ≡ []
   free_calls unit x known is h = none (calls_in t.setup.shape told_closing x)
-      (λ c i. omega (arith, t.ledger.seats c (calls_are words logs begun t found f x c known i),
-      seats_few words logs begun t found f))
+      (λ c i. omega (
+        arith,
+        t.ledger.seats c (calls_are words logs begun t found f x c known i),
+        seats_few words logs begun t found f,
+      ))
       (λ s low. sym (calls_same words logs begun t found f unit x 0 0 s known is)
       ∙ not_true (has_call_in found unit 0 s)
       (all_at (λ z. not (has_call_in found unit 0 z)) (range_with_len 0 MOST_SEATS) s h

@@ -51,7 +51,8 @@ module _ (setup : Setup) (closing : Closing) (k : Book) (w : Written setup closi
 
   -- one of them has a number that is new
   pub call_new : (rows : List ℕ) (c : Placed) → In c (calls_at rows) →
-      (new_in_rows setup.shape closing.words rows (seat_of c) ≡ Some (number_of c)) × IsCallOf closing (seat_of c) (number_of c) c
+      (new_in_rows setup.shape closing.words rows (seat_of c) ≡ Some (number_of c)) × IsCallOf closing (seat_of c)
+      (number_of c) c
   call_new rows c i =
       let r = in_flat_map (call_at setup closing k w l rows) (range_with_len 0 (seats_of setup)) c i in
       let a = call_at_in setup closing k w l rows r.0 c r.2 in (

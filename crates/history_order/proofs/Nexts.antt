@@ -184,7 +184,8 @@ module _ (words : List ℕ) (logs : List (List Record)) (begun : List Pending) (
         calls_same unit x seat (many seat) other known is ∙ some in
         let kept = all_at (is_none_or_next logs begun found count seat unit) (range_with_len 0 MOST_SEATS) other h
         (range_in 0 MOST_SEATS other (omega arith) (omega (arith, few, seats_few))) in
-        let next = or_then (has_call_in found unit seat other) (is_next_in logs begun found count unit other) kept has in
+        let next = or_then (has_call_in found unit seat other) (is_next_in logs begun found count unit other) kept has
+        in
         let parts = and_parts (option_map_or (is_unit unit) (unit_in found other (many other)) false)
         (option_map_or (λ call. has_come count (seen_in call).counts) (call_at logs begun other (many other)) false)
         next in
@@ -266,7 +267,8 @@ module _ (words : List ℕ) (logs : List (List Record)) (begun : List Pending) (
         (few : progress.latest ≤ t.book.dir_top + 1) where
       -- the row of a lookup is placed as it is told
       look_same : (r : Record) → record_at logs seat (many seat) ≡ Some r → x ≡ ByLookup r →
-          option_map_or (λ (q : Record). is_marked progress.placed.items q.place) (record_at logs seat (many seat)) false
+          option_map_or (λ (q : Record). is_marked progress.placed.items q.place) (record_at logs seat (many seat))
+          false
           ≡ has_base t.setup.shape closing p x
       look_same r e of =
           ap (λ (o : Option Record). option_map_or (λ q. is_marked progress.placed.items q.place) o false) e

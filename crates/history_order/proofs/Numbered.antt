@@ -53,17 +53,17 @@ module _ (words : List ℕ) (logs : List (List Record)) (begun : List Pending) (
       call_at logs begun (seat_of c) (number_of c - 1) ≡ Some c
   call_there c i = elim
       (in_both c (map answered (closing_with words logs begun).records) (map pending begun) i) [
-    | inl a ↦
-        let r = in_map answered (closing_with words logs begun).records c a in
-        subst (λ (d : Placed). call_at logs begun (seat_of d) (number_of d - 1) ≡ Some d) (sym r.2)
-        (ap (λ (o : Option Record). option_map_or (λ x. Some (answered x)) o
-        (option_map pending (find (λ (q : Pending). q.seat == r.0.seat) begun))) (record_there r.0 r.1))
-    | inr b ↦
-        let p = in_map pending begun c b in
-        let past : length (log_of logs p.0.seat) ≤ p.0.number - 1 = omega (arith, t.next p.0 p.1) in
-        subst (λ (d : Placed). call_at logs begun (seat_of d) (number_of d - 1) ≡ Some d) (sym p.2)
-        (ap (λ (o : Option Record). option_map_or (λ x. Some (answered x)) o
-        (option_map pending (find (λ (q : Pending). q.seat == p.0.seat) begun)))
-        (slice_get_past (log_of logs p.0.seat) (p.0.number - 1) past)
-        ∙ ap (option_map pending) (begun_there p.0 p.1))
-  ]
+        | inl a ↦
+            let r = in_map answered (closing_with words logs begun).records c a in
+            subst (λ (d : Placed). call_at logs begun (seat_of d) (number_of d - 1) ≡ Some d) (sym r.2)
+            (ap (λ (o : Option Record). option_map_or (λ x. Some (answered x)) o
+            (option_map pending (find (λ (q : Pending). q.seat == r.0.seat) begun))) (record_there r.0 r.1))
+        | inr b ↦
+            let p = in_map pending begun c b in
+            let past : length (log_of logs p.0.seat) ≤ p.0.number - 1 = omega (arith, t.next p.0 p.1) in
+            subst (λ (d : Placed). call_at logs begun (seat_of d) (number_of d - 1) ≡ Some d) (sym p.2)
+            (ap (λ (o : Option Record). option_map_or (λ x. Some (answered x)) o
+            (option_map pending (find (λ (q : Pending). q.seat == p.0.seat) begun)))
+            (slice_get_past (log_of logs p.0.seat) (p.0.number - 1) past)
+            ∙ ap (option_map pending) (begun_there p.0 p.1))
+      ]

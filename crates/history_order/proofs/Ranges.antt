@@ -33,11 +33,13 @@ find_later f from left left_then is fails =
 
 -- at the end all have passed
 pub all_ends : (f : ℕ → Bool) (from end : ℕ) → end ≤ from → true ≡ list_all f (range_with_len from (end - from))
-all_ends f from end past = ap (λ (n : ℕ). list_all f (range_with_len from n)) (let none : 0 ≡ end - from = omega arith in none)
+all_ends f from end past = ap (λ (n : ℕ). list_all f (range_with_len from n)) (let none : 0 ≡ end - from = omega arith
+    in none)
 
 -- and none was found
 pub find_ends : (f : ℕ → Bool) (from end : ℕ) → end ≤ from → None ≡ find f (range_with_len from (end - from))
-find_ends f from end past = ap (λ (n : ℕ). find f (range_with_len from n)) (let none : 0 ≡ end - from = omega arith in none)
+find_ends f from end past = ap (λ (n : ℕ). find f (range_with_len from n)) (let none : 0 ≡ end - from = omega arith in
+    none)
 
 -- and nothing more comes
 pub flat_ends : {B : Type 0} → (f : ℕ → List B) (from end : ℕ) → end ≤ from →

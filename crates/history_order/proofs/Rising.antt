@@ -1,5 +1,5 @@
--- The calls of a piece stand in the order of their seats, one of each seat at most. So what is told seat by seat is told
--- in their order.
+-- The calls of a piece stand in the order of their seats, one of each seat at most. So what is told seat by seat is
+-- told in their order.
 use Rattle.std.proofs.Common.{◌≡◌, ℕ, zero, suc, ◌+◌, ◌<◌, ◌≤◌, ◌⊎◌, false, List, [], ◌∷◌, ◌++◌, map, Option, Some, None, refl, inl, inr, sym, ap, ◌∙◌, subst, arith, eqb-true}
 use Rattle.std.specs.Prelude.{◌==◌, ◌||◌, flat_map, find, option_to_list}
 use Rattle.std.specs.Option.{option_map_or}

@@ -61,7 +61,8 @@ module _ (shape : Shape) (words : List ℕ) (logs : List (List Record)) (begun :
     pub popped_inside : (now : Progress) (row : ℕ) → now.placed.items ≡ old.placed.items →
         old.aside.items ≡ now.aside.items ++ row ∷ [] → row < length now.placed.items
     popped_inside now row placed aside =
-        let known = r.going.sound row (subst (In row) (sym aside) (in_right row now.aside.items (row ∷ []) (inl refl))) in
+        let known = r.going.sound row (subst (In row) (sym aside) (in_right row now.aside.items (row ∷ []) (inl
+        refl))) in
         omega (arith, row_inside words logs begun r.told found r.filled row known.0, r.going.placed, ap length placed)
 
     -- one that is not due need not be kept
@@ -105,7 +106,8 @@ module _ (shape : Shape) (words : List ℕ) (logs : List (List Record)) (begun :
       shape_is = r.shape_is;
       filled = r.filled;
       placing = r.placing;
-      going = going_same words logs begun r.told found r.filled old now count r.placing r.going placed looks latest aside;
+      going = going_same words logs begun r.told found r.filled old now count r.placing r.going placed looks latest
+          aside;
       out = r.out;
     }
 
@@ -224,7 +226,8 @@ module _ (shape : Shape) (words : List ℕ) (logs : List (List Record)) (begun :
 
           -- it can be placed
           pub unit_can : CanBePlaced logs found seat (slice_index count seat) unit old
-          unit_can = can_be words logs begun r.told found r.filled old count r.placing r.going free seat unit seat_inside
+          unit_can = can_be words logs begun r.told found r.filled old count r.placing r.going free seat unit
+              seat_inside
               the ready none_before unit the.is
 
           -- with it less is left

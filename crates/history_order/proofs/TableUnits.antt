@@ -296,7 +296,8 @@ module _ (words : List ℕ) (logs : List (List Record)) (begun : List Pending) (
         (exchanged_rows t.setup.shape words logs) None
 
     abbrev by_versions : (seat place : ℕ) → Option Unit
-    by_versions seat place = after_all (version_place t.setup.shape words seat) (λ numbered. Some (VersionAt numbered.0))
+    by_versions seat place = after_all (version_place t.setup.shape words seat) (λ numbered. Some (VersionAt
+        numbered.0))
         place (many_of seat) (numbered_from 0 found.versions.items) (by_rows seat place)
 
     -- what is read is the unit of its piece
@@ -305,7 +306,8 @@ module _ (words : List ℕ) (logs : List (List Record)) (begun : List Pending) (
         seat place ≡ Some unit →
         Has seat place unit
     some_unit seat place unit inside e =
-        elim (after_cases look_place (λ r. Some Lookup) place (many_of seat) (log_of logs seat) (by_versions seat place)) [
+        elim (after_cases look_place (λ r. Some Lookup) place (many_of seat) (log_of logs seat) (by_versions seat
+        place)) [
           | inl wrote ↦ subst (Has seat place) (some_one Lookup unit (sym wrote.is ∙ e))
               (look_unit seat place wrote.by inside wrote.there wrote.here)
           | inr kept ↦
@@ -340,7 +342,8 @@ module _ (words : List ℕ) (logs : List (List Record)) (begun : List Pending) (
         In x (pieces_of t.setup.shape closing) → In c (calls_in t.setup.shape closing x) → seat_of c ≡ seat →
         number_of c ≡ place + 1 → place < many_of seat → ⊥
     no_unit seat place x c inside e i m s n less =
-        elim (after_cases look_place (λ r. Some Lookup) place (many_of seat) (log_of logs seat) (by_versions seat place)) [
+        elim (after_cases look_place (λ r. Some Lookup) place (many_of seat) (log_of logs seat) (by_versions seat
+        place)) [
           | inl wrote ↦ (let bad : Some Lookup ≡ None = sym wrote.is ∙ e in cc)
           | inr kept ↦
               elim (after_cases (version_place t.setup.shape words seat) (λ numbered. Some (VersionAt numbered.0)) place

@@ -83,7 +83,8 @@ module _ (words : List ℕ) (logs : List (List Record)) (begun : List Pending) (
           bases = λ one. (f.made (suc u) version e).bases ∙ ap (bases_in t.setup.shape words) firsts;
           callers = λ seat one.
               (f.made (suc u) version e).callers seat
-              ∙ ap (λ rs. is_caller t.setup.shape words rs seat) (version_firsts words logs begun t found f u version at)
+              ∙ ap (λ rs. is_caller t.setup.shape words rs seat) (version_firsts words logs begun t found f u version
+              at)
               ∙ callers_are t.setup (closing words logs begun t) t.book t.written t.ledger
               (first_rows t.setup.shape words (t.book.dir_row (u + 1)))
               (version_calls t.setup (closing words logs begun t) t.book t.written t.ledger u less) seat
@@ -116,7 +117,8 @@ module _ (words : List ℕ) (logs : List (List Record)) (begun : List Pending) (
         (count_of t.setup.shape BucketRows) (exchanged_rows t.setup.shape words logs) None) [
           | inl wrote ↦
               f.next base ∙ wrote.is
-              ∙ ap Some (one_made wrote.by row base (row_of_piece words logs begun t wrote.by wrote.there) a wrote.here e)
+              ∙ ap Some (one_made wrote.by row base (row_of_piece words logs begun t wrote.by wrote.there) a
+              wrote.here e)
           | inr kept ↦ absurd (kept.none row (piece_of_row words logs begun t row a) e
               (subst (λ r. r < count_of t.setup.shape BucketRows) (sym (base_at row base a e))
               (t.written.within a.bucket a.before a.named (omega (arith, a.inside)))))
@@ -157,7 +159,8 @@ module _ (words : List ℕ) (logs : List (List Record)) (begun : List Pending) (
 
   -- the first row of each bucket of the opening
   in_opening : (b : ℕ) → t.book.named b ≡ true → t.book.born b ≡ 0 →
-      In (t.book.row_at b 0) (firsts_in t.setup.shape words (slice_index_or (version_leaves t.setup.shape words logs) 0 []))
+      In (t.book.row_at b 0) (firsts_in t.setup.shape words (slice_index_or (version_leaves t.setup.shape words logs)
+      0 []))
   in_opening b n z =
       let at = leaf_at words logs begun t 0 (omega arith) in
       let before : Before t.setup words t.book t.written (t.book.born b) at.known =

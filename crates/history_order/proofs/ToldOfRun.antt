@@ -157,5 +157,6 @@ told_of_run shape words all begun r =
     subst (λ b. (t : Told words all b) × (t.setup.shape ≡ shape)) r.begun_are
     (subst (λ ls. (t : Told words ls (begun_of (world_after r.setup r.events))) × (t.setup.shape ≡ shape)) r.logs_are
     (subst (λ ws. (t : Told ws (map (λ (state : SeatState). state.account.records)
-    (world_after r.setup r.events).seats) (begun_of (world_after r.setup r.events))) × (t.setup.shape ≡ shape)) r.words_are
+    (world_after r.setup r.events).seats) (begun_of (world_after r.setup r.events))) × (t.setup.shape ≡ shape))
+    r.words_are
     (told_after r.setup r.events r.run, r.shape_is)))

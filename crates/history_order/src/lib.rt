@@ -3,6 +3,8 @@
 
 mod calls;
 mod columns;
+#[cfg(test)]
+mod fill_tests;
 mod finding;
 mod laws;
 mod leaves;

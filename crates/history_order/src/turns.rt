@@ -20,7 +20,6 @@ use closed_words::{Starts, Words};
 use plain_map::{CallId, MOST_SEATS};
 use std::alloc::AllocError;
 
-
 // How many seats there are.
 fn seat_count(starts: &Starts) -> usize
     ensures value { result ≡ (shape_of starts.now.layout).settings.seats }

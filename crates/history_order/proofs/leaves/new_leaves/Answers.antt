@@ -35,12 +35,14 @@ loop-i-preserved g c known are =
 
 pub returns-clause-leaves : goal.returns-clause-leaves
 returns-clause-leaves g c known are =
-    let entries : List ℕ = entries_of (shape_of c.args.starts.now.layout) (g.W.Words.words c.args.words.now) c.args.row in
+    let entries : List ℕ = entries_of (shape_of c.args.starts.now.layout) (g.W.Words.words c.args.words.now)
+    c.args.row in
     let none : c.entry_count-count.result - c.loop-i.i ≡ 0 = omega arith in
     c.reverse.ensures.items ∙ (c.loop-i.invariant known are).0 ∙ ap (λ n. picked known (drop n entries)) none
 
 pub returns-clause-met : goal.returns-clause-met
 returns-clause-met g c known are =
-    let entries : List ℕ = entries_of (shape_of c.args.starts.now.layout) (g.W.Words.words c.args.words.now) c.args.row in
+    let entries : List ℕ = entries_of (shape_of c.args.starts.now.layout) (g.W.Words.words c.args.words.now)
+    c.args.row in
     let none : c.entry_count-count.result - c.loop-i.i ≡ 0 = omega arith in
     subst (λ n. AreMet c.loop-i.met.items (known ++ drop n entries)) none (c.loop-i.invariant known are).1

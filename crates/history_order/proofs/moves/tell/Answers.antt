@@ -29,7 +29,10 @@ loop-other-preserved g c =
           ++ told_with logs begun found seat unit at n) same)
           (flat_goes told at (MOST_SEATS - at) (MOST_SEATS - (at + 1)) (omega arith)) c.loop-other.invariant.out;
       done = set_done number c.loop-other.count c.tell_one.new.count at
-          (count_with logs begun found seat unit at (slice_index c.loop-other.count at)) (omega (arith, c.loop-other.invariant.long))
+          (count_with logs begun found seat unit at (slice_index c.loop-other.count at)) (omega (
+            arith,
+            c.loop-other.invariant.long,
+          ))
           c.in_ok-tell_one.ensures.count (ap (count_with logs begun found seat unit at) same)
           c.loop-other.invariant.done;
       long = c.tell_one.array_long;

@@ -12,7 +12,8 @@ returns-then-is_ready_in g c =
     (map (λ log. log.items) c.args.closed.now.logs.now) c.args.closed.now.begun.now c.args.found.now
     c.args.progress.now c.args.count.now in
     sym (find_here f c.loop-seat.seat (many - c.loop-seat.seat) (many - (c.loop-seat.seat + 1))
-    (omega (arith, c.seat_count-seats.ensures.value)) (sym c.is_ready_in.ensures ∙ c.if-is_ready_in.true)) ∙ c.loop-seat.invariant
+    (omega (arith, c.seat_count-seats.ensures.value)) (sym c.is_ready_in.ensures ∙ c.if-is_ready_in.true))
+    ∙ c.loop-seat.invariant
 
 pub loop-seat-preserved : goal.loop-seat-preserved
 loop-seat-preserved g c =
@@ -22,7 +23,8 @@ loop-seat-preserved g c =
     (map (λ log. log.items) c.args.closed.now.logs.now) c.args.closed.now.begun.now c.args.found.now
     c.args.progress.now c.args.count.now in
     sym (find_later f c.loop-seat.seat (many - c.loop-seat.seat) (many - (c.loop-seat.seat + 1))
-    (omega (arith, c.seat_count-seats.ensures.value)) (sym c.is_ready_in.ensures ∙ c.if-is_ready_in.false)) ∙ c.loop-seat.invariant
+    (omega (arith, c.seat_count-seats.ensures.value)) (sym c.is_ready_in.ensures ∙ c.if-is_ready_in.false))
+    ∙ c.loop-seat.invariant
 
 pub returns : goal.returns
 returns g c =

@@ -87,7 +87,8 @@ place_version-requires-clause-there g c =
     c.loop-row.out.items c.loop-row.invariant now refl refl refl none in
     version_inside (shape_of c.args.closed.now.starts.now.layout)
     (g.W.Words.words c.args.closed.now.words.now) (map (λ log. log.items) c.args.closed.now.logs.now)
-    c.args.closed.now.begun.now c.args.found.now now c.loop-row.count c.args.out.now.items c.loop-row.out.items runs (sym c.is_version_due.ensures ∙ c.if-is_version_due.true)
+    c.args.closed.now.begun.now c.args.found.now now c.loop-row.count c.args.out.now.items c.loop-row.out.items runs
+    (sym c.is_version_due.ensures ∙ c.if-is_version_due.true)
 
 pub place_version-requires-clause-firsts : goal.place_version-requires-clause-firsts
 place_version-requires-clause-firsts g c =
@@ -105,7 +106,8 @@ place_version-requires-clause-firsts g c =
     c.loop-row.out.items c.loop-row.invariant now refl refl refl none in
     version_rows (shape_of c.args.closed.now.starts.now.layout)
     (g.W.Words.words c.args.closed.now.words.now) (map (λ log. log.items) c.args.closed.now.logs.now)
-    c.args.closed.now.begun.now c.args.found.now now c.loop-row.count c.args.out.now.items c.loop-row.out.items runs (sym c.is_version_due.ensures ∙ c.if-is_version_due.true)
+    c.args.closed.now.begun.now c.args.found.now now c.loop-row.count c.args.out.now.items c.loop-row.out.items runs
+    (sym c.is_version_due.ensures ∙ c.if-is_version_due.true)
 
 pub loop-row-smaller-then-is_version_due : goal.loop-row-smaller-then-is_version_due
 loop-row-smaller-then-is_version_due g c =
@@ -124,7 +126,8 @@ loop-row-smaller-then-is_version_due g c =
     let less = version_less (shape_of c.args.closed.now.starts.now.layout)
     (g.W.Words.words c.args.closed.now.words.now) (map (λ log. log.items) c.args.closed.now.logs.now)
     c.args.closed.now.begun.now c.args.found.now now c.loop-row.count c.args.out.now.items c.loop-row.out.items runs
-    c.place_version.new.progress (sym c.is_version_due.ensures ∙ c.if-is_version_due.true) c.in_ok-place_version.ensures in
+    c.place_version.new.progress (sym c.is_version_due.ensures ∙ c.if-is_version_due.true)
+    c.in_ok-place_version.ensures in
     falls (left_of c.args.found.now c.place_version.new.progress) (left_of c.args.found.now c.loop-row.progress)
     (length c.place_version.new.progress.aside.items) (length c.loop-row.progress.aside.items) less.0
     (omega (arith, less.1, ap length none))
@@ -165,7 +168,8 @@ returns-in_default-next_seat g c =
     let empty : c.pop.new.self.items ≡ [] = empty_of c.pop.new.self.items (omega (arith, c.in_default.ensures.cases)) in
     runs_end (shape_of c.args.closed.now.starts.now.layout)
     (g.W.Words.words c.args.closed.now.words.now) (map (λ log. log.items) c.args.closed.now.logs.now)
-    c.args.closed.now.begun.now c.args.found.now now c.loop-row.count c.args.out.now.items c.loop-row.out.items runs empty
+    c.args.closed.now.begun.now c.args.found.now now c.loop-row.count c.args.out.now.items c.loop-row.out.items runs
+    empty
     (sym c.is_version_due.ensures ∙ c.if-is_version_due.false) (sym c.next_seat.ensures ∙ c.in_default-next_seat.is)
 
 pub bounds-count-seat : goal.bounds-count-seat
@@ -185,8 +189,10 @@ bounds-count-seat g c =
     let empty : c.pop.new.self.items ≡ [] = empty_of c.pop.new.self.items (omega (arith, c.in_default.ensures.cases)) in
     let few = seat_few (shape_of c.args.closed.now.starts.now.layout)
     (g.W.Words.words c.args.closed.now.words.now) (map (λ log. log.items) c.args.closed.now.logs.now)
-    c.args.closed.now.begun.now c.args.found.now now c.loop-row.count c.args.out.now.items c.loop-row.out.items runs empty
-    (sym c.is_version_due.ensures ∙ c.if-is_version_due.false) c.in-Some-next_seat.seat (sym c.next_seat.ensures ∙ c.in-Some-next_seat.is) in
+    c.args.closed.now.begun.now c.args.found.now now c.loop-row.count c.args.out.now.items c.loop-row.out.items runs
+    empty
+    (sym c.is_version_due.ensures ∙ c.if-is_version_due.false) c.in-Some-next_seat.seat (sym c.next_seat.ensures
+    ∙ c.in-Some-next_seat.is) in
     omega (arith, few)
 
 pub offset_bounds-count-seat : goal.offset_bounds-count-seat
@@ -206,8 +212,10 @@ offset_bounds-count-seat g c =
     let empty : c.pop.new.self.items ≡ [] = empty_of c.pop.new.self.items (omega (arith, c.in_default.ensures.cases)) in
     let few = seat_few (shape_of c.args.closed.now.starts.now.layout)
     (g.W.Words.words c.args.closed.now.words.now) (map (λ log. log.items) c.args.closed.now.logs.now)
-    c.args.closed.now.begun.now c.args.found.now now c.loop-row.count c.args.out.now.items c.loop-row.out.items runs empty
-    (sym c.is_version_due.ensures ∙ c.if-is_version_due.false) c.in-Some-next_seat.seat (sym c.next_seat.ensures ∙ c.in-Some-next_seat.is) in
+    c.args.closed.now.begun.now c.args.found.now now c.loop-row.count c.args.out.now.items c.loop-row.out.items runs
+    empty
+    (sym c.is_version_due.ensures ∙ c.if-is_version_due.false) c.in-Some-next_seat.seat (sym c.next_seat.ensures
+    ∙ c.in-Some-next_seat.is) in
     omega (arith, few)
 
 pub returns-in_default-unit_in : goal.returns-in_default-unit_in
@@ -227,8 +235,10 @@ returns-in_default-unit_in g c =
     let empty : c.pop.new.self.items ≡ [] = empty_of c.pop.new.self.items (omega (arith, c.in_default.ensures.cases)) in
     absurd (unit_there (shape_of c.args.closed.now.starts.now.layout)
     (g.W.Words.words c.args.closed.now.words.now) (map (λ log. log.items) c.args.closed.now.logs.now)
-    c.args.closed.now.begun.now c.args.found.now now c.loop-row.count c.args.out.now.items c.loop-row.out.items runs empty
-    (sym c.is_version_due.ensures ∙ c.if-is_version_due.false) c.in-Some-next_seat.seat (sym c.next_seat.ensures ∙ c.in-Some-next_seat.is)
+    c.args.closed.now.begun.now c.args.found.now now c.loop-row.count c.args.out.now.items c.loop-row.out.items runs
+    empty
+    (sym c.is_version_due.ensures ∙ c.if-is_version_due.false) c.in-Some-next_seat.seat (sym c.next_seat.ensures
+    ∙ c.in-Some-next_seat.is)
     (sym c.unit_in.ensures ∙ c.in_default-unit_in.is))
 
 pub place-requires : goal.place-requires
@@ -248,8 +258,10 @@ place-requires g c =
     let empty : c.pop.new.self.items ≡ [] = empty_of c.pop.new.self.items (omega (arith, c.in_default.ensures.cases)) in
     unit_can (shape_of c.args.closed.now.starts.now.layout)
     (g.W.Words.words c.args.closed.now.words.now) (map (λ log. log.items) c.args.closed.now.logs.now)
-    c.args.closed.now.begun.now c.args.found.now now c.loop-row.count c.args.out.now.items c.loop-row.out.items runs empty
-    (sym c.is_version_due.ensures ∙ c.if-is_version_due.false) c.in-Some-next_seat.seat (sym c.next_seat.ensures ∙ c.in-Some-next_seat.is)
+    c.args.closed.now.begun.now c.args.found.now now c.loop-row.count c.args.out.now.items c.loop-row.out.items runs
+    empty
+    (sym c.is_version_due.ensures ∙ c.if-is_version_due.false) c.in-Some-next_seat.seat (sym c.next_seat.ensures
+    ∙ c.in-Some-next_seat.is)
     c.in-Some-unit_in.unit (sym c.unit_in.ensures ∙ c.in-Some-unit_in.is)
 
 pub loop-row-smaller : goal.loop-row-smaller
@@ -269,8 +281,10 @@ loop-row-smaller g c =
     let empty : c.pop.new.self.items ≡ [] = empty_of c.pop.new.self.items (omega (arith, c.in_default.ensures.cases)) in
     let less = call_less (shape_of c.args.closed.now.starts.now.layout)
     (g.W.Words.words c.args.closed.now.words.now) (map (λ log. log.items) c.args.closed.now.logs.now)
-    c.args.closed.now.begun.now c.args.found.now now c.loop-row.count c.args.out.now.items c.loop-row.out.items runs empty
-    (sym c.is_version_due.ensures ∙ c.if-is_version_due.false) c.in-Some-next_seat.seat (sym c.next_seat.ensures ∙ c.in-Some-next_seat.is)
+    c.args.closed.now.begun.now c.args.found.now now c.loop-row.count c.args.out.now.items c.loop-row.out.items runs
+    empty
+    (sym c.is_version_due.ensures ∙ c.if-is_version_due.false) c.in-Some-next_seat.seat (sym c.next_seat.ensures
+    ∙ c.in-Some-next_seat.is)
     c.in-Some-unit_in.unit (sym c.unit_in.ensures ∙ c.in-Some-unit_in.is) c.place.new.progress c.in_ok-place.ensures in
     falls (left_of c.args.found.now c.place.new.progress) (left_of c.args.found.now c.loop-row.progress)
     (length c.place.new.progress.aside.items) (length c.loop-row.progress.aside.items) less.0
@@ -293,7 +307,10 @@ loop-row-preserved g c =
     let empty : c.pop.new.self.items ≡ [] = empty_of c.pop.new.self.items (omega (arith, c.in_default.ensures.cases)) in
     runs_call (shape_of c.args.closed.now.starts.now.layout)
     (g.W.Words.words c.args.closed.now.words.now) (map (λ log. log.items) c.args.closed.now.logs.now)
-    c.args.closed.now.begun.now c.args.found.now now c.loop-row.count c.args.out.now.items c.loop-row.out.items runs empty
-    (sym c.is_version_due.ensures ∙ c.if-is_version_due.false) c.in-Some-next_seat.seat (sym c.next_seat.ensures ∙ c.in-Some-next_seat.is)
-    c.in-Some-unit_in.unit (sym c.unit_in.ensures ∙ c.in-Some-unit_in.is) c.place.new.progress c.tell.new.count c.tell.new.out.items
+    c.args.closed.now.begun.now c.args.found.now now c.loop-row.count c.args.out.now.items c.loop-row.out.items runs
+    empty
+    (sym c.is_version_due.ensures ∙ c.if-is_version_due.false) c.in-Some-next_seat.seat (sym c.next_seat.ensures
+    ∙ c.in-Some-next_seat.is)
+    c.in-Some-unit_in.unit (sym c.unit_in.ensures ∙ c.in-Some-unit_in.is) c.place.new.progress c.tell.new.count
+    c.tell.new.out.items
     c.in_ok-place.ensures c.tell.array_long c.in_ok-tell.ensures.count c.in_ok-tell.ensures.out

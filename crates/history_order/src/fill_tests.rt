@@ -1,0 +1,122 @@
+ghost use Rattle.std.specs.Prelude.{◌≡◌};
+
+use crate::finding::fill;
+use crate::tables::Unit;
+use closed_words::Starts;
+use plain_map::{Call, Key, MOST_SEATS, Record, Reply, Seen};
+use std::alloc::{AllocError, Global};
+use std::test::Fail;
+use step_counts::{SeatRows, Settings};
+use word_rows::Layout;
+
+// The key of 10.0.0.1:1 and 10.0.0.2:80 over TCP.
+const KEY: Key = Key {
+    k0: 0x0a00_0001_0a00_0002,
+    k1: 0x0000_0000_0100_5006,
+};
+
+const SMALL_ROWS: SeatRows = SeatRows {
+    op_rows: 1,
+    bucket_rows: 4,
+    bucket_words: 2,
+    directory_rows: 1,
+};
+
+const EMPTY_LEFT: [u64; 13] = [0, 1, 0, 0, 0, 0, 0, 0, 0, 0, 0, 0, 0];
+
+const EMPTY_RIGHT: [u64; 13] = [1, 1, 0, 0, 0, 0, 0, 0, 0, 0, 0, 0, 0];
+
+const FILLED_LEFT: [u64; 13] = [0, 1, 1, 0, 1, KEY.k0, KEY.k1, 1, 0, 0, 0, 1, 1];
+
+const NONE: [bool; MOST_SEATS] = [false; MOST_SEATS];
+
+const FIRST: [bool; MOST_SEATS] = [true, false, false, false, false, false, false, false];
+
+// The words of a table of one seat, two items and depth 1, after the insert.
+fn small_words(alloc: Global) -> Result<Vec<u64>, AllocError> {
+    let mut words = [0; 98];
+    words[3] = 2;
+    words[4] = 1;
+    words[12..25].copy_from_slice(&EMPTY_LEFT);
+    words[25..38].copy_from_slice(&EMPTY_RIGHT);
+    words[38..51].copy_from_slice(&FILLED_LEFT);
+    words[90] = 1;
+    words[93] = 1;
+    Vec::from_slice(alloc, &words)
+}
+
+fn small_layout(settings: &Settings) -> Layout
+    requires { settings.now.seats ≡ 1 }
+{
+    Layout::new(settings, &[SMALL_ROWS])
+}
+
+// The insert, and a lookup of the right bucket's row, as they were answered.
+fn small_log(alloc: Global) -> Result<Vec<Record>, AllocError> {
+    let insert = Record {
+        seat: 0,
+        number: 1,
+        packet: 1,
+        call: Call::Insert(KEY, 1),
+        reply: Reply::New,
+        steps: 9,
+        seen: Seen {
+            counts: [0, 0, 0, 0, 0, 0, 0, 0],
+        },
+        place: 2,
+    };
+    let lookup = Record {
+        number: 2,
+        packet: 2,
+        call: Call::Lookup(KEY),
+        reply: Reply::Absent,
+        place: 1,
+        ..insert
+    };
+    Vec::from_slice(alloc, &[insert, lookup])
+}
+
+// As worked by hand: row 2 was made from row 0 with the insert new in it, and the lookup waits for row 1.
+#[test]
+fn fills_a_small_table(rt: HostRuntime) -> Result<(), Fail> {
+    let alloc = rt.alloc();
+    let settings = Settings::new(1, 2, 1, 1)?;
+    let layout = small_layout(&settings);
+    let starts = Starts::new(&layout);
+    let words = small_words(alloc)?;
+    let mut logs = Vec::new(alloc);
+    logs.push(small_log(alloc)?)?;
+    let tables = fill(alloc, &starts, &words, &logs)?;
+    let found = &tables.found;
+    assert_eq!(rt;
+        found.next.as_slice(),
+        [Some(2), None, None, None, None, None].as_slice()
+    );
+    assert_eq!(rt;
+        found.callers.as_slice(),
+        [NONE, NONE, FIRST, NONE, NONE, NONE].as_slice()
+    );
+    assert_eq!(rt; found.units.len(), 1);
+    for units in &found.units {
+        assert_eq!(rt;
+            units.as_slice(),
+            [Some(Unit::Row(2)), Some(Unit::Lookup), None].as_slice()
+        );
+    }
+    assert_eq!(rt; found.versions.len(), 1);
+    for version in &found.versions {
+        assert_eq!(rt; version.row, 0);
+        assert_eq!(rt; version.firsts.as_slice(), [0, 1].as_slice());
+        assert_eq!(rt; version.bases.as_slice(), [].as_slice());
+        assert_eq!(rt; version.callers, NONE);
+    }
+    let progress = &tables.progress;
+    assert_eq!(rt;
+        progress.placed.as_slice(),
+        [true, true, false, false, false, false].as_slice()
+    );
+    assert_eq!(rt; progress.looks.as_slice(), [0, 1, 0, 0, 0, 0].as_slice());
+    assert_eq!(rt; progress.latest, 1);
+    assert_eq!(rt; progress.aside.as_slice(), [].as_slice());
+    Ok(())
+}
