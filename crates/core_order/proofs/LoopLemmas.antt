@@ -5,42 +5,59 @@ use Rattle.std.proofs.lemmas.List.{at_drop_more, take_rest}
 use Rattle.core_model.specs.Reading.{each_once, is_among}
 
 -- a piece goes over to what is done
-pub grows : {B : Type 0} → (done piece rest now all done_then : List B) → done_then ≡ done ++ piece → now ≡ piece ++ rest → done ++ now ≡ all → done_then ++ rest ≡ all
+pub grows : {B : Type 0} → (done piece rest now all done_then : List B) → done_then ≡ done ++ piece →
+    now ≡ piece ++ rest → done ++ now ≡ all → done_then ++ rest ≡ all
 grows done piece rest now all done_then more is were =
     ap (λ xs. xs ++ rest) more ∙ append_assoc done piece rest ∙ ap (λ xs. done ++ xs) (sym is) ∙ were
 
 -- nothing goes over
-pub stays : {B : Type 0} → (done rest now all done_then : List B) → done_then ≡ done → now ≡ rest → done ++ now ≡ all → done_then ++ rest ≡ all
+pub stays : {B : Type 0} → (done rest now all done_then : List B) → done_then ≡ done → now ≡ rest → done ++ now ≡ all →
+    done_then ++ rest ≡ all
 stays done rest now all done_then same is were = ap (λ xs. xs ++ rest) same ∙ ap (λ xs. done ++ xs) (sym is) ∙ were
 
 -- an element is kept, or not
-pub filter-kept : {A : Type 0} → (p : A → Bool) (xs : List A) (i : ℕ) (d : A) (done all done_then : List A) → i < length xs → p (get_or xs i d) ≡ true → done_then ≡ done ++ get_or xs i d ∷ [] → done ++ filter p (drop i xs) ≡ all → done_then ++ filter p (drop (i + 1) xs) ≡ all
+pub filter-kept : {A : Type 0} → (p : A → Bool) (xs : List A) (i : ℕ) (d : A) (done all done_then : List A) →
+    i < length xs → p (get_or xs i d) ≡ true → done_then ≡ done ++ get_or xs i d ∷ [] →
+    done ++ filter p (drop i xs) ≡ all → done_then ++ filter p (drop (i + 1) xs) ≡ all
 filter-kept p xs i d done all done_then inside holds more were =
     let x = get_or xs i d in
     let rest = filter p (drop (i + 1) xs) in
-    let step : filter p (drop i xs) ≡ x ∷ rest = at_drop_more (filter p) xs i d inside ∙ ap (λ (b : Bool). cond b (x ∷ rest) rest) holds in
+    let step : filter p (drop i xs) ≡ x ∷ rest = at_drop_more (filter p) xs i d inside
+    ∙ ap (λ (b : Bool). cond b (x ∷ rest) rest) holds in
     grows done (x ∷ []) rest (filter p (drop i xs)) all done_then more step were
 
-pub filter-left : {A : Type 0} → (p : A → Bool) (xs : List A) (i : ℕ) (d : A) (done all done_then : List A) → i < length xs → p (get_or xs i d) ≡ false → done_then ≡ done → done ++ filter p (drop i xs) ≡ all → done_then ++ filter p (drop (i + 1) xs) ≡ all
+pub filter-left : {A : Type 0} → (p : A → Bool) (xs : List A) (i : ℕ) (d : A) (done all done_then : List A) →
+    i < length xs → p (get_or xs i d) ≡ false → done_then ≡ done → done ++ filter p (drop i xs) ≡ all →
+    done_then ++ filter p (drop (i + 1) xs) ≡ all
 filter-left p xs i d done all done_then inside fails same were =
     let x = get_or xs i d in
     let rest = filter p (drop (i + 1) xs) in
-    let step : filter p (drop i xs) ≡ rest = at_drop_more (filter p) xs i d inside ∙ ap (λ (b : Bool). cond b (x ∷ rest) rest) fails in
+    let step : filter p (drop i xs) ≡ rest = at_drop_more (filter p) xs i d inside
+    ∙ ap (λ (b : Bool). cond b (x ∷ rest) rest) fails in
     stays done rest (filter p (drop i xs)) all done_then same step were
 
 -- a number is kept where it does not stand further on
-pub each_once-kept : (xs : List ℕ) (i : ℕ) (done all done_then : List ℕ) → i < length xs → is_among (take (length xs - (i + 1)) (drop (i + 1) xs)) (get_or xs i 0) ≡ false → done_then ≡ done ++ get_or xs i 0 ∷ [] → done ++ each_once (drop i xs) ≡ all → done_then ++ each_once (drop (i + 1) xs) ≡ all
+pub each_once-kept : (xs : List ℕ) (i : ℕ) (done all done_then : List ℕ) → i < length xs →
+    is_among (take (length xs - (i + 1)) (drop (i + 1) xs)) (get_or xs i 0) ≡ false →
+    done_then ≡ done ++ get_or xs i 0 ∷ [] → done ++ each_once (drop i xs) ≡ all →
+    done_then ++ each_once (drop (i + 1) xs) ≡ all
 each_once-kept xs i done all done_then inside fails more were =
     let x = get_or xs i 0 in
     let rest = each_once (drop (i + 1) xs) in
-    let later : is_among (drop (i + 1) xs) x ≡ false = ap (λ (ys : List ℕ). is_among ys x) (sym (take_rest xs (i + 1))) ∙ fails in
-    let step : each_once (drop i xs) ≡ x ∷ rest = at_drop_more each_once xs i 0 inside ∙ ap (λ (b : Bool). cond b rest (x ∷ rest)) later in
+    let later : is_among (drop (i + 1) xs) x ≡ false = ap (λ (ys : List ℕ). is_among ys x) (sym (take_rest xs (i + 1)))
+    ∙ fails in
+    let step : each_once (drop i xs) ≡ x ∷ rest = at_drop_more each_once xs i 0 inside
+    ∙ ap (λ (b : Bool). cond b rest (x ∷ rest)) later in
     grows done (x ∷ []) rest (each_once (drop i xs)) all done_then more step were
 
-pub each_once-left : (xs : List ℕ) (i : ℕ) (done all done_then : List ℕ) → i < length xs → is_among (take (length xs - (i + 1)) (drop (i + 1) xs)) (get_or xs i 0) ≡ true → done_then ≡ done → done ++ each_once (drop i xs) ≡ all → done_then ++ each_once (drop (i + 1) xs) ≡ all
+pub each_once-left : (xs : List ℕ) (i : ℕ) (done all done_then : List ℕ) → i < length xs →
+    is_among (take (length xs - (i + 1)) (drop (i + 1) xs)) (get_or xs i 0) ≡ true → done_then ≡ done →
+    done ++ each_once (drop i xs) ≡ all → done_then ++ each_once (drop (i + 1) xs) ≡ all
 each_once-left xs i done all done_then inside holds same were =
     let x = get_or xs i 0 in
     let rest = each_once (drop (i + 1) xs) in
-    let later : is_among (drop (i + 1) xs) x ≡ true = ap (λ (ys : List ℕ). is_among ys x) (sym (take_rest xs (i + 1))) ∙ holds in
-    let step : each_once (drop i xs) ≡ rest = at_drop_more each_once xs i 0 inside ∙ ap (λ (b : Bool). cond b rest (x ∷ rest)) later in
+    let later : is_among (drop (i + 1) xs) x ≡ true = ap (λ (ys : List ℕ). is_among ys x) (sym (take_rest xs (i + 1)))
+    ∙ holds in
+    let step : each_once (drop i xs) ≡ rest = at_drop_more each_once xs i 0 inside
+    ∙ ap (λ (b : Bool). cond b rest (x ∷ rest)) later in
     stays done rest (each_once (drop i xs)) all done_then same step were

@@ -14,7 +14,8 @@ use Rattle.core_model.specs.Order.{Closing, is_call, calls_of, new_in_rows, upda
 -- the call of one seat's update
 abbrev pub update_of : Setup → Closing → List ℕ → (seat : ℕ) → List Placed
 update_of setup closing rows seat =
-    option_map_or (λ number. option_to_list (find (is_call seat number) (calls_of closing))) (new_in_rows setup.shape closing.words rows seat) []
+    option_map_or (λ number. option_to_list (find (is_call seat number) (calls_of closing)))
+    (new_in_rows setup.shape closing.words rows seat) []
 
 -- those of the seats below this one
 unfoldable pub updates_below : Setup → Closing → List ℕ → (seat : ℕ) → List Placed
@@ -33,7 +34,9 @@ unfolding updates_below
 updates_below-none setup closing rows = refl
 
 -- one seat more
-pub updates_below-more : (setup : Setup) (closing : Closing) (rows : List ℕ) (seat : ℕ) (done done_then piece : List Placed) → piece ≡ update_of setup closing rows seat → done_then ≡ done ++ piece → done ≡ updates_below setup closing rows seat → done_then ≡ updates_below setup closing rows (seat + 1)
+pub updates_below-more : (setup : Setup) (closing : Closing) (rows : List ℕ) (seat : ℕ)
+    (done done_then piece : List Placed) → piece ≡ update_of setup closing rows seat → done_then ≡ done ++ piece →
+    done ≡ updates_below setup closing rows seat → done_then ≡ updates_below setup closing rows (seat + 1)
 unfolding updates_below
 updates_below-more setup closing rows seat done done_then piece is more were =
     let f : ℕ → List Placed = update_of setup closing rows in
@@ -44,13 +47,16 @@ updates_below-more setup closing rows seat done done_then piece is more were =
     ∙ sym (ap (flat_map f) (range_more seat) ∙ flat_map-append f (range_with_len 0 seat) (seat ∷ []))
 
 -- those of all seats
-pub updates_below-all : (setup : Setup) (closing : Closing) (rows : List ℕ) → updates_below setup closing rows (seats_of setup) ≡ updates_in_rows setup.shape closing rows
+pub updates_below-all : (setup : Setup) (closing : Closing) (rows : List ℕ) →
+    updates_below setup closing rows (seats_of setup) ≡ updates_in_rows setup.shape closing rows
 unfolding updates_below
 updates_below-all setup closing rows = refl
 
 -- what is found in the first of two lists, and what only in the second
-pub find-front : (p : Placed → Bool) (front back : List Placed) (x : Placed) → find p front ≡ Some x → find p (front ++ back) ≡ Some x
+pub find-front : (p : Placed → Bool) (front back : List Placed) (x : Placed) → find p front ≡ Some x →
+    find p (front ++ back) ≡ Some x
 find-front p front back x is = find-append p front back ∙ ap (λ (o : Option Placed). option_or o (find p back)) is
 
-pub find-back : (p : Placed → Bool) (front back : List Placed) → find p front ≡ None → find p (front ++ back) ≡ find p back
+pub find-back : (p : Placed → Bool) (front back : List Placed) → find p front ≡ None →
+    find p (front ++ back) ≡ find p back
 find-back p front back is = find-append p front back ∙ ap (λ (o : Option Placed). option_or o (find p back)) is

@@ -14,7 +14,11 @@ use Rattle.core_order.specs.declared.values.PlainPlacing.{PlainPlacing}
 
 -- a closed table
 abbrev pub as_closing : PlainClosing → Closing
-as_closing closing = record { words = closing.words.items; records = closing.records.items; begun = closing.begun.items }
+as_closing closing = record {
+  words = closing.words.items;
+  records = closing.records.items;
+  begun = closing.begun.items;
+}
 
 -- a call in an order
 abbrev pub as_placed : PlainPlaced → Placed

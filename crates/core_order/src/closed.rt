@@ -50,7 +50,8 @@ pub fn closed_leaves(
     setup: &PlainSetup,
     words: &[u64],
 ) -> Result<Vec<ClosedLeaf>, AllocError>
-    ensures { IfOk result (λ leaves. map as_closed_leaf leaves.items ≡ closed_leaves (as_setup setup.now).shape words.now) }
+    ensures { IfOk result (λ leaves. map as_closed_leaf leaves.items ≡ closed_leaves
+        (as_setup setup.now).shape words.now) }
 {
     let buckets = closed_buckets(alloc, setup, words)?;
     let mut leaves = Vec::new(alloc);
@@ -107,7 +108,8 @@ pub fn row_items(
 // The item at the i-th place.
 fn item_at(setup: &PlainSetup, words: &[u64], row: u64, i: u64) -> Pair
     ensures { result ≡ pair_of_words
-        (block ITEM_WORDS i (item_part (settings_of (as_setup setup.now)) (bucket_spelling (as_setup setup.now).shape words.now row))) }
+        (block ITEM_WORDS i (item_part (settings_of (as_setup setup.now))
+        (bucket_spelling (as_setup setup.now).shape words.now row))) }
 {
     Pair {
         key: Key {
@@ -122,7 +124,8 @@ fn item_at(setup: &PlainSetup, words: &[u64], row: u64, i: u64) -> Pair
 fn item_word(setup: &PlainSetup, words: &[u64], row: u64, i: u64, j: u64) -> u64
     requires { j < ITEM_WORDS }
     ensures { result ≡ slice_index
-        (block ITEM_WORDS i (item_part (settings_of (as_setup setup.now)) (bucket_spelling (as_setup setup.now).shape words.now row))) j }
+        (block ITEM_WORDS i (item_part (settings_of (as_setup setup.now))
+        (bucket_spelling (as_setup setup.now).shape words.now row))) j }
 {
     if i >= u64::from(setup.layout.settings().items) {
         return 0;
@@ -156,7 +159,8 @@ fn took_effect(
     begun: &[Pending],
 ) -> Result<Vec<Pending>, AllocError>
     ensures { IfOk result (λ effects. effects.items
-        ≡ filter (λ p. is_update p.call && list_any (λ row. applied_at (as_setup setup.now).shape words.now row p.seat == p.number) rows.now) begun.now) }
+        ≡ filter (λ p. is_update p.call && list_any
+        (λ row. applied_at (as_setup setup.now).shape words.now row p.seat == p.number) rows.now) begun.now) }
 {
     let mut effects = Vec::new(alloc);
     for pending in begun {

@@ -56,7 +56,8 @@ fn saw_few(stand: &PlainStand) -> bool
 
 // The answered calls of all seats, in the order of the seats.
 fn records_of(alloc: Global, seats: &[PlainSeat]) -> Result<Vec<Record>, AllocError>
-    ensures { IfOk result (λ records. records.items ≡ flat_map (λ state. state.account.records) (map as_seat seats.now)) }
+    ensures { IfOk result (λ records. records.items ≡ flat_map
+        (λ state. state.account.records) (map as_seat seats.now)) }
 {
     let mut records = Vec::new(alloc);
     for seat in seats {

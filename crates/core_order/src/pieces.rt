@@ -151,7 +151,8 @@ pub fn pieces_of(
     setup: &PlainSetup,
     closing: &PlainClosing,
 ) -> Result<Vec<PlainPiece>, AllocError>
-    ensures { IfOk result (λ pieces. map as_piece pieces.items ≡ pieces_of (as_setup setup.now).shape (as_closing closing.now)) }
+    ensures { IfOk result (λ pieces. map as_piece pieces.items ≡ pieces_of (as_setup setup.now).shape
+        (as_closing closing.now)) }
 {
     let mut pieces = exchanged_rows(alloc, setup, &closing.words)?;
     pieces.extend_from_slice(&later_rows(alloc, setup, &closing.words)?)?;
@@ -166,7 +167,8 @@ fn exchanged_rows(
     words: &[u64],
 ) -> Result<Vec<PlainPiece>, AllocError>
     ensures { IfOk result (λ pieces. map as_piece pieces.items
-        ≡ map ByBucketRow (filter (is_exchanged (as_setup setup.now).shape words.now) (bucket_rows (as_setup setup.now).shape words.now))) }
+        ≡ map ByBucketRow (filter (is_exchanged (as_setup setup.now).shape words.now)
+        (bucket_rows (as_setup setup.now).shape words.now))) }
 {
     let rows = bucket_rows(alloc, setup, words)?;
     let mut pieces = Vec::new(alloc);
@@ -185,7 +187,8 @@ fn later_rows(
     words: &[u64],
 ) -> Result<Vec<PlainPiece>, AllocError>
     ensures { IfOk result (λ pieces. map as_piece pieces.items
-        ≡ map ByDirectoryRow (filter (is_later (as_setup setup.now).shape words.now) (directory_rows (as_setup setup.now).shape words.now))) }
+        ≡ map ByDirectoryRow (filter (is_later (as_setup setup.now).shape words.now)
+        (directory_rows (as_setup setup.now).shape words.now))) }
 {
     let rows = directory_rows(alloc, setup, words)?;
     let mut pieces = Vec::new(alloc);
@@ -199,7 +202,8 @@ fn later_rows(
 
 // A piece for each lookup among the records.
 fn lookups(alloc: Global, records: &[Record]) -> Result<Vec<PlainPiece>, AllocError>
-    ensures { IfOk result (λ pieces. map as_piece pieces.items ≡ map ByLookup (filter (λ r. not (is_update r.call)) records.now)) }
+    ensures { IfOk result (λ pieces. map as_piece pieces.items ≡ map ByLookup
+        (filter (λ r. not (is_update r.call)) records.now)) }
 {
     let mut pieces = Vec::new(alloc);
     for record in records {

@@ -39,7 +39,8 @@ pub fn start_of(
     setup: &PlainSetup,
     closing: &PlainClosing,
 ) -> Result<PlainPlacing, AllocError>
-    ensures { IfOk result (λ placing. as_placing placing ≡ start_of (as_setup setup.now).shape (as_closing closing.now)) }
+    ensures { IfOk result (λ placing. as_placing placing ≡ start_of (as_setup setup.now).shape
+        (as_closing closing.now)) }
 {
     let rows = opening_rows(alloc, setup, &closing.words)?;
     let directories = opening_directories(alloc, setup, &closing.words)?;
@@ -75,7 +76,8 @@ fn opening_directories(
     words: &[u64],
 ) -> Result<Vec<u64>, AllocError>
     ensures { IfOk result (λ rows. rows.items
-        ≡ filter (λ row. not (is_later (as_setup setup.now).shape words.now row)) (directory_rows (as_setup setup.now).shape words.now)) }
+        ≡ filter (λ row. not (is_later (as_setup setup.now).shape words.now row))
+        (directory_rows (as_setup setup.now).shape words.now)) }
 {
     let published = directory_rows(alloc, setup, words)?;
     let mut rows = Vec::new(alloc);
@@ -106,7 +108,8 @@ fn are_done(
     rows: &[u64],
 ) -> bool
     ensures { result ≡ list_all
-        (λ first. is_done (as_closing closing.now) (as_placing placing.now) (bucket_row (as_setup setup.now).shape (as_closing closing.now).words first).base)
+        (λ first. is_done (as_closing closing.now) (as_placing placing.now)
+        (bucket_row (as_setup setup.now).shape (as_closing closing.now).words first).base)
         rows.now }
 {
     for row in rows {
@@ -199,7 +202,8 @@ fn has_rank(
     piece: &PlainPiece,
 ) -> Result<bool, AllocError>
     ensures { IfOk result (λ has. has
-        ≡ has_rank (as_setup setup.now).shape (as_closing closing.now) (as_placing placing.now) rank (as_piece piece.now)) }
+        ≡ has_rank (as_setup setup.now).shape (as_closing closing.now) (as_placing placing.now) rank
+        (as_piece piece.now)) }
 {
     if !is_ready(alloc, setup, closing, placing, piece)? {
         return Ok(false);
@@ -217,7 +221,8 @@ fn first_of_rank(
     rank: u64,
 ) -> Result<Option<usize>, AllocError>
     ensures { IfOk result (λ at. at
-        ≡ position (has_rank (as_setup setup.now).shape (as_closing closing.now) (as_placing placing.now) rank) (as_placing placing.now).left) }
+        ≡ position (has_rank (as_setup setup.now).shape (as_closing closing.now) (as_placing placing.now) rank)
+        (as_placing placing.now).left) }
 {
     for (at, piece) in placing.left.iter().enumerate() {
         if has_rank(alloc, setup, closing, placing, rank, piece)? {
@@ -234,7 +239,8 @@ pub fn choice(
     closing: &PlainClosing,
     placing: &PlainPlacing,
 ) -> Result<Option<usize>, AllocError>
-    ensures { IfOk result (λ at. at ≡ choice (as_setup setup.now).shape (as_closing closing.now) (as_placing placing.now)) }
+    ensures { IfOk result (λ at. at ≡ choice (as_setup setup.now).shape (as_closing closing.now)
+        (as_placing placing.now)) }
 {
     for rank in 0..u64::from(setup.seats()) + 1 {
         if let Some(at) = first_of_rank(alloc, setup, closing, placing, rank)? {
@@ -251,7 +257,8 @@ fn rows_with(
     closing: &PlainClosing,
     piece: &PlainPiece,
 ) -> Result<Vec<u64>, AllocError>
-    ensures { IfOk result (λ rows. rows.items ≡ rows_with (as_setup setup.now).shape (as_closing closing.now) (as_piece piece.now)) }
+    ensures { IfOk result (λ rows. rows.items ≡ rows_with (as_setup setup.now).shape (as_closing closing.now)
+        (as_piece piece.now)) }
 {
     match piece {
         PlainPiece::ByBucketRow(row) => one_number(alloc, *row),
@@ -288,7 +295,8 @@ pub fn place_piece(
     at: usize,
 ) -> Result<(), AllocError>
     ensures { OnOk result (as_placing placing.new
-        ≡ place_piece (as_setup setup.now).shape (as_closing closing.now) (as_placing placing.old) at (slice_get (as_placing placing.old).left at)) }
+        ≡ place_piece (as_setup setup.now).shape (as_closing closing.now) (as_placing placing.old) at
+        (slice_get (as_placing placing.old).left at)) }
 {
     if at >= placing.left.len() {
         return Ok(());
@@ -330,7 +338,8 @@ pub fn placing(
     setup: &PlainSetup,
     closing: &PlainClosing,
 ) -> Result<PlainPlacing, AllocError>
-    ensures { IfOk result (λ placing. as_placing placing ≡ placing_of (as_setup setup.now).shape (as_closing closing.now)) }
+    ensures { IfOk result (λ placing. as_placing placing ≡ placing_of (as_setup setup.now).shape
+        (as_closing closing.now)) }
 {
     let mut placing = start_of(alloc, setup, closing)?;
     let most = placing.left.len();
@@ -344,7 +353,8 @@ pub fn order(
     setup: &PlainSetup,
     closing: &PlainClosing,
 ) -> Result<Vec<PlainPlaced>, AllocError>
-    ensures { IfOk result (λ order. map as_placed order.items ≡ order_of (as_setup setup.now).shape (as_closing closing.now)) }
+    ensures { IfOk result (λ order. map as_placed order.items ≡ order_of (as_setup setup.now).shape
+        (as_closing closing.now)) }
 {
     let PlainPlacing {
         rows: _,

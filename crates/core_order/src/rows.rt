@@ -182,7 +182,8 @@ fn leaves_beside(
     row: u64,
     base: u64,
 ) -> Result<Vec<u64>, AllocError>
-    ensures { IfOk result (λ leaves. leaves.items ≡ leaves_beside (as_setup setup.now).shape words.now row (Some base)) }
+    ensures { IfOk result (λ leaves. leaves.items ≡ leaves_beside (as_setup setup.now).shape words.now row
+        (Some base)) }
 {
     let named = each_once(alloc, directory_entries(setup, words, row))?;
     let mut leaves = Vec::new(alloc);

@@ -62,7 +62,8 @@ fn saw_placed(setup: &PlainSetup, order: &[PlainPlaced], placed: &PlainPlaced) -
 
 /// Whether each of these calls may come next.
 pub(crate) fn are_next(setup: &PlainSetup, order: &[PlainPlaced], calls: &[PlainPlaced]) -> bool
-    ensures { result ≡ list_all (is_next (as_setup setup.now).shape (map as_placed order.now)) (map as_placed calls.now) }
+    ensures { result ≡ list_all (is_next (as_setup setup.now).shape (map as_placed order.now))
+        (map as_placed calls.now) }
 {
     for placed in calls {
         if !is_next(setup, order, placed) {

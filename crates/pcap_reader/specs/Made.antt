@@ -1,4 +1,5 @@
--- The made capture of a number: a file head, and for each place a record whose frame follows from the number and the place.
+-- The made capture of a number: a file head, and for each place a record whose frame follows from the number and the
+-- place.
 -- Source: pcap-savefile(5) for the heads of the file and of a record; IEEE 802.3, RFC 791, RFC 9293 and RFC 768 for a
 -- frame; which frame stands at which place is this project's own, over SplitMix64. Checksums and times are 0.
 use Rattle.std.specs.Prelude.{ℕ, ◌+◌, ◌*◌, ◌/◌, ◌%◌, ◌^◌, nat_lt, if◌then◌else◌, List, [], ◌∷◌, ◌++◌, length, replicate}

@@ -73,7 +73,8 @@ pub record IsLaidFlat (l : Settings) (words : List ℕ) (m : Memory) : Type 0 wh
   pub same : (a : Address) → Within l a → get_or words (place_of l a) 0 ≡ read m a
 
 -- a store, in the list and in the memory
-pub laid_flat_write : (l : Settings) (words : List ℕ) (m : Memory) (a : Address) (w : ℕ) → Within l a → IsLaidFlat l words m →
+pub laid_flat_write : (l : Settings) (words : List ℕ) (m : Memory) (a : Address) (w : ℕ) → Within l a →
+    IsLaidFlat l words m →
     IsLaidFlat l (set words (place_of l a) w) (write m a w)
 laid_flat_write l words m a w h s = record {
   long = length-set words (place_of l a) w ∙ s.long;

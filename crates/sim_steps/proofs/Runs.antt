@@ -103,9 +103,11 @@ found_same l (Store to word) words m t s = refl
 found_same l (Exchange old new) words m t s = s.same Root tt
 
 -- and go on as one
-laid_flat_after : (l : Settings) (a : Ask) (words : List ℕ) (m : Memory) → Within l (address_of a) → IsLaidFlat l words m →
+laid_flat_after : (l : Settings) (a : Ask) (words : List ℕ) (m : Memory) → Within l (address_of a) →
+    IsLaidFlat l words m →
     IsLaidFlat l (set words (place_of l (address_of a)) (becomes a (word_on l a words))) (memory_after a m)
-laid_flat_after l (Load from) words m t s = subst (λ ws. IsLaidFlat l ws m) (sym (set-get_or words (place_of l from) 0)) s
+laid_flat_after l (Load from) words m t s =
+    subst (λ ws. IsLaidFlat l ws m) (sym (set-get_or words (place_of l from) 0)) s
 laid_flat_after l (Store to word) words m t s = laid_flat_write l words m to word t s
 laid_flat_after l (Exchange old new) words m t s =
     let same : get_or words 0 0 ≡ m.root = s.same Root tt in

@@ -343,8 +343,8 @@ impl Program {
         }
     }
 
-    // The exchange of the root told this word. Won, the add is answered from the row that was made; or else the next turn
-    // begins.
+    // The exchange of the root told this word. Won, the add is answered from the row that was made; or else the next
+    // turn begins.
     fn take_exchange(&mut self, turn: u64, root: u64, word: u64)
         requires kept { IsKept self.old }
         requires stage { self.old.stage ≡ Stage.Publish turn root }

@@ -128,7 +128,8 @@ among_else c run e d i t (x ∷ xs) by now z a =
       | inl is ↦ absurd (omega (arith, same_seat x.0 i is, z))
       | inr ne ↦
           (let far : is_at e.seat x.0 ≡ 0 = other_seat e.seat x.0 (λ h. ne (sym h ∙ by)) in
-          let count : events_of x.0 (run ++ e ∷ []) ≡ events_of x.0 x.2 = omega (arith, own-snoc x.0 run e, a.4, far) in (
+          let count : events_of x.0 (run ++ e ∷ []) ≡ events_of x.0 x.2 =
+          omega (arith, own-snoc x.0 run e, a.4, far) in (
             a.0,
             a.1,
             ap (λ (ss : List Seat). get_or ss x.0 resting) now

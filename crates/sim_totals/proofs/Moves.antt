@@ -151,7 +151,8 @@ module _ (c : Settings) where
 
   -- an exchange by its two values
   pub exchanges : (slots id : ℕ) (x : Add) (old new : ℕ) (m : M) → AsksFor x (Exchange old new) m
-      → Allows (ShowsRun c) slots id m (place_of m.0.settings Root) (λ n. either (eqb n old) new n) (λ n u. Moved x m n u)
+      → Allows (ShowsRun c) slots id m (place_of m.0.settings Root) (λ n. either (eqb n old) new n)
+      (λ n u. Moved x m n u)
   exchanges slots id x old new m h =
       subst (λ (f : ℕ → ℕ). Allows (ShowsRun c) slots id m (place_of m.0.settings Root) f (λ n u. Moved x m n u))
       (λ k n. either_is (eqb n old) new n k) (moves slots id x (Exchange old new) m h)

@@ -66,7 +66,8 @@ impl<S: Server> Worker<S> {
 fn outcome_of<S: Server>(server: &mut S, packet: u32, call: Call) -> Outcome
     requires askable { IsAskable call }
     requires countable { CanCount (S.answered server.old) }
-    ensures { ComesTo S.answered S.spent S.rows S.need S.stays ((packet, call) ∷ []) (result ∷ []) server.old server.new }
+    ensures { ComesTo S.answered S.spent S.rows S.need S.stays ((packet, call) ∷ []) (result ∷ [])
+        server.old server.new }
 {
     match server.serve(packet, &call) {
         Ok(record) => Outcome::Answered(record),
@@ -125,11 +126,13 @@ fn serve_from<R: Threads + Sync, S: Server + Send, G: Gate + Sync>(
     join_mut(
         rt,
         &mut ||
-            requires { IsSync R.row × IsSync G.row × (first + length front.now ≤ 8) × All (IsReady S.answered) front.now }
+            requires { IsSync R.row × IsSync G.row × (first + length front.now ≤ 8)
+                × All (IsReady S.answered) front.now }
             ensures { AllZip (IsDone S.answered S.spent S.rows S.need S.stays) front.entry.now front.exit.now }
         { serve_from(rt, first, front, gate) },
         &mut ||
-            requires { IsSync R.row × IsSync G.row × (second + length back.now ≤ 8) × All (IsReady S.answered) back.now }
+            requires { IsSync R.row × IsSync G.row × (second + length back.now ≤ 8)
+                × All (IsReady S.answered) back.now }
             ensures { AllZip (IsDone S.answered S.spent S.rows S.need S.stays) back.entry.now back.exit.now }
         { serve_from(rt, second, back, gate) },
     );

@@ -8,4 +8,5 @@ pub returns : goal.returns
 returns c =
     let inside : c.args.i < c.args.setup.now.layout.settings.items = rw (← c.settings.ensures) (omega arith) in
     c.bucket_row_word.ensures
-    ∙ item_word-inside (bucket_spelling (as_setup c.args.setup.now).shape c.args.words.now c.args.row) c.args.setup.now.layout.settings.items c.args.i c.args.j inside (omega arith)
+    ∙ item_word-inside (bucket_spelling (as_setup c.args.setup.now).shape c.args.words.now c.args.row)
+    c.args.setup.now.layout.settings.items c.args.i c.args.j inside (omega arith)

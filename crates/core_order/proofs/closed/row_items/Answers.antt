@@ -10,5 +10,7 @@ pub loop-i-preserved : goal.loop-i-preserved
 loop-i-preserved c =
     c.in_ok-push.ensures.items
     ∙ ap (λ (items : List Pair). items ++ c.item_at.result ∷ []) c.loop-i.invariant
-    ∙ ap (λ (x : Pair). map (item_of (as_setup c.args.setup.now) c.args.words.now c.args.row) (range_with_len 0 c.loop-i.i) ++ x ∷ []) c.item_at.ensures
-    ∙ sym (map-range_with_len_more (item_of (as_setup c.args.setup.now) c.args.words.now c.args.row) 0 c.loop-i.i c.loop-i.i (omega arith))
+    ∙ ap (λ (x : Pair). map (item_of (as_setup c.args.setup.now) c.args.words.now c.args.row)
+    (range_with_len 0 c.loop-i.i) ++ x ∷ []) c.item_at.ensures
+    ∙ sym (map-range_with_len_more (item_of (as_setup c.args.setup.now) c.args.words.now c.args.row)
+    0 c.loop-i.i c.loop-i.i (omega arith))

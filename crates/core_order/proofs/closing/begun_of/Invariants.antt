@@ -6,5 +6,6 @@ use Rattle.core_order.proofs.closing.begun_of.Given as goal
 
 abbrev pub invariant-loop-number : goal.invariant-loop-number
 invariant-loop-number l =
-    l.begun.items ++ flat_map (λ numbered. begun_by numbered.0 numbered.1.stand) (enumerate_from l.number (map as_seat (drop l.number l.seats)))
+    l.begun.items ++ flat_map (λ numbered. begun_by numbered.0 numbered.1.stand)
+    (enumerate_from l.number (map as_seat (drop l.number l.seats)))
     ≡ flat_map (λ numbered. begun_by numbered.0 numbered.1.stand) (enumerate_from 0 (map as_seat l.seats))

@@ -12,10 +12,14 @@ returns-then-len c = λ (can : CanBeTold (as_world c.args.world.now)).
     elim c.then-len.branch [
       | then-len-via-then-len w ↦ omega (arith, can.seats, length-map c.args.world.now.seats.items as_seat)
       | then-len-via-else-len+then-not-each_saw_few w ↦
-          absurd (false≢true (sym w.if-not-each_saw_few.true ∙ w.each_saw_few.ensures.1 (few-plain c.args.world.now.seats.items w.deref.result.now w.deref.ensures.value can.seen)))
+          absurd (false≢true (sym w.if-not-each_saw_few.true
+          ∙ w.each_saw_few.ensures.1 (few-plain c.args.world.now.seats.items w.deref.result.now
+          w.deref.ensures.value can.seen)))
     ]
 
 pub returns : goal.returns
 returns c =
-    closing-is c.args.world.now c.deref-2.result.now c.in_ok-words.words.items c.deref-3.result.now c.deref-4.result.now c.in_ok-records.records.items c.in_ok-begun.begun.items
-    c.deref-2.ensures.value c.deref-3.ensures.value c.deref-4.ensures.value c.in_ok-words.ensures.items c.in_ok-records.ensures c.in_ok-begun.ensures
+    closing-is c.args.world.now c.deref-2.result.now c.in_ok-words.words.items c.deref-3.result.now c.deref-4.result.now
+    c.in_ok-records.records.items c.in_ok-begun.begun.items
+    c.deref-2.ensures.value c.deref-3.ensures.value c.deref-4.ensures.value c.in_ok-words.ensures.items
+    c.in_ok-records.ensures c.in_ok-begun.ensures

@@ -8,5 +8,6 @@ use Rattle.core_order.proofs.pieces.exchanged_rows.Given as goal
 
 abbrev pub invariant-loop-row : goal.invariant-loop-row
 invariant-loop-row l =
-    map as_piece l.pieces.items ++ map ByBucketRow (filter (is_exchanged (as_setup l.setup).shape l.words) (drop l.row-index l.row-items))
+    map as_piece l.pieces.items ++ map ByBucketRow
+    (filter (is_exchanged (as_setup l.setup).shape l.words) (drop l.row-index l.row-items))
     ≡ map ByBucketRow (filter (is_exchanged (as_setup l.setup).shape l.words) l.row-items)

@@ -5,4 +5,5 @@ use Rattle.core_order.proofs.pieces.new_in_rows.Given as goal
 
 abbrev pub invariant-loop-row : goal.invariant-loop-row
 invariant-loop-row l =
-    new_in_rows (as_setup l.setup).shape l.words (drop l.row-index l.rows) l.seat ≡ new_in_rows (as_setup l.setup).shape l.words l.rows l.seat
+    new_in_rows (as_setup l.setup).shape l.words (drop l.row-index l.rows) l.seat ≡ new_in_rows
+    (as_setup l.setup).shape l.words l.rows l.seat

@@ -12,14 +12,17 @@ use Rattle.core_order.proofs.pieces.updates_in_rows.Goals.{in-Some+in_ok-push, i
 
 pub loop-seat-init : goal.loop-seat-init
 loop-seat-init c =
-    ap (map as_placed) c.new-updates.ensures.items ∙ sym (updates_below-none (as_setup c.args.setup.now) (as_closing c.args.closing.now) c.args.rows.now)
+    ap (map as_placed) c.new-updates.ensures.items
+    ∙ sym (updates_below-none (as_setup c.args.setup.now) (as_closing c.args.closing.now) c.args.rows.now)
 
 pub loop-seat-preserved : goal.loop-seat-preserved
 loop-seat-preserved c =
     let piece : Option PlainPlaced → List Placed = λ update. option_to_list (option_map as_placed update) in
-    let step = λ (then : List Placed) (more : then ≡ map as_placed c.loop-seat.updates.items ++ piece c.update_in_rows.result).
+    let step = λ (then : List Placed) (more : then ≡ map as_placed c.loop-seat.updates.items
+    ++ piece c.update_in_rows.result).
     updates_below-more (as_setup c.args.setup.now) (as_closing c.args.closing.now) c.args.rows.now c.loop-seat.seat
-    (map as_placed c.loop-seat.updates.items) then (piece c.update_in_rows.result) c.update_in_rows.ensures more c.loop-seat.invariant in
+    (map as_placed c.loop-seat.updates.items) then (piece c.update_in_rows.result)
+    c.update_in_rows.ensures more c.loop-seat.invariant in
     elim c.match-update_in_rows.branch [
       | in-Some+in_ok-push w ↦
           step (map as_placed c.match-update_in_rows.updates.items)
@@ -38,5 +41,6 @@ pub returns : goal.returns
 returns c =
     let all : c.loop-seat.seat ≡ seats_of (as_setup c.args.setup.now) = omega arith in
     c.loop-seat.invariant
-    ∙ ap (λ (seat : ℕ). updates_below (as_setup c.args.setup.now) (as_closing c.args.closing.now) c.args.rows.now seat) all
+    ∙ ap (λ (seat : ℕ). updates_below (as_setup c.args.setup.now) (as_closing c.args.closing.now) c.args.rows.now seat)
+    all
     ∙ updates_below-all (as_setup c.args.setup.now) (as_closing c.args.closing.now) c.args.rows.now

@@ -5,4 +5,5 @@ use Rattle.core_order.proofs.PieceLemmas.{updates_below}
 use Rattle.core_order.proofs.pieces.updates_in_rows.Given as goal
 
 abbrev pub invariant-loop-seat : goal.invariant-loop-seat
-invariant-loop-seat l = map as_placed l.updates.items ≡ updates_below (as_setup l.setup) (as_closing l.closing) l.rows l.seat
+invariant-loop-seat l = map as_placed l.updates.items ≡ updates_below (as_setup l.setup) (as_closing l.closing)
+    l.rows l.seat

@@ -12,7 +12,8 @@ returns-in-Some c =
     let closing = c.args.closing.now in
     let p = is_call c.args.seat c.args.number in
     let found : find p (map answered closing.records.items) ≡ Some (answered c.in-Some.record) =
-    ap (λ (rs : List Record). find p (map answered rs)) (sym c.deref.ensures.value) ∙ sym c.record_of.ensures ∙ ap (option_map answered) c.in-Some.is in
+    ap (λ (rs : List Record). find p (map answered rs)) (sym c.deref.ensures.value) ∙ sym c.record_of.ensures
+    ∙ ap (option_map answered) c.in-Some.is in
     sym (find-front p (map answered closing.records.items) (map pending closing.begun.items) _ found)
 
 pub returns-in-Some-pending_of : goal.returns-in-Some-pending_of
@@ -20,9 +21,11 @@ returns-in-Some-pending_of c =
     let closing = c.args.closing.now in
     let p = is_call c.args.seat c.args.number in
     let none : find p (map answered closing.records.items) ≡ None =
-    ap (λ (rs : List Record). find p (map answered rs)) (sym c.deref.ensures.value) ∙ sym c.record_of.ensures ∙ ap (option_map answered) c.in-None.is in
+    ap (λ (rs : List Record). find p (map answered rs)) (sym c.deref.ensures.value) ∙ sym c.record_of.ensures
+    ∙ ap (option_map answered) c.in-None.is in
     let found : find p (map pending closing.begun.items) ≡ Some (pending c.in-Some-pending_of.pending) =
-    ap (λ (ps : List Pending). find p (map pending ps)) (sym c.deref-in-None.ensures.value) ∙ sym c.pending_of.ensures ∙ ap (option_map pending) c.in-Some-pending_of.is in
+    ap (λ (ps : List Pending). find p (map pending ps)) (sym c.deref-in-None.ensures.value) ∙ sym c.pending_of.ensures
+    ∙ ap (option_map pending) c.in-Some-pending_of.is in
     sym (find-back p (map answered closing.records.items) (map pending closing.begun.items) none ∙ found)
 
 pub returns-in-None-pending_of : goal.returns-in-None-pending_of
@@ -30,7 +33,9 @@ returns-in-None-pending_of c =
     let closing = c.args.closing.now in
     let p = is_call c.args.seat c.args.number in
     let none : find p (map answered closing.records.items) ≡ None =
-    ap (λ (rs : List Record). find p (map answered rs)) (sym c.deref.ensures.value) ∙ sym c.record_of.ensures ∙ ap (option_map answered) c.in-None.is in
+    ap (λ (rs : List Record). find p (map answered rs)) (sym c.deref.ensures.value) ∙ sym c.record_of.ensures
+    ∙ ap (option_map answered) c.in-None.is in
     let none_begun : find p (map pending closing.begun.items) ≡ None =
-    ap (λ (ps : List Pending). find p (map pending ps)) (sym c.deref-in-None.ensures.value) ∙ sym c.pending_of.ensures ∙ ap (option_map pending) c.in-None-pending_of.is in
+    ap (λ (ps : List Pending). find p (map pending ps)) (sym c.deref-in-None.ensures.value) ∙ sym c.pending_of.ensures
+    ∙ ap (option_map pending) c.in-None-pending_of.is in
     sym (find-back p (map answered closing.records.items) (map pending closing.begun.items) none ∙ none_begun)

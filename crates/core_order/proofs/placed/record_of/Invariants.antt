@@ -6,4 +6,5 @@ use Rattle.core_order.proofs.placed.record_of.Given as goal
 
 abbrev pub invariant-loop-record : goal.invariant-loop-record
 invariant-loop-record l =
-    find (is_call l.seat l.number) (map answered (drop l.record-index l.records)) ≡ find (is_call l.seat l.number) (map answered l.records)
+    find (is_call l.seat l.number) (map answered (drop l.record-index l.records)) ≡ find (is_call l.seat l.number)
+    (map answered l.records)

@@ -8,5 +8,7 @@ use Rattle.core_order.proofs.placement.are_done.Given as goal
 
 abbrev pub invariant-loop-row : goal.invariant-loop-row
 invariant-loop-row l =
-    list_all (λ first. is_done (as_closing l.closing) (as_placing l.placing) (bucket_row (as_setup l.setup).shape (as_closing l.closing).words first).base) (drop l.row-index l.rows)
-    ≡ list_all (λ first. is_done (as_closing l.closing) (as_placing l.placing) (bucket_row (as_setup l.setup).shape (as_closing l.closing).words first).base) l.rows
+    list_all (λ first. is_done (as_closing l.closing) (as_placing l.placing)
+    (bucket_row (as_setup l.setup).shape (as_closing l.closing).words first).base) (drop l.row-index l.rows)
+    ≡ list_all (λ first. is_done (as_closing l.closing) (as_placing l.placing)
+    (bucket_row (as_setup l.setup).shape (as_closing l.closing).words first).base) l.rows

@@ -7,5 +7,6 @@ use Rattle.core_order.proofs.placement.choice.Given as goal
 
 abbrev pub invariant-loop-rank : goal.invariant-loop-rank
 invariant-loop-rank l =
-    choice_from (as_setup l.setup).shape (as_closing l.closing) (as_placing l.placing) l.rank (seats_of (as_setup l.setup) + 1 - l.rank)
+    choice_from (as_setup l.setup).shape (as_closing l.closing) (as_placing l.placing) l.rank
+    (seats_of (as_setup l.setup) + 1 - l.rank)
     ≡ choice (as_setup l.setup).shape (as_closing l.closing) (as_placing l.placing)

@@ -7,5 +7,6 @@ use Rattle.core_order.proofs.placement.opening_rows.Given as goal
 
 abbrev pub invariant-loop-row : goal.invariant-loop-row
 invariant-loop-row l =
-    l.rows.items ++ filter (λ row. option_map_or (λ _. false) (bucket_row (as_setup l.setup).shape l.words row).base true) (drop l.row-index l.row-items)
+    l.rows.items ++ filter (λ row. option_map_or
+    (λ _. false) (bucket_row (as_setup l.setup).shape l.words row).base true) (drop l.row-index l.row-items)
     ≡ filter (λ row. option_map_or (λ _. false) (bucket_row (as_setup l.setup).shape l.words row).base true) l.row-items

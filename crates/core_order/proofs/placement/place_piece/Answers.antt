@@ -20,19 +20,32 @@ returns c =
     let inside : c.args.at < length left = omega arith in
     let next : suc c.args.at ≡ c.args.at + 1 = omega arith in
     let found : slice_get (map as_piece left) c.args.at ≡ Some (as_piece piece) =
-    slice_get-map as_piece left c.args.at ∙ ap (λ (o : Option PlainPiece). option_map as_piece o) (slice_get-get_or left c.args.at piece inside ∙ ap (λ (x : PlainPiece). Some x) (sym c.remove-piece.ensures.value)) in
-    let of_left : map as_piece c.remove-piece.new.self.items ≡ take c.args.at (map as_piece left) ++ drop (c.args.at + 1) (map as_piece left) =
-    ap (map as_piece) c.remove-piece.ensures.items ∙ map-append as_piece (take c.args.at left) (drop (suc c.args.at) left)
+    slice_get-map as_piece left c.args.at
+    ∙ ap (λ (o : Option PlainPiece). option_map as_piece o) (slice_get-get_or left c.args.at piece inside
+    ∙ ap (λ (x : PlainPiece). Some x) (sym c.remove-piece.ensures.value)) in
+    let of_left : map as_piece c.remove-piece.new.self.items ≡ take c.args.at (map as_piece left)
+    ++ drop (c.args.at + 1) (map as_piece left) =
+    ap (map as_piece) c.remove-piece.ensures.items
+    ∙ map-append as_piece (take c.args.at left) (drop (suc c.args.at) left)
     ∙ ap (λ (xs : List Piece). xs ++ map as_piece (drop (suc c.args.at) left)) (sym (take-map as_piece c.args.at left))
     ∙ ap (λ (xs : List Piece). take c.args.at (map as_piece left) ++ xs) (sym (drop-map as_piece (suc c.args.at) left))
     ∙ ap (λ (n : ℕ). take c.args.at (map as_piece left) ++ drop n (map as_piece left)) next in
-    let of_order : map as_placed c.extend_from_slice.new.self.items ≡ map as_placed placing.order.items ++ calls_in setup.shape closing (as_piece piece) =
-    ap (map as_placed) (c.in_ok-extend_from_slice.ensures.items ∙ ap (λ (xs : List PlainPlaced). placing.order.items ++ xs) c.deref.ensures.value)
+    let of_order : map as_placed c.extend_from_slice.new.self.items ≡ map as_placed placing.order.items
+    ++ calls_in setup.shape closing (as_piece piece) =
+    ap (map as_placed) (c.in_ok-extend_from_slice.ensures.items
+    ∙ ap (λ (xs : List PlainPlaced). placing.order.items ++ xs) c.deref.ensures.value)
     ∙ map-append as_placed placing.order.items c.in_ok-calls.calls.items
     ∙ ap (λ xs. map as_placed placing.order.items ++ xs) c.in_ok-calls.ensures in
-    let of_rows : c.extend_from_slice-2.new.self.items ≡ placing.rows.items ++ rows_with setup.shape closing (as_piece piece) =
-    c.in_ok-extend_from_slice-2.ensures.items ∙ ap (λ (xs : List ℕ). placing.rows.items ++ xs) (c.deref-2.ensures.value ∙ c.in_ok-rows.ensures) in
-    let of_directories : c.extend_from_slice-3.new.self.items ≡ placing.directories.items ++ directories_with (as_piece piece) =
-    c.in_ok-extend_from_slice-3.ensures.items ∙ ap (λ (xs : List ℕ). placing.directories.items ++ xs) (c.deref-3.ensures.value ∙ c.in_ok-directories.ensures) in
-    placed-is setup closing (as_placing placing) c.args.at (slice_get (map as_piece left) c.args.at) (as_piece piece) c.extend_from_slice-2.new.self.items c.extend_from_slice-3.new.self.items
-    (map as_placed c.extend_from_slice.new.self.items) (map as_piece c.remove-piece.new.self.items) found of_rows of_directories of_order of_left
+    let of_rows : c.extend_from_slice-2.new.self.items ≡ placing.rows.items
+    ++ rows_with setup.shape closing (as_piece piece) =
+    c.in_ok-extend_from_slice-2.ensures.items
+    ∙ ap (λ (xs : List ℕ). placing.rows.items ++ xs) (c.deref-2.ensures.value ∙ c.in_ok-rows.ensures) in
+    let of_directories : c.extend_from_slice-3.new.self.items ≡ placing.directories.items
+    ++ directories_with (as_piece piece) =
+    c.in_ok-extend_from_slice-3.ensures.items
+    ∙ ap (λ (xs : List ℕ). placing.directories.items ++ xs) (c.deref-3.ensures.value ∙ c.in_ok-directories.ensures)
+    in
+    placed-is setup closing (as_placing placing) c.args.at (slice_get (map as_piece left) c.args.at) (as_piece piece)
+    c.extend_from_slice-2.new.self.items c.extend_from_slice-3.new.self.items
+    (map as_placed c.extend_from_slice.new.self.items) (map as_piece c.remove-piece.new.self.items)
+    found of_rows of_directories of_order of_left

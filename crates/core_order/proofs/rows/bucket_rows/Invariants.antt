@@ -6,5 +6,7 @@ use Rattle.core_order.proofs.rows.bucket_rows.Given as goal
 
 abbrev pub invariant-loop-bucket : goal.invariant-loop-bucket
 invariant-loop-bucket l =
-    l.rows.items ++ flat_map (λ bucket. bucket_line (as_setup l.setup).shape l.words (Some (row_of (as_setup l.setup).shape l.words bucket))) (drop l.bucket-index l.bucket-items)
-    ≡ flat_map (λ bucket. bucket_line (as_setup l.setup).shape l.words (Some (row_of (as_setup l.setup).shape l.words bucket))) l.bucket-items
+    l.rows.items ++ flat_map (λ bucket. bucket_line (as_setup l.setup).shape l.words
+    (Some (row_of (as_setup l.setup).shape l.words bucket))) (drop l.bucket-index l.bucket-items)
+    ≡ flat_map (λ bucket. bucket_line (as_setup l.setup).shape l.words
+    (Some (row_of (as_setup l.setup).shape l.words bucket))) l.bucket-items

@@ -9,11 +9,15 @@ use Rattle.core_order.proofs.rows.directory_line.Goals as goal
 pub returns-in_default : goal.returns-in_default
 returns-in_default c =
     let setup = as_setup c.args.setup.now in
-    line-ends (λ r. (directory_row setup.shape c.args.words.now r).base) (count_of setup.shape DirRows - c.loop.counter) c.loop.next c.loop.line.items _ c.in_default.is c.loop.invariant
+    line-ends (λ r. (directory_row setup.shape c.args.words.now r).base) (count_of setup.shape DirRows - c.loop.counter)
+    c.loop.next c.loop.line.items _ c.in_default.is c.loop.invariant
 
 pub loop-preserved : goal.loop-preserved
 loop-preserved c =
     let setup = as_setup c.args.setup.now in
     let inside : c.loop.counter < count_of setup.shape DirRows = omega arith in
-    line-goes (λ r. (directory_row setup.shape c.args.words.now r).base) (count_of setup.shape DirRows) c.loop.counter c.in-Some.row c.loop.next _
-    c.loop.line.items (directory_line setup.shape c.args.words.now c.args.row) c.push.new.self.items inside c.in-Some.is c.directory_base-next.ensures c.in_ok-push.ensures.items c.loop.invariant
+    line-goes (λ r. (directory_row setup.shape c.args.words.now r).base) (count_of setup.shape DirRows)
+    c.loop.counter c.in-Some.row c.loop.next _
+    c.loop.line.items (directory_line setup.shape c.args.words.now c.args.row)
+    c.push.new.self.items inside c.in-Some.is c.directory_base-next.ensures c.in_ok-push.ensures.items
+    c.loop.invariant

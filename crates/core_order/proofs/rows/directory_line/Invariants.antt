@@ -8,5 +8,6 @@ use Rattle.core_order.proofs.rows.directory_line.Given as goal
 abbrev pub invariant-loop : goal.invariant-loop
 invariant-loop l =
     l.line.items
-    ++ line (λ r. (directory_row (as_setup l.setup).shape l.words r).base) (count_of (as_setup l.setup).shape DirRows - l.counter) l.next
+    ++ line (λ r. (directory_row (as_setup l.setup).shape l.words r).base)
+    (count_of (as_setup l.setup).shape DirRows - l.counter) l.next
     ≡ directory_line (as_setup l.setup).shape l.words l.fn.row

@@ -7,11 +7,13 @@ use Rattle.core_order.proofs.rows.each_once.Goals.{then-not-contains+in_ok-push,
 pub loop-i-preserved : goal.loop-i-preserved
 loop-i-preserved c = elim c.if-not-contains.branch [
   | then-not-contains+in_ok-push w ↦
-      each_once-kept c.args.numbers.now c.loop-i.i c.loop-i.once.items (each_once c.args.numbers.now) c.if-not-contains.once.items c.loop-i-test.true
+      each_once-kept c.args.numbers.now c.loop-i.i c.loop-i.once.items (each_once c.args.numbers.now)
+      c.if-not-contains.once.items c.loop-i-test.true
       (sym c.contains.ensures.value ∙ w.if-not-contains.true)
       (ap (λ (v : Vec ℕ Global). v.items) w.once-is ∙ w.in_ok-push.ensures.items) c.loop-i.invariant
   | else-not-contains w ↦
-      each_once-left c.args.numbers.now c.loop-i.i c.loop-i.once.items (each_once c.args.numbers.now) c.if-not-contains.once.items c.loop-i-test.true
+      each_once-left c.args.numbers.now c.loop-i.i c.loop-i.once.items (each_once c.args.numbers.now)
+      c.if-not-contains.once.items c.loop-i-test.true
       (sym c.contains.ensures.value ∙ w.if-not-contains.false)
       (ap (λ (v : Vec ℕ Global). v.items) w.once-is) c.loop-i.invariant
 ]

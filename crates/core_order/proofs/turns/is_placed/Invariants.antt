@@ -6,4 +6,5 @@ use Rattle.core_order.proofs.turns.is_placed.Given as goal
 
 abbrev pub invariant-loop-placed : goal.invariant-loop-placed
 invariant-loop-placed l =
-    list_any (is_call l.seat l.number) (map as_placed (drop l.placed-index l.order)) ≡ list_any (is_call l.seat l.number) (map as_placed l.order)
+    list_any (is_call l.seat l.number) (map as_placed (drop l.placed-index l.order)) ≡ list_any
+    (is_call l.seat l.number) (map as_placed l.order)

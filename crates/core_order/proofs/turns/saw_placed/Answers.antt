@@ -13,7 +13,8 @@ returns-then-not-are_placed c =
     let f : ℕ → Bool = λ seat. are_placed order (seen_of (as_placed c.args.placed.now) seat) seat in
     let seats : ℕ = seats_of (as_setup c.args.setup.now) in
     let seat : ℕ = c.loop-seat.seat in
-    let fails : f seat ≡ false = ap (λ (many : ℕ). are_placed order many seat) (sym c.seen.ensures) ∙ sym c.are_placed.ensures ∙ c.if-not-are_placed.true in
+    let fails : f seat ≡ false = ap (λ (many : ℕ). are_placed order many seat) (sym c.seen.ensures)
+    ∙ sym c.are_placed.ensures ∙ c.if-not-are_placed.true in
     sym (range-stops f seat (seats - seat) (seats - (seat + 1)) (omega arith) fails) ∙ c.loop-seat.invariant
 
 pub loop-seat-preserved : goal.loop-seat-preserved
@@ -22,5 +23,6 @@ loop-seat-preserved c =
     let f : ℕ → Bool = λ seat. are_placed order (seen_of (as_placed c.args.placed.now) seat) seat in
     let seats : ℕ = seats_of (as_setup c.args.setup.now) in
     let seat : ℕ = c.loop-seat.seat in
-    let holds : f seat ≡ true = ap (λ (many : ℕ). are_placed order many seat) (sym c.seen.ensures) ∙ sym c.are_placed.ensures ∙ c.if-not-are_placed.false in
+    let holds : f seat ≡ true = ap (λ (many : ℕ). are_placed order many seat) (sym c.seen.ensures)
+    ∙ sym c.are_placed.ensures ∙ c.if-not-are_placed.false in
     sym (range-goes f seat (seats - seat) (seats - (seat + 1)) (omega arith) holds) ∙ c.loop-seat.invariant

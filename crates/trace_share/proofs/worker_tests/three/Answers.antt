@@ -12,7 +12,8 @@ serve_all-requires-clause-ready g c κs within =
     let two : W = c.in_ok-worker_of-2.field-0 in
     let three : W = c.in_ok-worker_of-3.field-0 in
     let R : W → Type 0 = IsReady (λ s. s.answered.items) in
-    let items : c.push_reserved-3.new.self.items ≡ ((c.in_ok-workers.workers.items ++ one ∷ []) ++ two ∷ []) ++ three ∷ [] =
+    let items : c.push_reserved-3.new.self.items ≡ ((c.in_ok-workers.workers.items ++ one ∷ []) ++ two ∷ [])
+    ++ three ∷ [] =
     c.push_reserved-3.ensures.items
     ∙ (λ i. (c.push_reserved-2.ensures.items i) ++ three ∷ [])
     ∙ (λ i. ((c.push_reserved.ensures.items i) ++ two ∷ []) ++ three ∷ []) in
