@@ -21,6 +21,7 @@ use step_counts::SeatRows;
 
 // The bucket tries of a round, two and a look: the reply with its row, or none where a directory try is next; and how
 // many steps they took.
+#[inline(always)]
 fn try_buckets<S: Steps>(
     steps: &mut S,
     desk: &Desk,
@@ -54,6 +55,8 @@ fn try_buckets<S: Steps>(
 
 // The directory tries of a round, two at most: the reply with its row, or none where the round is left; and how many
 // steps they took.
+#[cold]
+#[inline(never)]
 fn try_directories<S: Steps>(
     steps: &mut S,
     desk: &Desk,
@@ -96,6 +99,7 @@ fn try_directories<S: Steps>(
 }
 
 /// A whole round: the reply with its row, or none where the round is left; and how many steps it took.
+#[inline(always)]
 pub fn try_round<S: Steps>(
     steps: &mut S,
     desk: &Desk,

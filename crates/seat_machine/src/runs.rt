@@ -6,6 +6,7 @@ ghost use Rattle.seat_machine.specs.Going.{AllFit, Reads, Writes, goes_by};
 use crate::steps::Steps;
 
 /// Loads words one after the other.
+#[inline(always)]
 pub fn load_run<S: Steps>(steps: &mut S, start: u64, row: &mut [u64])
     requires reads { Reads (S.now steps.old) start (length row.old) }
     requires room { start + length row.old < 2 ^ 64 }
@@ -19,6 +20,7 @@ pub fn load_run<S: Steps>(steps: &mut S, start: u64, row: &mut [u64])
 }
 
 /// Stores words one after the other.
+#[inline(always)]
 pub fn store_run<S: Steps>(steps: &mut S, start: u64, row: &[u64])
     requires writes { Writes (S.now steps.old) start row.now }
     requires room { start + length row.now < 2 ^ 64 }

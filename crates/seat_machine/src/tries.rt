@@ -37,6 +37,7 @@ pub enum Tried {
 }
 
 /// Loads the bucket word and the row of a try: the row, and the first row of the round.
+#[inline(always)]
 pub fn look_at<S: Steps>(
     steps: &mut S,
     desk: &Desk,
@@ -67,6 +68,7 @@ pub fn look_at<S: Steps>(
 
 /// Makes the bucket after all ops the table's, and tells how many steps that took.
 #[tactic(auto, unfolding(core_model::specs::Setup::next_number))]
+#[inline(always)]
 pub fn change_bucket<S: Steps>(
     steps: &mut S,
     desk: &Desk,
@@ -120,6 +122,7 @@ pub fn change_bucket<S: Steps>(
 }
 
 /// A whole bucket try, and how many steps it took.
+#[inline(always)]
 pub fn try_bucket<S: Steps>(
     steps: &mut S,
     desk: &Desk,
