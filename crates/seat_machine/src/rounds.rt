@@ -12,7 +12,7 @@ use crate::desk::Desk;
 use crate::directory_tries::{Changed, try_directory};
 use crate::limits::TRIES_STEPS;
 use crate::own::Own;
-use crate::room::Room;
+use crate::room::{Buffers, Room};
 use crate::steps::Steps;
 use crate::tries::{Tried, try_bucket};
 use core_model::Round;
@@ -25,6 +25,7 @@ use step_counts::SeatRows;
 fn try_buckets<S: Steps>(
     steps: &mut S,
     desk: &Desk,
+    buffers: &mut Buffers,
     own: &Own,
     used: &mut SeatRows,
     round: Round,
@@ -40,7 +41,17 @@ fn try_buckets<S: Steps>(
     let mut first = None;
     let mut spent = 0;
     'tries: loop {
-        let (tried, more) = try_bucket(steps, desk, own, used, round, turn, first);
+        let (tried, more) = try_bucket(
+            steps,
+            desk,
+            &mut buffers.words,
+            &mut buffers.ops,
+            own,
+            used,
+            round,
+            turn,
+            first,
+        );
         spent += more;
         match tried {
             Tried::Answered(reply, row) => return (Some((reply, row)), spent),
@@ -117,7 +128,7 @@ pub fn try_round<S: Steps>(
     ensures few { result.1 < 2 ^ 62 + TRIES_STEPS }
     ensures room { HasAllRoom (settings_at desk.now) room.new }
 {
-    let (answer, spent) = try_buckets(steps, desk, own, used, round);
+    let (answer, spent) = try_buckets(steps, desk, &mut room.buffers, own, used, round);
     if let Some((reply, row)) = answer {
         return (Some((reply, row)), spent);
     }
