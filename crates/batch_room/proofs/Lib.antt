@@ -1,2 +1,2 @@
-mod Logs
-mod Rooms
+pub mod Logs
+pub mod Rooms
