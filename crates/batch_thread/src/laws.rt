@@ -1,0 +1,18 @@
+//! Batches in which no two seats share a key.
+
+ghost use Rattle.batch_thread.specs.Threads.{
+  BatchesAnswerAsOneThread,
+  FlowsAreByKey,
+  OneSeatIsByKey,
+  OutcomesAreLines,
+};
+
+/// Where calls of one key are made by one seat, and each class has room for all its keys, the replies of all batches
+/// are those of one thread that makes the calls in the order of their packets, and so is what is held in the end. So it
+/// is where calls are dealt by flow, or where there is one seat.
+pub fn thread_laws()
+    ensures answers { BatchesAnswerAsOneThread }
+    ensures lines { OutcomesAreLines }
+    ensures flows { FlowsAreByKey }
+    ensures one_seat { OneSeatIsByKey }
+{}
