@@ -42,7 +42,7 @@ one_seat_is_by_key logs line one is = all_in (λ (r : Record). r.seat ≡ 0) lin
 -- ---- calls that are dealt by flow
 
 -- a record was asked
-asked_there : (log : List Outcome) (r : Record) → In r (records_in log) → In (r.packet, r.call) (map asked_in log)
+pub asked_there : (log : List Outcome) (r : Record) → In r (records_in log) → In (r.packet, r.call) (map asked_in log)
 asked_there [] r i = elim i [ ]
 asked_there (Answered made ∷ log) r (inl is) = inl (ap (λ (x : Record). (x.packet, x.call)) is)
 asked_there (Answered made ∷ log) r (inr i) = inr (asked_there log r i)
