@@ -43,12 +43,12 @@ use Rattle.core_bounds.proofs.Whole.{Calling, called}
 -- ---- the keys that came are those that events gave
 
 -- every seat is fresh at the opening, and there are as many as there are to be
-fresh_all : (n q : ℕ) → get_or (replicate n fresh_seat) q fresh_seat ≡ fresh_seat
+pub fresh_all : (n q : ℕ) → get_or (replicate n fresh_seat) q fresh_seat ≡ fresh_seat
 fresh_all zero q = refl
 fresh_all (suc n) zero = refl
 fresh_all (suc n) (suc q) = fresh_all n q
 
-long_all : (n : ℕ) → length (replicate n fresh_seat) ≡ n
+pub long_all : (n : ℕ) → length (replicate n fresh_seat) ≡ n
 long_all zero = refl
 long_all (suc n) = ap suc (long_all n)
 

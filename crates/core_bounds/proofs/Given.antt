@@ -272,7 +272,7 @@ known_happens setup w event keys long each q = go (nat_lt event.seat (seats_of s
     ]
 
 -- there are as many seats
-long_happens : (setup : Setup) (w : World) (event : Event) → length (happens setup w event).seats ≡ length w.seats
+pub long_happens : (setup : Setup) (w : World) (event : Event) → length (happens setup w event).seats ≡ length w.seats
 long_happens setup w event = go (nat_lt event.seat (seats_of setup))
   where
     acted : (stand : Stand) (begin : Option (ℕ × Call)) →

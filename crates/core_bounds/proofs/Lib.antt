@@ -29,3 +29,4 @@ pub mod Batches
 pub mod Strips
 pub mod Leftmost
 pub mod SplitCounts
+pub mod Moments

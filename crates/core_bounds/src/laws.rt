@@ -4,6 +4,7 @@ ghost use Rattle.core_model.specs.Promises.{StepsAreBounded, UpdatesAreShort, Lo
 ghost use Rattle.core_model.specs.Needs.{FewArePublished, BatchRowsSuffice};
 ghost use Rattle.core_bounds.specs.Numbers.{SpentIsUsed, RecordsAreNumbered, FlightsAreNumbered};
 ghost use Rattle.core_bounds.specs.Splits.{SplitsAreFew};
+ghost use Rattle.core_bounds.specs.Moments.{BegunAreAnswered, IdleMoments, InsertsAreOfCalls};
 
 /// Every answered call has its steps: an update at most the bound, a lookup exactly those of the items of its row. A
 /// call in flight has fewer than it may have, and ends, whatever the other seats do.
@@ -46,4 +47,13 @@ pub fn batch_laws()
 /// split.
 pub fn split_laws()
     ensures few { SplitsAreFew }
+{}
+
+/// A seat is idle after each of its answers, and has then published what it tells of that answer. And refused calls
+/// leave no trace: for every run there is one that leaves the same, and whose calls were all answered, or are going on.
+/// What a run inserts are keys of the calls that it gave its seats.
+pub fn moment_laws()
+    ensures idle { IdleMoments }
+    ensures begun { BegunAreAnswered }
+    ensures inserts { InsertsAreOfCalls }
 {}

@@ -3,4 +3,4 @@
 
 mod laws;
 
-pub use laws::{batch_laws, leaf_laws, number_laws, row_laws, split_laws, step_laws};
+pub use laws::{batch_laws, leaf_laws, moment_laws, number_laws, row_laws, split_laws, step_laws};

@@ -28,7 +28,7 @@ use Rattle.core_reading.proofs.ClosedPairs.{value_in}
 use Rattle.core_reading.proofs.HeldPairs.{pairs_are_held}
 use Rattle.core_answers.proofs.Tale.{Tale}
 use Rattle.core_answers.proofs.AllRuns.{Tells, all_tell}
-use Rattle.core_orders.specs.KeyOrder.{PairsReopenInAnyTurn, SortedPairsAreHeld}
+use Rattle.core_orders.specs.KeyOrder.{NextOpeningHasRoom, NoPairLacksRoom, PairsReopenInAnyTurn, SortedPairsAreHeld}
 use Rattle.core_orders.proofs.Calls.{in_at, at_in}
 use Rattle.core_orders.proofs.CallKeys.{AreGood, KeysAreGood, all_good, records_good, begun_good, keys_after}
 use Rattle.core_orders.proofs.AtEnd.{end_holds, pairs_are_of_order}
@@ -166,3 +166,13 @@ sorted_pairs_are_held setup events pairs run moved sorted =
     (IsPermutation-trans (pairs_of (sessions_of_order setup events))
     (closed_pairs setup.shape (world_after setup events).words) pairs
     (moved_at_end setup events run a.common a.locals a.follows a.extra a.holds) moved) sorted
+
+-- a pair that finds room is not one that finds none
+pub no_pair_lacks_room : NoPairLacksRoom
+no_pair_lacks_room rules first place room lacks =
+    omega (arith, room lacks.front lacks.back lacks.pair lacks.cut, lacks.full)
+
+-- so none of the closed pairs lacks it in the next opening
+pub next_opening_has_room : NextOpeningHasRoom
+next_opening_has_room setup events pairs place run moved =
+    no_pair_lacks_room (rules_of setup) pairs place (pairs_reopen_in_any_turn setup events pairs run moved).2

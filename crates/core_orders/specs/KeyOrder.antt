@@ -1,12 +1,13 @@
 -- The pairs of a closed table, in any turn and in the order of their keys.
-use Rattle.std.specs.Prelude.{◌≡◌, List, All, IsPermutation}
+use Rattle.std.specs.Prelude.{◌≡◌, ℕ, List, All, IsPermutation}
 use Rattle.std.specs.List.Sorted.{IsSortedByKey}
 use Rattle.plain_map.specs.declared.keys.Pair.{Pair}
+use Rattle.plain_map.specs.declared.rules.Rules.{Rules}
 use Rattle.plain_map.specs.Keys.{key_cmp}
 use Rattle.plain_map.specs.PlainObject.{pairs_of}
 use Rattle.bucket_states.specs.Parts.{HasDistinctKeys}
 use Rattle.core_model.specs.declared.events.Event.{Event}
-use Rattle.core_model.specs.Setup.{Setup, IsPair, HaveRoom, rules_of}
+use Rattle.core_model.specs.Setup.{Setup, IsPair, HaveRoom, IsFirstWithoutRoom, rules_of}
 use Rattle.core_model.specs.Worlds.{IsRun}
 use Rattle.core_model.specs.Closed.{closed_pairs, sessions_with}
 use Rattle.core_model.specs.Histories.{closed, sessions_of_order}
@@ -25,3 +26,15 @@ PairsReopenInAnyTurn =
     IsPermutation (closed_pairs setup.shape (closed setup events).words) pairs →
     All IsPair pairs × HasDistinctKeys pairs × HaveRoom (rules_of setup) pairs
     × (sessions_with (rules_of setup) pairs ≡ sessions_of_order setup events)
+
+-- of pairs that all find room, none is the first that finds none
+abbrev pub NoPairLacksRoom : Type 0
+NoPairLacksRoom =
+    (rules : Rules) (first : List Pair) (place : ℕ) → HaveRoom rules first → IsFirstWithoutRoom rules first place → ⊥
+
+-- so the next opening with the closed pairs, in whatever turn, lacks room for none
+abbrev pub NextOpeningHasRoom : Type 0
+NextOpeningHasRoom =
+    (setup : Setup) (events : List Event) (pairs : List Pair) (place : ℕ) → IsRun setup events →
+    IsPermutation (closed_pairs setup.shape (closed setup events).words) pairs →
+    IsFirstWithoutRoom (rules_of setup) pairs place → ⊥

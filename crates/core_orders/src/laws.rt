@@ -12,7 +12,12 @@ ghost use Rattle.core_model.specs.Histories.{
   PairsReopen,
 };
 ghost use Rattle.core_model.specs.Turns.{OneIsReady};
-ghost use Rattle.core_orders.specs.KeyOrder.{PairsReopenInAnyTurn, SortedPairsAreHeld};
+ghost use Rattle.core_orders.specs.KeyOrder.{
+  NextOpeningHasRoom,
+  NoPairLacksRoom,
+  PairsReopenInAnyTurn,
+  SortedPairsAreHeld,
+};
 
 /// The order that the closed words tell is never stuck, it is legal for the plain object from the first pairs on, each call
 /// stands after all that its caller had seen, and each answered call and each update that took effect stands once.
@@ -44,8 +49,11 @@ pub fn turn_laws()
 
 /// The pairs of the closed table can open the next one, in whatever turn: each can be kept, their keys are distinct and find
 /// room, and that table begins with what is held after the order. Sorted by their keys they are the pairs of what is held.
+/// So that opening lacks room for none of them.
 pub fn reopen_laws()
     ensures reopen { PairsReopen }
     ensures any_turn { PairsReopenInAnyTurn }
     ensures sorted { SortedPairsAreHeld }
+    ensures has_room { NoPairLacksRoom }
+    ensures next_has_room { NextOpeningHasRoom }
 {}

@@ -7,3 +7,4 @@ mod Seats
 mod OpeningLemmas
 mod BlankLemmas
 mod TestLemmas
+mod ClosedOrders

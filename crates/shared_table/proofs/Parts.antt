@@ -18,7 +18,7 @@ use Rattle.shared_table.specs.declared.view.View.{View}
 use Rattle.shared_table.specs.Seating.{fresh, fresh_from, whole, tail_of, head_of, others, foremost, together, spent}
 use Rattle.core_model.specs.Shown.{IsOfRun}
 use Rattle.shared_table.specs.Rule.{bundles, Holds, M, IsReached, alone}
-use Rattle.shared_table.specs.SeatValues.{SeatValue}
+use Rattle.shared_table.specs.SeatValues.{SeatValue, IsIdle}
 use Rattle.shared_table.specs.Values.{TableValue, IsOf, IsLeft, Ran, new_seat, new_seats}
 use Rattle.shared_table.specs.Calls.{Token}
 use Rattle.shared_table.specs.Gathered.{holdings, HasAll}
@@ -242,16 +242,17 @@ module _ (b : Bundle) (n : ℕ) (few : (seat : ℕ) → seat < n → times_of se
       ]
 
 -- each seat is left as its holding says
-all_left : (c : Setup) (events : List Event) (seats : List SeatValue) → All (IsOfRun c events) (holdings seats) →
-    All (IsLeft c events) seats
-all_left c events [] a = All-nil (IsLeft c events)
-all_left c events (s ∷ seats) a =
+all_left : (c : Setup) (events : List Event) (seats : List SeatValue) → All IsIdle seats →
+    All (IsOfRun c events) (holdings seats) → All (IsLeft c events) seats
+all_left c events [] idle a = All-nil (IsLeft c events)
+all_left c events (s ∷ seats) idle a =
     let r = All-head (IsOfRun c events) s.holding (holdings seats) a in
     All-cons (IsLeft c events) s seats (record {
       state = r.state;
       learned = record { later = r.later; is = r.known; counts = r.own };
+      idle = All-head IsIdle s seats idle;
     })
-    (all_left c events seats (All-tail (IsOfRun c events) s.holding (holdings seats) a))
+    (all_left c events seats (All-tail IsIdle s seats idle) (All-tail (IsOfRun c events) s.holding (holdings seats) a))
 
 -- a seat is counted alike among holdings and among seats
 count_same : (seat : ℕ) (seats : List SeatValue) →
@@ -271,9 +272,9 @@ length-holdings (s ∷ seats) = omega (arith, length-holdings seats)
 
 -- all seats that are put together leave one run
 pub ends : (c : Setup) (id : ℕ) (me : M) (seats : List SeatValue) (words : List ℕ) (slots : List (Unit {0})) →
-    length seats ≡ seats_of c →
+    length seats ≡ seats_of c → All IsIdle seats →
     me ≡ (record { bundle = holdings seats }, []) → Final (Seen (Holds c) id me.0) words slots → Ran c words seats
-ends c id me seats words slots all is f =
+ends c id me seats words slots all idle is f =
     let s : State (Unit {0}) View = f.0 in
     let r : Holds c s = f.1.0 in
     let v : View = record { bundle = holdings seats } in
@@ -290,7 +291,7 @@ ends c id me seats words slots all is f =
       events = r.events;
       is_run = r.is_run;
       words_are = sym f.2 ∙ r.same_words;
-      seats_are = all_left c r.events seats mine;
+      seats_are = all_left c r.events seats idle mine;
       once = λ seat h. sym (count_same seat seats)
           ∙ each_once (holdings seats) (seats_of c) few (seats_of c) (omega arith)
           (below_length c r.events (holdings seats) mine ∙ length-holdings seats ∙ all) seat h;
@@ -305,16 +306,24 @@ all_of-end t xs x h = All-pop (IsOf t) (xs ++ x ∷ []) xs (Some x) refl h
 
 -- one seat more is put before those that are gathered
 pub gathers : (t : TableValue) (done : List SeatValue) (x : SeatValue) (a b a' : Token) → HasAll t done a →
-    b.me ≡ alone x.holding → a'.table_id ≡ a.table_id → a'.me ≡ (together a.me.0 b.me.0, a.me.1) →
+    b.me ≡ alone x.holding → IsIdle x → a'.table_id ≡ a.table_id → a'.me ≡ (together a.me.0 b.me.0, a.me.1) →
     HasAll t (x ∷ done) a'
-gathers t done x a b a' h is table me =
+gathers t done x a b a' h is idle table me =
     let f : M → M → M = λ m k. (together m.0 k.0, m.1) in
-    record { table = table ∙ h.table; me = me ∙ (λ i. f (h.me i) (is i)) }
+    record {
+      table = table ∙ h.table;
+      me = me ∙ (λ i. f (h.me i) (is i));
+      idle = All-cons IsIdle x done idle h.idle;
+    }
 
 -- the first seat is gathered alone
 pub gathers_first : (t : TableValue) (x : SeatValue) (a : Token) → x.table_id ≡ t.table_id →
-    a.table_id ≡ x.table_id → a.me ≡ alone x.holding → HasAll t (x ∷ []) a
-gathers_first t x a table a_table me = record { table = a_table ∙ table; me = me }
+    a.table_id ≡ x.table_id → a.me ≡ alone x.holding → IsIdle x → HasAll t (x ∷ []) a
+gathers_first t x a table a_table me idle = record {
+  table = a_table ∙ table;
+  me = me;
+  idle = All-cons IsIdle x [] idle (All-nil IsIdle);
+}
 
 -- one word more of a list
 pub take_at : (l : List ℕ) (i n : ℕ) → get_elem? l i ≡ some n → take (i + 1) l ≡ take i l ++ n ∷ []

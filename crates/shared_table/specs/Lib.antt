@@ -7,3 +7,4 @@ pub mod Insides
 pub mod Gathered
 pub mod Openings
 pub mod Dirt
+pub mod Orders

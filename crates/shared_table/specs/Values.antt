@@ -14,7 +14,7 @@ use Rattle.core_model.specs.Setup.{Setup, seats_of, settings_of}
 use Rattle.core_model.specs.Worlds.{IsRun, world_after, seat_in}
 use Rattle.core_model.specs.Promises.{HasSteps, IsAnsweredBy, words_in}
 use Rattle.shared_table.specs.Seating.{fresh}
-use Rattle.shared_table.specs.SeatValues.{SeatValue, account_of}
+use Rattle.shared_table.specs.SeatValues.{SeatValue, IsIdle, account_of}
 use Rattle.shared_table.specs.Rule.{IsReached}
 use Rattle.shared_table.specs.Calls.{Learned}
 
@@ -63,10 +63,11 @@ pub record Answers (packet : ℕ) (call : Call) (was now : SeatValue) (made : Re
   pub counted : HasSteps now.holding.setup (words_in now.holding.setup now.holding.known) made
   pub of_row : IsAnsweredBy now.holding.setup (words_in now.holding.setup now.holding.known) made
 
--- the run begins with what the seat knows, has no more steps of it, and leaves it in its state
+-- the run begins with what the seat knows, has no more steps of it, and leaves it in its state, which is idle
 pub record IsLeft (setup : Setup) (events : List Event) (s : SeatValue) : Type 0 where
   pub state : s.holding.state ≡ seat_in (world_after setup events) s.holding.seat
   pub learned : Learned s.holding.seat 0 s.holding.known events
+  pub idle : IsIdle s
 
 -- one run leaves these words, and each seat to exactly one of these
 pub record Ran (setup : Setup) (words : List ℕ) (seats : List SeatValue) : Type 0 where

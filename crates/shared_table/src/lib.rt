@@ -6,6 +6,7 @@ mod caller;
 mod closed;
 mod directory;
 mod in_place;
+mod laws;
 mod opening;
 mod rule;
 mod running;
@@ -17,6 +18,7 @@ pub use caller::Caller;
 pub use closed::ClosedRows;
 pub use directory::Directory;
 pub use in_place::ClosedTable;
+pub use laws::order_laws;
 pub use running::Running;
 pub use seat::Seat;
 

@@ -18,7 +18,7 @@ ghost use Rattle.core_model.specs.Setup.{IsKey, Setup, seats_of, settings_of};
 ghost use Rattle.seat_machine.specs.Rooms.{HasAllRoom};
 ghost use Rattle.shared_table.specs.Rule.{IsReached, alone};
 ghost use Rattle.shared_table.specs.Seating.{fresh};
-ghost use Rattle.shared_table.specs.SeatValues.{account_of};
+ghost use Rattle.shared_table.specs.SeatValues.{IsIdle, account_of};
 ghost use Rattle.shared_table.specs.Values.{Answers, IsOf, IsSame, refused_at, shortage_of};
 
 use crate::directory::Directory;
@@ -244,6 +244,7 @@ pub(crate) fn seated(
 pub(crate) fn unseated(seat: Seat) -> Token
     ensures table { result.table_id ≡ seat.table_id }
     ensures me { result.me ≡ alone seat.holding }
+    ensures idle { IsIdle seat }
 {
     let Seat { badge, .. } = seat;
     badge.into_seat()

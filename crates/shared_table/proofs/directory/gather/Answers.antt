@@ -17,7 +17,7 @@ loop-seat-init c =
       e,
       o.0,
       gathers_first t c.in-Some.last c.unseated-token.result o.1.table
-          c.unseated-token.ensures.table c.unseated-token.ensures.me,
+          c.unseated-token.ensures.table c.unseated-token.ensures.me c.unseated-token.ensures.idle,
     )
 
 pub join_seat-requires : goal.join_seat-requires
@@ -48,5 +48,5 @@ loop-seat-preserved c =
       c.loop-seat.invariant.1 ∙ ap (λ (ys : List SeatValue). ys ++ done) e ∙ l,
       o.0,
       gathers t done x c.loop-seat.token c.unseated.result c.join_seat.new.seat c.loop-seat.invariant.3
-          c.unseated.ensures.me c.join_seat.ensures.0 c.join_seat.ensures.2,
+          c.unseated.ensures.me c.unseated.ensures.idle c.join_seat.ensures.0 c.join_seat.ensures.2,
     )

@@ -16,7 +16,7 @@ returns-clause-ran c =
     let ran : Ran k (slots_items c.close_with.result.words) c.args.seats.items =
     ends k c.gather-token.result.id c.gather-token.result.me c.args.seats.items
     (slots_items c.close_with.result.words) (slots_items c.close_with.result.slots) all
-    c.gather-token.ensures.me
+    c.gather-token.ensures.idle c.gather-token.ensures.me
     c.close_with.ensures.values.2 in
     subst (λ (q : Setup). Ran q (slots_items c.close_with.result.words) c.args.seats.items) same ran
 

@@ -1,0 +1,117 @@
+-- Keys, each once: what a sort and a dedup leave, and what depends on the keys alone and not on their order.
+use Rattle.std.proofs.Common.{◌≡◌, ℕ, ◌-◌, ◌^◌, ◌≤◌, Bool, true, false, cond, ◌||◌, List, [], ◌∷◌, ◌++◌, refl, sym, ap, subst, ◌∙◌, arith}
+use Rattle.std.specs.Prelude.{filter, count_by, sum_by, nat_lt, ◌&&◌, ◌==◌}
+use Rattle.std.specs.List.{IsDistinct, range_with_len, dedup, AllByRecursion as Each}
+use Rattle.std.specs.List.Sorted.{IsSorted, IsPermutation}
+use Rattle.std.specs.Ordering.{eq_by_cmp}
+use Rattle.std.proofs.lemmas.List.Folds.{list_any-append}
+use Rattle.std.proofs.lemmas.List.Kept.{Contains-dedup, Contains-from_dedup, IsStrictlySortedBy-dedup}
+use Rattle.std.proofs.lemmas.List.Sorted.{list_any-IsPermutation}
+use Rattle.std.proofs.lemmas.List.Sums.{length-filter}
+use Rattle.std.proofs.lemmas.Map.Keys.{IsDistinct-from_sorted}
+use Rattle.std.proofs.lemmas.Map.Views.{Contains-from_any, list_any-from_Contains}
+use Rattle.plain_map.specs.declared.calls.Call.{Call}
+use Rattle.plain_map.specs.declared.keys.Key.{Key}
+use Rattle.plain_map.specs.declared.keys.Pair.{Pair}
+use Rattle.plain_map.specs.declared.rules.Rules.{Rules}
+use Rattle.plain_map.specs.Keys.{key_cmp}
+use Rattle.plain_map.proofs.KeyLemmas.{keys_total}
+use Rattle.bucket_states.specs.Items.{prefix_of, same_key}
+use Rattle.bucket_states.proofs.KeyTests.{Decides-same_key, eq_by_cmp-same_key, same_key-equiv}
+use Rattle.bucket_states.specs.Parts.{keys_of}
+use Rattle.core_model.specs.Needs.{distinct_keys, crowded}
+use Rattle.core_bounds.proofs.KeyCounts.{has, has_passing, distinct_has, no_more}
+use Rattle.batch_rows.specs.BatchRows.{inserted_in_calls, splits_in_calls}
+use Rattle.batch_rows.specs.Counts.{HaveSameKeys}
+
+-- of more keys no fewer pass a test
+no_fewer : (test : Key → Bool) (few many : List Key) → ((q : Key) → has few q ≡ true → has many q ≡ true) →
+    count_by test (distinct_keys few) ≤ count_by test (distinct_keys many)
+no_fewer test few many sub =
+    let some = no_more test few (filter test (distinct_keys many)) (λ q t h. has_passing test (distinct_keys many) q
+    ∙ ap (λ b. b && has (distinct_keys many) q) t ∙ distinct_has many q ∙ sub q h) in
+    omega (arith, some, length-filter test (distinct_keys many))
+
+-- of the same keys as many pass
+pub as_many : (keys others : List Key) → HaveSameKeys keys others → (test : Key → Bool) →
+    count_by test (distinct_keys keys) ≡ count_by test (distinct_keys others)
+as_many keys others same test =
+    let less = no_fewer test keys others (λ q h. sym (same q) ∙ h) in
+    let more = no_fewer test others keys (λ q h. same q ∙ h) in
+    omega (arith, less, more)
+
+-- so the same prefixes are crowded
+pub crowded_alike : (rules : Rules) (start : ℕ) (keys others : List Key) → HaveSameKeys keys others →
+    crowded rules start keys ≡ crowded rules start others
+unfolding crowded
+crowded_alike rules start keys others same = λ i. sum_by
+    (λ depth. count_by
+    (λ prefix. nat_lt rules.items (as_many keys others same (λ key. prefix_of rules depth key == prefix) i))
+    (range_with_len 0 (2 ^ depth)))
+    (range_with_len start (rules.depth - start))
+
+-- a key that is apart from each is not among them
+apart : (key : Key) (keys : List Key) → Each (λ other. same_key key other ≡ false) keys → has keys key ≡ false
+apart key [] each = refl
+apart key (other ∷ keys) each = ap (λ b. b || has keys key) each.0 ∙ apart key keys each.1
+
+-- keys of which none stands twice stay as they are
+pub distinct_stay : (keys : List Key) → IsDistinct same_key keys → distinct_keys keys ≡ keys
+unfolding IsDistinct
+distinct_stay [] distinct = refl
+distinct_stay (key ∷ keys) distinct =
+    ap (λ b. cond b (distinct_keys keys) (key ∷ distinct_keys keys)) (apart key keys distinct.0)
+    ∙ ap (λ rest. key ∷ rest) (distinct_stay keys distinct.1)
+
+-- the same keys, with others after them
+pub same_with : (keys others more : List Key) → HaveSameKeys keys others → HaveSameKeys (keys ++ more) (others ++ more)
+same_with keys others more same = λ q. list_any-append (same_key q) keys more
+    ∙ ap (λ b. b || has more q) (same q) ∙ sym (list_any-append (same_key q) others more)
+
+-- where each of two tests passes exactly where the other does, they are equal
+both_ways : (a b : Bool) → (a ≡ true → b ≡ true) → (b ≡ true → a ≡ true) → a ≡ b
+both_ways true b to from = sym (to refl)
+both_ways false true to from = from refl
+both_ways false false to from = refl
+
+-- what a dedup leaves has the same keys
+dedup_same : (keys : List Key) → HaveSameKeys (dedup same_key keys) keys
+dedup_same keys q =
+    let exact : (a b : Key) → same_key a b ≡ true → a ≡ b = λ a b. (Decides-same_key a b).0 in
+    both_ways (has (dedup same_key keys) q) (has keys q)
+    (λ h. list_any-from_Contains same_key-equiv q keys
+    (Contains-from_dedup same_key keys q (Contains-from_any exact q (dedup same_key keys) h)))
+    (λ h. list_any-from_Contains same_key-equiv q (dedup same_key keys)
+    (Contains-dedup same_key-equiv exact keys q (Contains-from_any exact q keys h)))
+
+-- so has what a sort and a dedup leave
+pub once_same : (keys sorted once : List Key) → IsPermutation keys sorted → once ≡ dedup same_key sorted →
+    HaveSameKeys once keys
+once_same keys sorted once moved is q =
+    ap (λ kept. has kept q) is ∙ dedup_same sorted q ∙ sym (list_any-IsPermutation (same_key q) keys sorted moved)
+
+-- and none stands twice
+pub once_distinct : (sorted once : List Key) → IsSorted key_cmp sorted → once ≡ dedup same_key sorted →
+    IsDistinct same_key once
+once_distinct sorted once rising is =
+    let strict = IsStrictlySortedBy-dedup keys_total (λ a b. sym (eq_by_cmp-same_key a b)) sorted rising in
+    rw is (alike (dedup same_key sorted) (IsDistinct-from_sorted key_cmp (dedup same_key sorted) strict))
+  where
+    alike : (keys : List Key) → IsDistinct (λ a b. eq_by_cmp key_cmp a b) keys → IsDistinct same_key keys
+    alike keys distinct = subst (λ (test : Key → Key → Bool). IsDistinct test keys)
+        (λ i a b. eq_by_cmp-same_key a b i) distinct
+
+-- what the pairs and the inserts crowd, less what the pairs crowd, is how many splits there are at most
+pub splits_are : (rules : Rules) (start : ℕ) (first : List Pair) (calls : List (ℕ × Call))
+    (begun once added all : List Key) (before after : ℕ) → begun ≡ keys_of first → HaveSameKeys once begun →
+    added ≡ once ++ inserted_in_calls calls → HaveSameKeys all added → before ≡ crowded rules start once →
+    after ≡ crowded rules start all → after - before ≡ splits_in_calls rules start first calls
+splits_are rules start first calls begun once added all before after begun_is same added_is both before_is after_is =
+    let named : HaveSameKeys once (keys_of first) = λ q. same q ∙ ap (λ keys. has keys q) begun_is in
+    let one : before ≡ crowded rules start (keys_of first) =
+    before_is ∙ crowded_alike rules start once (keys_of first) named in
+    let two : after ≡ crowded rules start (keys_of first ++ inserted_in_calls calls) =
+    after_is ∙ crowded_alike rules start all added both ∙ ap (crowded rules start) added_is
+    ∙ crowded_alike rules start (once ++ inserted_in_calls calls) (keys_of first ++ inserted_in_calls calls)
+    (same_with once (keys_of first) (inserted_in_calls calls) named) in
+    λ i. two i - one i

@@ -1,0 +1,2 @@
+pub mod BatchRows
+pub mod Counts

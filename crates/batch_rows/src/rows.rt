@@ -1,0 +1,88 @@
+//! The rows of each seat.
+
+ghost use Rattle.std.specs.Prelude.{◌≡◌, ◌^◌, ◌<◌, All, IfOk, length, map, vec_len};
+ghost use Rattle.std.specs.Option.{ForSome};
+ghost use Rattle.word_rows.specs.Shape.{AreBelow};
+ghost use Rattle.core_model.specs.Needs.{batch_rows_of};
+ghost use Rattle.batch_rows.specs.BatchRows.{rows_of, updates_in_calls};
+ghost use Rattle.batch_rows.specs.declared.rows.TheConstants.{CALL_LIMIT};
+
+use crate::splits::splits_of;
+use hash_bits::Hashing;
+use plain_map::{Call, Pair, Rules};
+use std::alloc::{AllocError, Global};
+use step_counts::{SeatRows, Settings, automatic_rows, need};
+
+/// A seat makes fewer calls of a batch, so that each number of its rows is below 2^32.
+pub const CALL_LIMIT: usize = 1 << 30;
+
+/// The rows of each seat in the table of a batch that begins with these pairs and asks these calls, each seat its share
+/// of them, seat 0 first.
+///
+/// `given` has the rows of every seat. With `None` each seat gets the rows that suffice for its share, so that no call
+/// is refused; these are at most the automatic ones, and far fewer where the keys of the batch can split few buckets.
+pub fn rows_for(
+    alloc: Global,
+    settings: &Settings,
+    hashing: Hashing,
+    given: Option<SeatRows>,
+    first: &[Pair],
+    calls: &[(u32, Call)],
+    shares: &[Vec<(u32, Call)>],
+) -> Result<Vec<SeatRows>, AllocError>
+    requires given { ForSome given (AreBelow (2 ^ 32)) }
+    requires few { All (λ share. vec_len share < CALL_LIMIT) shares.now }
+    ensures rows { IfOk result (λ rows. rows.items
+        ≡ rows_of settings.now hashing given first.now calls.now (map (λ share. share.items) shares.now)) }
+    ensures below { IfOk result (λ rows. All (AreBelow (2 ^ 32)) rows.items) }
+{
+    if let Some(given) = given {
+        return vec![in alloc; given; shares.len()];
+    }
+    let rules = Rules {
+        items: settings.items,
+        depth: settings.depth,
+        hashing,
+    };
+    let splits = splits_of(alloc, &rules, settings.start, first, calls)?;
+    let mut rows = Vec::with_capacity(alloc, shares.len())?;
+    for share in shares {
+        rows.push(batch_rows(settings, updates_of(share), splits))?;
+    }
+    Ok(rows)
+}
+
+/// The rows that suffice a seat for so many updates, where a bucket is split so often at most.
+pub fn batch_rows(settings: &Settings, updates: u32, splits: u64) -> SeatRows
+    requires updates { updates < CALL_LIMIT }
+    requires splits { splits < 2 ^ 32 }
+    ensures rows { result ≡ batch_rows_of settings.now updates splits }
+    ensures below { AreBelow (2 ^ 32) result }
+{
+    let most = automatic_rows(settings, updates);
+    let leaves = need(settings).bucket_words;
+    let updates = u64::from(updates);
+    SeatRows {
+        op_rows: updates,
+        bucket_rows: most
+            .bucket_rows
+            .min((2 * updates).min(updates + 1) + 2 * splits + leaves),
+        bucket_words: most.bucket_words.min(2 * splits + leaves),
+        directory_rows: most.directory_rows.min(updates.min(splits + 1)),
+    }
+}
+
+// How many of these calls are updates.
+fn updates_of(calls: &[(u32, Call)]) -> u32
+    requires few { length calls.now < CALL_LIMIT }
+    ensures count { result ≡ updates_in_calls calls.now }
+    ensures few { result < CALL_LIMIT }
+{
+    let mut updates = 0;
+    for asked in calls {
+        if !matches!(asked.1, Call::Lookup(_)) {
+            updates += 1;
+        }
+    }
+    updates
+}

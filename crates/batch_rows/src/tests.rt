@@ -1,0 +1,168 @@
+//! Batches worked by hand, which show that the definitions mean what was meant, and that memory is found.
+
+ghost use Rattle.std.specs.Prelude.{◌≡◌, IfOk, length, vec_len};
+
+use crate::{batch_rows, rows_for, splits_of};
+use hash_bits::Hashing;
+use plain_map::{Call, Key, Pair, Rules};
+use std::alloc::{AllocError, Global};
+use std::test::Fail;
+use step_counts::{SeatRows, Settings};
+
+// The key of TCP packets from 10.0.0.1, with this port, to 10.0.0.2, port 80. Its hash begins with the port's 16 bits:
+// ports 1 to 5 begin with 000, ports 8192 and 8193 with 001, port 16384 with 010, and port 32768 with 100.
+fn key(port: u64) -> Key {
+    Key {
+        k0: 0x0a00_0001_0a00_0002,
+        k1: port << 24 | 80 << 8 | 6,
+    }
+}
+
+fn pairs(alloc: Global, ports: &[u64]) -> Result<Vec<Pair>, AllocError> {
+    let mut pairs = Vec::new(alloc);
+    for port in ports {
+        let pair = Pair {
+            key: key(*port),
+            value: *port,
+        };
+        pairs.push(pair)?;
+    }
+    Ok(pairs)
+}
+
+fn inserts(alloc: Global, ports: &[u64]) -> Result<Vec<(u32, Call)>, AllocError>
+    ensures { IfOk result (λ calls. vec_len calls ≡ length ports.now) }
+{
+    let mut calls = Vec::new(alloc);
+    for port in ports {
+        calls.push((1, Call::Insert(key(*port), *port)))?;
+    }
+    Ok(calls)
+}
+
+// The starting depth, the ports of the first pairs, those of the inserts, and the splits that are wanted.
+type Batch<'a> = (u32, &'a [u64], &'a [u64], u64);
+
+// Two keys are the room of a bucket, and three bits tell buckets apart. Three keys of one prefix split it.
+#[test]
+fn splits_of_worked_batches(rt: HostRuntime) -> Result<(), Fail> {
+    let rules = Rules {
+        items: 2,
+        depth: 3,
+        hashing: Hashing::Ports(0),
+    };
+    let cases: [Batch<'_>; 14] = [
+        // nothing
+        (0, &[], &[], 0),
+        // two keys have room
+        (0, &[], &[1, 2], 0),
+        // the same key again is no third
+        (0, &[], &[1, 2, 1, 2], 0),
+        // three split the empty prefix, 0 and 00; 000 is never split
+        (0, &[], &[1, 2, 3], 3),
+        (1, &[], &[1, 2, 3], 2),
+        (2, &[], &[1, 2, 3], 1),
+        (3, &[], &[1, 2, 3], 0),
+        // more keys of the same prefixes split nothing more
+        (0, &[], &[1, 2, 3, 4, 5], 3),
+        // 000, 001 and 010: the empty prefix and 0
+        (0, &[], &[1, 8192, 16384], 2),
+        // 000, 010 and 100: the empty prefix alone
+        (0, &[], &[32768, 1, 16384], 1),
+        // the opening has split the empty prefix, 0 and 00
+        (0, &[1, 2, 3], &[4, 5], 0),
+        // the third key of 00 comes with the inserts, and the empty prefix was split by 100
+        (0, &[1, 8192, 32768], &[8193], 2),
+        // a key that is there already
+        (0, &[1, 2], &[2, 1], 0),
+        (0, &[1, 2], &[2, 3], 3),
+    ];
+    for (start, first, inserted, splits) in cases {
+        let first = pairs(rt.alloc(), first)?;
+        let calls = inserts(rt.alloc(), inserted)?;
+        let found = splits_of(rt.alloc(), &rules, start.min(rules.depth), &first, &calls)?;
+        assert_eq!(rt; found, splits, "{start} {first:?} {inserted:?}");
+    }
+    Ok(())
+}
+
+// A remove and a lookup bring no key, and two keys of one hash are two.
+#[test]
+fn keys_count_and_not_hashes(rt: HostRuntime) -> Result<(), Fail> {
+    let rules = Rules {
+        items: 1,
+        depth: 1,
+        hashing: Hashing::Ports(0),
+    };
+    let other = Key { k0: 7, ..key(1) };
+    let one = (1, Call::Insert(key(1), 0));
+    for (call, splits) in [
+        (Call::Remove(other), 0),
+        (Call::Lookup(other), 0),
+        (Call::Insert(other, 0), 1),
+    ] {
+        let found = splits_of(rt.alloc(), &rules, 0, &[], &[one, (2, call)])?;
+        assert_eq!(rt; found, splits, "{call:?}");
+    }
+    Ok(())
+}
+
+// Added by hand: the automatic rows where they are fewer, and what the batch can need where that is.
+#[test]
+fn rows_of_worked_needs(rt: HostRuntime) -> Result<(), Fail> {
+    let rows = |op_rows, bucket_rows, bucket_words, directory_rows| SeatRows {
+        op_rows,
+        bucket_rows,
+        bucket_words,
+        directory_rows,
+    };
+    // one seat, depth 10: 11 new leaves, 2,048 bucket words at most
+    let one = Settings::new(1, 8, 10, 0)?;
+    assert_eq!(rt; batch_rows(&one, 0, 0), rows(0, 11, 11, 0));
+    assert_eq!(rt; batch_rows(&one, 1, 0), rows(1, 13, 11, 1));
+    assert_eq!(rt; batch_rows(&one, 2000, 16), rows(2000, 2044, 43, 17));
+    // automatic rows: 2 * 3 + 2,048 + 11, 2,048 + 11
+    assert_eq!(rt; batch_rows(&one, 3, 2000), rows(3, 2065, 2059, 3));
+    Ok(())
+}
+
+// Two seats share three inserts of one prefix, which split three; a lookup needs no row. Given rows are each seat's.
+#[test]
+fn rows_of_each_share(rt: HostRuntime) -> Result<(), Fail> {
+    let settings = Settings::new(2, 2, 3, 0)?;
+    let hashing = Hashing::Ports(0);
+    let calls = inserts(rt.alloc(), &[1, 2, 3])?;
+    let mut odd = inserts(rt.alloc(), &[1, 3])?;
+    odd.push((4, Call::Lookup(key(1))))?;
+    let even = inserts(rt.alloc(), &[2])?;
+    let shares = vec![in rt.alloc(); odd, even]?;
+    // 8 new leaves; automatic are 2u + 16 + 8 bucket rows, 24 bucket words
+    let found = rows_for(rt.alloc(), &settings, hashing, None, &[], &calls, &shares)?;
+    let want = |op_rows, bucket_rows, directory_rows| SeatRows {
+        op_rows,
+        bucket_rows,
+        bucket_words: 14,
+        directory_rows,
+    };
+    assert_eq!(rt;
+        found.as_slice(),
+        [want(2, 17, 2), want(1, 16, 1)].as_slice()
+    );
+    let given = SeatRows {
+        op_rows: 9,
+        bucket_rows: 8,
+        bucket_words: 7,
+        directory_rows: 6,
+    };
+    let found = rows_for(
+        rt.alloc(),
+        &settings,
+        hashing,
+        Some(given),
+        &[],
+        &calls,
+        &shares,
+    )?;
+    assert_eq!(rt; found.as_slice(), [given, given].as_slice());
+    Ok(())
+}
