@@ -25,7 +25,7 @@ use Rattle.trace_share.specs.declared.outcome.Outcome.{Outcome}
 use Rattle.trace_share.specs.Deal.{dealt}
 use Rattle.trace_share.specs.Outcomes.{asked_in, records_in, RefusedByRoom}
 use Rattle.batch_orders.specs.Batches.{Batch}
-use Rattle.batch_rows.specs.BatchRows.{rows_in, rules_in, rows_of}
+use Rattle.batch_rows.specs.BatchRows.{rules_in, rows_of}
 use Rattle.batch_runner.specs.declared.service.Service.{Service}
 
 -- the rules of the plain map that the table keeps
