@@ -1,6 +1,6 @@
 //! One batch.
 
-ghost use Rattle.std.specs.Prelude.{◌≡◌, ◌<◌, ◌≤◌, All, IfOk, length, map, vec_len};
+ghost use Rattle.std.specs.Prelude.{◌≡◌, ◌^◌, ◌<◌, ◌≤◌, All, IfOk, length, map, vec_len};
 ghost use Rattle.std.specs.Option.{ForSome};
 ghost use Rattle.plain_map.specs.Serving.{IsAskable};
 ghost use Rattle.word_rows.specs.Shape.{AreBelow};
