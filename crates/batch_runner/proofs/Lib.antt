@@ -1,5 +1,6 @@
 pub mod Closings
 pub mod Rights
+pub mod Working
 pub mod Lines
 pub mod TotalLemmas
 pub mod Sums
