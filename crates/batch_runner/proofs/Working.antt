@@ -1,8 +1,9 @@
 -- The workers of a table, as they are made and taken apart.
-use Rattle.std.proofs.Common.{◌≡◌, ℕ, zero, suc, ◌<◌, ◌≤◌, ◌+◌, ◌^◌, List, [], ◌∷◌, ◌++◌, length, map, reverse, refl, sym, ap, ◌∙◌, subst, vec_len, Vec, Global, arith, length-append, append_assoc, append-nil}
+use Rattle.std.proofs.Common.{◌≡◌, ℕ, zero, suc, ◌<◌, ◌+◌, ◌^◌, List, [], ◌∷◌, ◌++◌, length, map, take, drop, reverse, refl, sym, ap, ◌∙◌, subst, vec_len, Vec, Global, arith, append_assoc, append-nil}
 use Rattle.std.specs.Prelude.{All}
 use Rattle.std.specs.List.{AllZip}
-use Rattle.std.proofs.lemmas.List.{reverse-append}
+use Rattle.std.proofs.lemmas.List.{drop_all, map-append, reverse-append}
+use Rattle.std.proofs.Math.Seq.{take-length}
 use Rattle.std.proofs.lemmas.List.Elements.{All-nil, All-cons, All-head, All-tail}
 use Rattle.step_counts.specs.declared.rows.SeatRows.{SeatRows}
 use Rattle.step_counts.specs.StepCounts.{need_of}
@@ -13,11 +14,11 @@ use Rattle.word_rows.specs.Shape.{sizes_of}
 use Rattle.core_model.specs.Setup.{settings_of}
 use Rattle.shared_table.specs.declared.caller.Caller.{Caller}
 use Rattle.shared_table.specs.SeatValues.{SeatValue, account_of}
-use Rattle.shared_table.specs.Values.{IsOf, IsSame, TableValue, new_seat, new_seats}
+use Rattle.shared_table.specs.Values.{IsSame, TableValue, new_seat, new_seats}
 use Rattle.trace_share.specs.declared.outcome.Outcome.{Outcome}
 use Rattle.trace_share.specs.Outcomes.{RefusedByRoom, records_in}
 use Rattle.trace_share.specs.Work.{IsReady, IsDone}
-use Rattle.batch_runner.specs.Seats.{AreFresh, AreThrough, HasMade, HaveMade, IsFresh, IsThrough, SeatWorker}
+use Rattle.batch_runner.specs.Seats.{AreFresh, AreThrough, HaveMade, IsFresh, IsThrough, SeatWorker}
 
 -- ---- new seats
 
@@ -165,7 +166,10 @@ through_end t n [] (v ∷ ws) w h = absurd h
 through_end t n (share ∷ []) [] w h =
     let z : n ≡ n + 0 = omega arith in
     record {
-      front = []; share = share; cut = refl; others = tt;
+      front = [];
+      share = share;
+      cut = refl;
+      others = tt;
       last = subst (λ (k : ℕ). IsThrough t k share w) z h.0;
     }
 through_end t n (share ∷ next ∷ shares) [] w h = absurd h.1
@@ -207,10 +211,13 @@ made_more t n m all ws now w seats seats' logs logs' from ws_is n_is m_is seats_
           ∙ append_assoc r.front (r.share ∷ []) from.back;
       through = r.others;
       made = subst (λ (x : List SeatValue × List (List Outcome)). HaveMade t n (r.share ∷ from.back) x.0 x.1)
-          (λ i. (sym (ap reverse seats_are ∙ reverse_end seats w.server.seat) i,
-          sym (ap reverse logs_are ∙ reverse_end logs w.log.items) i))
-          (subst (λ (k : ℕ). IsThrough t k r.share w) z r.last,
-          subst (λ (k : ℕ). HaveMade t k from.back (reverse seats) (reverse logs)) m_is from.made);
+          (λ i. (
+            sym (ap reverse seats_are ∙ reverse_end seats w.server.seat) i,
+            sym (ap reverse logs_are ∙ reverse_end logs w.log.items) i,
+          )) (
+            subst (λ (k : ℕ). IsThrough t k r.share w) z r.last,
+            subst (λ (k : ℕ). HaveMade t k from.back (reverse seats) (reverse logs)) m_is from.made,
+          );
     }
 
 -- then all are
@@ -225,3 +232,32 @@ made_end t all [] seats logs none from =
     nothing : (front : List (List (ℕ × Call))) → AreThrough t 0 front [] → front ≡ []
     nothing [] h = refl
     nothing (share ∷ front) h = absurd h
+
+pub map_reverse : {A B : Type 0} (f : A → B) (xs : List A) → map f (reverse xs) ≡ reverse (map f xs)
+map_reverse f [] = refl
+map_reverse f (x ∷ xs) =
+    ap (map f) (reverse-append (x ∷ []) xs) ∙ map-append f (reverse xs) (x ∷ [])
+    ∙ ap (λ ys. ys ++ f x ∷ []) (map_reverse f xs) ∙ sym (reverse-append (f x ∷ []) (map f xs))
+
+-- the shares are short
+pub all_short : (shares : List (Vec (ℕ × Call) Global)) →
+    All (λ (share : Vec (ℕ × Call) Global). All (λ (call : ℕ × Call). IsAskable call.1) share.items) shares →
+    All (λ (share : Vec (ℕ × Call) Global). vec_len share < 2 ^ 32) shares →
+    All IsShort (map (λ (share : Vec (ℕ × Call) Global). share.items) shares)
+all_short [] askable short = All-nil IsShort
+all_short (share ∷ shares) askable short =
+    let A : Vec (ℕ × Call) Global → Type 0 = λ (s : Vec (ℕ × Call) Global). All (λ (call : ℕ × Call). IsAskable call.1) s.items in
+    let S : Vec (ℕ × Call) Global → Type 0 = λ (s : Vec (ℕ × Call) Global). vec_len s < 2 ^ 32 in
+    let few : length share.items < 2 ^ 32 = omega (arith, All-head S share shares short, share.ok.0) in
+    All-cons IsShort share.items (map (λ (s : Vec (ℕ × Call) Global). s.items) shares)
+    (All-head A share shares askable, few)
+    (all_short shares (All-tail A share shares askable) (All-tail S share shares short))
+
+-- what a slice of a whole `Vec` leaves there
+pub whole_slice : (ws vs : List SeatWorker) (n : ℕ) → n ≡ length ws → length vs ≡ length ws →
+    take n (vs ++ drop (length vs) ws) ≡ vs
+whole_slice ws vs n is long =
+    let none : drop (length vs) ws ≡ [] = drop_all (length vs) ws (omega arith) in
+    let n_is : n ≡ length vs = is ∙ sym long in
+    ap (λ (t : List SeatWorker). take n (vs ++ t)) none ∙ ap (take n) (append-nil vs)
+    ∙ ap (λ (k : ℕ). take k vs) n_is ∙ take-length vs

@@ -17,7 +17,7 @@ use closed_words::Starts;
 use edge_traits::Gate;
 use history_order::order;
 use plain_map::{Call, CallId, OpenFault, Pair};
-use shared_table::{Blank, Directory, Seat};
+use shared_table::{Blank, Directory, Seat, order_laws};
 use std::alloc::{AllocError, Global};
 use std::thread::Threads;
 use trace_share::{Outcome, deal};
@@ -70,6 +70,7 @@ pub fn serve_batch<R: Threads + Sync, G: Gate + Sync>(
     let closed = directory.close_in_place(seats);
     let records = records_of(alloc, &logs)?;
     let starts = Starts::new(closed.layout());
+    order_laws();
     Ok(Batch {
         outcomes: outcomes_of(alloc, service.share, service.settings.seats, calls, &logs)?,
         answered: counts_of(alloc, &records)?,

@@ -1,4 +1,4 @@
-use Rattle.std.proofs.Common.{◌≡◌, ◌++◌, ℕ, List, ap, ◌∙◌}
+use Rattle.std.proofs.Common.{◌++◌, ℕ, List, ap, ◌∙◌}
 use Rattle.batch_runner.proofs.Lines.{lines_are}
 use Rattle.batch_runner.proofs.text.batch_text.Goals as goal
 

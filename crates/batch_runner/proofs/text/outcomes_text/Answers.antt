@@ -1,4 +1,4 @@
-use Rattle.std.proofs.Common.{◌∙◌, sym}
+use Rattle.std.proofs.Common.{◌∙◌}
 use Rattle.batch_runner.proofs.Lines.{on_err}
 use Rattle.batch_runner.proofs.text.outcomes_text.Goals as goal
 

@@ -1,4 +1,4 @@
-use Rattle.std.proofs.Common.{◌≡◌, ◌+◌, vec_len, map}
+use Rattle.std.proofs.Common.{◌≡◌, vec_len, map}
 use Rattle.shared_table.specs.Values.{new_seats}
 use Rattle.batch_runner.proofs.Working.{FreshFrom}
 use Rattle.batch_runner.proofs.workers.workers_of.Given as goal
