@@ -114,7 +114,7 @@ all_sound service first (batch ∷ batches) are =
     (all_sound service batch.pairs batches are.2)
 
 -- one after the other they are in order
-all_in_order : (service : Service) (first : List Pair) (batches : List Served) → AreServed service first batches →
+pub all_in_order : (service : Service) (first : List Pair) (batches : List Served) → AreServed service first batches →
     AreInOrder (rules_of service) (sessions_with (rules_of service) first) (map (history_in service) batches)
     (sessions_with (rules_of service) (pairs_left first batches))
 all_in_order service first [] are = refl
@@ -132,7 +132,7 @@ all_in_order service first (batch ∷ batches) are =
     )
 
 -- what is left is held
-all_held : (service : Service) (first : List Pair) (batches : List Served) → AreServed service first batches →
+pub all_held : (service : Service) (first : List Pair) (batches : List Served) → AreServed service first batches →
     first ≡ pairs_of (sessions_with (rules_of service) first) →
     pairs_left first batches ≡ pairs_of (sessions_with (rules_of service) (pairs_left first batches))
 all_held service first [] are start = start

@@ -1,5 +1,5 @@
 -- What holds of batches that were served, whatever the interleaving: one right order of all calls, steps within the
--- bound, leaves that cover and have their cause, and refusals only where rows were given.
+-- bound, and leaves that cover and have their cause.
 use Rattle.std.specs.Prelude.{◌≡◌, List, [], map, flat_map, None, All}
 use Rattle.std.specs.FinMap.{empty}
 use Rattle.plain_map.specs.PlainObject.{Sessions, pairs_of}
@@ -30,9 +30,3 @@ pub record AreRight (service : Service) (batches : List Served) : Type 0 where
 -- whoever is served so is served right
 abbrev pub ServedAreRight : Type 0
 ServedAreRight = (service : Service) (batches : List Served) → AreServed service [] batches → AreRight service batches
-
--- with no rows given no call is refused
-abbrev pub NoneIsRefused : Type 0
-NoneIsRefused =
-    (service : Service) (batches : List Served) → service.rows ≡ None → AreServed service [] batches →
-    All (λ (batch : Served). All (λ log. All (λ outcome. full_in outcome ≡ None) log) batch.logs) batches
