@@ -6,14 +6,15 @@ use Rattle.std.specs.FinMap.{empty}
 use Rattle.plain_map.specs.declared.calls.Call.{Call}
 use Rattle.plain_map.specs.declared.records.Record.{Record}
 use Rattle.plain_map.specs.PlainObject.{pairs_of}
-use Rattle.plain_map.specs.History.{answered, Legal, sessions_after}
+use Rattle.plain_map.specs.History.{answered, Legal, Whole, sessions_after}
 use Rattle.core_bounds.specs.Moments.{asked_of}
 use Rattle.trace_share.specs.declared.deals.Share.TheVariants.{Flow}
+use Rattle.batch_orders.specs.Batches.{all_calls}
 use Rattle.batch_room.specs.Rooms.{NoneRefused}
 use Rattle.batch_thread.specs.Threads.{ClassesHaveRoom}
 use Rattle.batch_runner.specs.declared.service.Service.{Service}
-use Rattle.batch_runner.specs.Served.{Served, AreServed, pairs_left, rules_of}
-use Rattle.batch_runner.specs.Printed.{answers_in, outcomes_in}
+use Rattle.batch_runner.specs.Served.{Served, AreServed, history_in, pairs_left, rules_of}
+use Rattle.batch_runner.specs.Printed.{all_lines, answers_in, outcomes_in}
 
 -- no rows are given: the table of each batch has what the batch's own calls can need
 abbrev pub HasOwnRows : Service → Type 0
@@ -54,3 +55,14 @@ abbrev pub ServedAsOneThread : Type 0
 ServedAsOneThread =
     (service : Service) (batches : List Served) → AreServed service [] batches →
     IsLikeOneThread service (calls_in batches) → AreAsOneThread service batches
+
+-- the answered calls as they are printed: in packet order, with numbers that go on from batch to batch
+abbrev pub printed_in : Service → (before : List ℕ) → List Served → List Record
+printed_in service before batches =
+    answers_in (flat_map (λ lines. map (λ o. o.1) lines.outcomes) (all_lines service before batches))
+
+-- each of them stands once in the one order of all calls, and nothing else does
+abbrev pub PrintedStandOnce : Type 0
+PrintedStandOnce =
+    (service : Service) (batches : List Served) → AreServed service [] batches →
+    Whole (printed_in service [] batches) [] (all_calls [] (map (history_in service) batches))
