@@ -1,6 +1,6 @@
 -- There is room for each bucket that a directory try loads: each is that of another op.
-use Rattle.std.proofs.Common.{◌≡◌, ℕ, suc, ◌+◌, ◌<◌, ◌≤◌, Bool, true, false, List, [], ◌∷◌, ◌++◌, length, map, take, set, Option, Some, None, refl, sym, ap, ◌∙◌, subst, arith}
-use Rattle.std.specs.Prelude.{◌==◌, ◌||◌, find, min, not, if◌then◌else◌}
+use Rattle.std.proofs.Common.{◌≡◌, ℕ, suc, ◌+◌, ◌<◌, ◌≤◌, Bool, true, false, List, [], ◌∷◌, length, map, take, set, Option, Some, None, refl, ap, ◌∙◌, subst, arith}
+use Rattle.std.specs.Prelude.{◌||◌, find, min, not, if◌then◌else◌}
 use Rattle.std.specs.List.{list_any}
 use Rattle.std.proofs.lemmas.Bool.{eq-eqb}
 use Rattle.std.proofs.lemmas.List.{length-map, length-take, length_push, map-append, take_more_set}
@@ -86,7 +86,8 @@ module _ (loaded : List LoadedBucket) (one : LoadedBucket) where
   or-true true = refl
   or-true false = refl
 
-  seen-more : (bucket : ℕ) → is_seen (more loaded one) bucket ≡ (is_seen loaded bucket || (is_bucket bucket one || false))
+  seen-more : (bucket : ℕ) →
+      is_seen (more loaded one) bucket ≡ (is_seen loaded bucket || (is_bucket bucket one || false))
   seen-more bucket = list_any-append (is_bucket bucket) loaded (one ∷ [])
 
   seen-kept : (bucket : ℕ) → is_seen loaded bucket ≡ true → is_seen (more loaded one) bucket ≡ true

@@ -111,4 +111,5 @@ leaf_passed rules seat flight row leaves i leaf inside is other =
     answered_by_leaf rules seat flight (row + i + 1) (map as_leaf (drop (suc i) leaves))) other
     ∙ ap (λ k. answered_by_leaf rules seat flight k (map as_leaf (drop (suc i) leaves)))
     (let e : row + i + 1 ≡ row + (i + 1) = omega arith in e)
-    ∙ ap (λ k. answered_by_leaf rules seat flight (row + (i + 1)) (map as_leaf (drop k leaves))) (let e : suc i ≡ i + 1 = omega arith in e)
+    ∙ ap (λ k. answered_by_leaf rules seat flight (row + (i + 1)) (map as_leaf (drop k leaves)))
+    (let e : suc i ≡ i + 1 = omega arith in e)

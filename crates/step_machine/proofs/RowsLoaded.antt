@@ -1,9 +1,8 @@
 -- A try after the last word of a bucket's row.
-use Rattle.std.proofs.Common.{◌≡◌, ℕ, ◌≤◌, ◌<◌, Bool, false, cond, List, length, Option, refl, sym, ap, ◌∙◌, subst, arith}
+use Rattle.std.proofs.Common.{◌≡◌, ℕ, ◌≤◌, Bool, false, cond, List, length, Option, refl, sym, ap, ◌∙◌, subst, arith}
 use Rattle.std.specs.Prelude.{nat_lt}
 use Rattle.std.proofs.lemmas.Bool.Decides.{nat_tests}
 use Rattle.step_counts.specs.StepCounts.{bucket_row_words}
-use Rattle.step_counts.specs.declared.settings.Settings.{Settings}
 use Rattle.bucket_states.specs.declared.ops.Op.{Op}
 use Rattle.core_model.specs.Directories.{DirectoryState}
 use Rattle.core_model.specs.DirectoryChange.{LoadedBucket}
@@ -51,7 +50,8 @@ module _ (m now : Machine) (round : Round) (turn first root bucket row word : �
   attempt = directory_try_of turn first root (as_directory m.directory)
 
   now_is : after
-      ≡ after_loaded (setup_of m) round attempt m.found.items (more (loaded_in m) (bucket_read (setup_of m) bucket row ws))
+      ≡ after_loaded (setup_of m) round attempt m.found.items
+      (more (loaded_in m) (bucket_read (setup_of m) bucket row ws))
   now_is = λ i. after_loaded (setup i) round (directory_try_of turn first root (as_directory (directory i)))
       (found i).items (loaded i)
 

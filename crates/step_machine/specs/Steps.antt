@@ -1,5 +1,5 @@
 -- What a step does to a machine.
-use Rattle.std.specs.Prelude.{◌≡◌, ℕ, ◌+◌}
+use Rattle.std.specs.Prelude.{◌≡◌, ℕ}
 use Rattle.core_model.specs.Goes.{flight_after, seen_after, used_after}
 use Rattle.step_machine.specs.declared.machine.Machine.{Machine}
 use Rattle.step_machine.specs.View.{flight_of, phase_of, phase_then, setup_of}

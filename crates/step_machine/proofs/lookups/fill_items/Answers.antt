@@ -14,7 +14,8 @@ loop-i-preserved c =
     let pair = c.read_pair.result in
     let both = item_read words i _ pair (omega arith) c.read_pair.ensures in
     record {
-      items = c.push_reserved.ensures.items ∙ ap (λ xs. xs ++ pair ∷ []) c.loop-i.invariant.items ∙ ap (λ p. items_of_words i words ++ p ∷ []) both.0
+      items = c.push_reserved.ensures.items ∙ ap (λ xs. xs ++ pair ∷ []) c.loop-i.invariant.items
+          ∙ ap (λ p. items_of_words i words ++ p ∷ []) both.0
           ∙ sym (first_values_next (λ k. pair_of_words (block ITEM_WORDS k words)) i);
       len = omega (arith, c.push_reserved.ensures.len, c.loop-i.invariant.len);
       room = c.push_reserved.ensures.capacity ∙ c.loop-i.invariant.room;

@@ -1,13 +1,12 @@
 -- One more leaf is stored.
-use Rattle.std.proofs.Common.{◌≡◌, ◌+◌, ◌∙◌, Option, ℕ, map, refl, sym, subst, arith}
-use Rattle.hash_bits.specs.declared.hashing.Hashing.{Hashing}
+use Rattle.std.proofs.Common.{◌+◌, ◌∙◌, Option, ℕ, map, sym, subst, arith}
 use Rattle.step_counts.specs.StepCounts.{bucket_row_words}
 use Rattle.word_rows.specs.BucketWords.{IsBucket, words_of_bucket}
 use Rattle.word_rows.specs.LayoutView.{shape_of}
 use Rattle.bucket_states.specs.States.{row_of_state, state_of}
 use Rattle.core_model.specs.Leaves.{NewLeaf}
 use Rattle.core_model.specs.Stores.{base_of_leaf}
-use Rattle.dir_states.specs.Views.{as_leaf, as_loaded}
+use Rattle.dir_states.specs.Views.{as_loaded}
 use Rattle.step_machine.specs.View.{setup_at}
 use Rattle.step_machine.proofs.PutLemmas.{All-leaf, leaf_puts-more, times_more, times_next}
 use Rattle.step_machine.proofs.puts.push_leaves.Goals as goal
@@ -17,8 +16,8 @@ push_leaf-requires-clause-leaf c =
     let settings = (shape_of c.args.layout.now).settings in
     let base = base_of_leaf (map as_loaded c.args.loaded.now) in
     let leaf = c.index-leaves-i.result in
-    let fits = All-leaf (λ (l : NewLeaf). IsBucket settings (row_of_state (base l) l.bucket)) c.args.leaves.now c.loop-i.i
-    leaf c.loop-i-test.true c.index-leaves-i.is c.requires.spelled in
+    let fits = All-leaf (λ (l : NewLeaf). IsBucket settings (row_of_state (base l) l.bucket)) c.args.leaves.now
+    c.loop-i.i leaf c.loop-i-test.true c.index-leaves-i.is c.requires.spelled in
     subst (λ (b : Option ℕ). IsBucket settings (row_of_state b (state_of leaf.bucket))) (sym c.base_of.ensures) fits
 
 pub push_leaf-requires-clause-room : goal.push_leaf-requires-clause-room

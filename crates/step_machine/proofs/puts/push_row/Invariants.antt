@@ -1,5 +1,5 @@
-use Rattle.std.proofs.Common.{◌≡◌, ◌+◌, ◌≤◌, ◌++◌, drop}
-use Rattle.std.specs.Prelude.{length, vec_capacity, vec_len}
+use Rattle.std.proofs.Common.{◌≡◌, ◌+◌, ◌++◌, drop}
+use Rattle.std.specs.Prelude.{vec_capacity, vec_len}
 use Rattle.word_rows.specs.declared.addresses.Address.TheVariants.{BucketRowWord}
 use Rattle.core_model.specs.Stores.{row_puts}
 use Rattle.step_machine.proofs.puts.push_row.Given as goal

@@ -13,7 +13,8 @@ loop-i-preserved c =
     let leaf = c.index-leaves-i.result in
     record {
       rest = c.loop-i.invariant.rest
-          ∙ leaf_passed (rules_of (setup_of m)) m.seat (flight_of m) c.args.row c.leaves-leaves.result.now c.loop-i.i leaf
+          ∙ leaf_passed (rules_of (setup_of m)) m.seat (flight_of m) c.args.row c.leaves-leaves.result.now c.loop-i.i
+          leaf
           c.loop-i-test.true c.index-leaves-i.is
           ((λ j. is_in (sym c.rules-rules.ensures.value j) (sym c.key.ensures j) (state_of leaf.bucket))
           ∙ sym c.is_in.ensures ∙ c.if-is_in.false);

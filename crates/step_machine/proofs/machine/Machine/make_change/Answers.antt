@@ -1,6 +1,5 @@
 -- There is room for all that is stored, and it is what the definition has.
-use Rattle.std.proofs.Common.{◌≡◌, ℕ, ◌+◌, ◌*◌, ◌^◌, ◌≤◌, ◌∙◌, ◌++◌, List, Some, length, map, take, sym, ap, subst, arith}
-use Rattle.std.specs.Prelude.{All}
+use Rattle.std.proofs.Common.{◌≡◌, ℕ, ◌+◌, ◌^◌, ◌≤◌, ◌∙◌, ◌++◌, List, Some, length, map, take, sym, ap, arith}
 use Rattle.std.proofs.lemmas.List.{length-map}
 use Rattle.step_counts.specs.StepCounts.{bucket_row_words}
 use Rattle.plain_map.specs.declared.full.FullKind.TheVariants.{BucketWords}
