@@ -57,7 +57,7 @@ back_all : {A : Type 0} (P : A → Type 0) (xs ys : List A) → All P (xs ++ ys)
 back_all P [] ys all = all
 back_all P (x ∷ xs) ys all = back_all P xs ys (All-tail P x (xs ++ ys) all)
 
-unmap_all : {A B : Type 0} (P : B → Type 0) (f : A → B) (xs : List A) → All P (map f xs) → All (λ x. P (f x)) xs
+pub unmap_all : {A B : Type 0} (P : B → Type 0) (f : A → B) (xs : List A) → All P (map f xs) → All (λ x. P (f x)) xs
 unmap_all P f [] all = All-nil (λ x. P (f x))
 unmap_all P f (x ∷ xs) all =
     All-cons (λ y. P (f y)) x xs (All-head P (f x) (map f xs) all) (unmap_all P f xs (All-tail P (f x) (map f xs) all))

@@ -2,8 +2,11 @@
 use Rattle.std.proofs.Common.{◌≡◌, ℕ, ◌<◌, ◌≤◌, List, length, map, sym, ap, ◌∙◌, subst, vec_len, arith}
 use Rattle.std.specs.Prelude.{All}
 use Rattle.std.proofs.lemmas.List.{length-map}
-use Rattle.std.proofs.lemmas.List.Elements.{All-map}
+use Rattle.std.proofs.lemmas.List.Elements.{All-map, All-weaker}
+use Rattle.plain_map.specs.declared.calls.Call.{Call}
 use Rattle.trace_share.specs.declared.outcome.Outcome.{Outcome}
+use Rattle.trace_share.specs.declared.outcome.Outcome.TheVariants.{Answered, Refused}
+use Rattle.report_text.specs.Report.{call_in}
 use Rattle.trace_share.specs.Outcomes.{asked_in, records_in}
 use Rattle.batch_orders.specs.Batches.{answered_then, with_counts}
 use Rattle.std.proofs.lemmas.Simd.{map-map}
@@ -14,7 +17,7 @@ use Rattle.batch_runner.specs.Served.{CanOpen, Served, IsServed, history_in, rul
 use Rattle.batch_runner.specs.Told.{HasCounts, IsToldBy}
 use Rattle.batch_runner.proofs.Deals.{long_dealt}
 use Rattle.batch_runner.proofs.Rights.{can_open}
-use Rattle.batch_runner.proofs.Counted.{counted, short_asked}
+use Rattle.batch_runner.proofs.Counted.{counted, short_asked, unmap_all}
 
 module _ (service : Service) (served : Served) (batch : Batch) (is : IsServed service served)
     (told : IsToldBy service served batch) where
@@ -51,3 +54,18 @@ module _ (service : Service) (served : Served) (batch : Batch) (is : IsServed se
       with_counts before batch.answered.items ≡ answered_then before (history_in service served)
   told_then before = ap (with_counts before)
       (told.answered ∙ sym (map-map (λ (log : List Record). length log) records_in served.logs))
+
+  -- what holds of the calls that were asked holds of those that are told
+  pub told_calls : (P : Call → Type 0) → All (λ (call : ℕ × Call). P call.1) served.calls →
+      All (λ (o : ℕ × Outcome). P (call_in o.1)) batch.outcomes.items
+  told_calls P all =
+      let Q : ℕ × Call → Type 0 = λ (call : ℕ × Call). P call.1 in
+      let f : ℕ × Outcome → ℕ × Call = λ (o : ℕ × Outcome). asked_in o.1 in
+      let asked = unmap_all Q f served.outcomes (subst (All Q) (sym is.outcomes.asked) all) in
+      All-weaker (λ (o : ℕ × Outcome). P (asked_in o.1).1) (λ (o : ℕ × Outcome). P (call_in o.1))
+      (λ o. same_call o.1) batch.outcomes.items
+      (subst (All (λ (o : ℕ × Outcome). P (asked_in o.1).1)) (sym told.outcomes) asked)
+    where
+      same_call : (o : Outcome) → P (asked_in o).1 → P (call_in o)
+      same_call (Answered made) p = p
+      same_call (Refused packet call full) p = p

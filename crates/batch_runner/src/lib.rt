@@ -16,3 +16,6 @@ pub use laws::served_laws;
 pub use service::Service;
 pub use text::batch_text;
 pub use totals::{Replies, Totals};
+
+#[cfg(test)]
+mod tests;
