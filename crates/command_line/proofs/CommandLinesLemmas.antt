@@ -75,7 +75,8 @@ any_items t =
     reads_by _ _ _ (items_fault t) (items_plan t)
     ∙ one_passes (is_unsigned_in 1 16 t) (Some (record default_plan { items = decimal t }))
 
-line_fault : (mode : Mode) (g : Given) (rows : Option Text) → faults (line mode g rows) ≡ or_else (faults_by (tests g)) []
+line_fault : (mode : Mode) (g : Given) (rows : Option Text)
+    → faults (line mode g rows) ≡ or_else (faults_by (tests g)) []
 unfolding clap_on_literals flowdir_app
 line_fault Serve g None = refl
 line_fault Serve g (Some text) = refl

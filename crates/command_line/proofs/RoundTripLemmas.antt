@@ -14,7 +14,8 @@ use Rattle.step_counts.specs.declared.rows.SeatRows.{SeatRows}
 use Rattle.trace_share.specs.declared.deals.Share.{Share}
 use Rattle.trace_share.specs.declared.deals.Share.TheVariants.{Round, Block, Flow}
 use Rattle.command_line.specs.Command.{Number, capture_number, depth, items, packets, seats, seed, start}
-use Rattle.command_line.specs.CommandLines.{IsAskable, as_used, asked, default_plan, given_of, hash_text, is_in, line_of}
+use Rattle.command_line.specs.CommandLines.{IsAskable, as_used, asked, default_plan, given_of, hash_text, is_in}
+use Rattle.command_line.specs.CommandLines.{line_of}
 use Rattle.command_line.specs.CommandLines.{rows_text, seed_of, share_text, tests}
 use Rattle.command_line.specs.Texts.{◌>>=◌, AreRowsInRange}
 use Rattle.command_line.specs.Words.{asked_rows, decimal, hashing_of, reads, share_of, start_below}
@@ -43,7 +44,8 @@ share_back Round = refl
 share_back Block = refl
 share_back Flow = refl
 
-start_back : (d s : ℕ) → d < 2 ^ 64 → s < 2 ^ 64 → s ≤ d → start_below (decimal (written d)) (decimal (written s)) ≡ Some s
+start_back : (d s : ℕ) → d < 2 ^ 64 → s < 2 ^ 64 → s ≤ d
+    → start_below (decimal (written d)) (decimal (written s)) ≡ Some s
 start_back d s df sf low =
     ap₂ start_below (read_back d df) (read_back s sf) ∙ ap (λ b. cond b (Some s) None) (at_most_of d s low)
 

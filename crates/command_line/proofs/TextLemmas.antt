@@ -1,8 +1,10 @@
 -- What the readers of single texts find is what the definitions say.
-use Rattle.std.proofs.Common.{◌≡◌, ◌≢◌, ◌∙◌, ◌<◌, ◌≤◌, ◌^◌, ◌&&◌, ℕ, Bool, true, false, cond, [], ◌∷◌, length, Some, None}
+use Rattle.std.proofs.Common.{◌≡◌, ◌≢◌, ◌∙◌, ◌<◌, ◌≤◌, ◌^◌, ◌&&◌, ℕ, Bool, true, false, cond, [], ◌∷◌, length, Some}
+use Rattle.std.proofs.Common.{None}
 use Rattle.std.proofs.Common.{Result, Ok, Err, ap, ap₂, refl, sym, get_or, arith, nat_lt}
 use Rattle.std.proofs.lemmas.Bool.Decides.{nat_tests}
-use Rattle.std.proofs.lemmas.Str.Parse.{IsNumeralModel, digits_value_short, not_in_digits, numerals_by_value, parse_plain, tells_all_ascii_digits}
+use Rattle.std.proofs.lemmas.Str.Parse.{IsNumeralModel, digits_value_short, not_in_digits, numerals_by_value}
+use Rattle.std.proofs.lemmas.Str.Parse.{parse_plain, tells_all_ascii_digits}
 use Rattle.std.specs.Bool.{Decides}
 use Rattle.std.specs.Result.{OkIff, result_ok}
 use Rattle.std.specs.Str.{all_ascii_digits}
@@ -55,7 +57,8 @@ no_number text true is bad = absurd (bad refl)
 no_number text false is bad = ap (λ c. cond c (Some (digits_value 10 text)) None) (sym is)
 
 read_by : {E : Type 0} (text : Text) (r : Result ℕ E) → length text ≤ 10
-    → OkIff r ((all_ascii_digits text ≡ true) × (0 < length text) × (digits_value 10 text < 2 ^ 64)) (digits_value 10 text)
+    → OkIff r ((all_ascii_digits text ≡ true) × (0 < length text) × (digits_value 10 text < 2 ^ 64))
+    (digits_value 10 text)
     → result_ok r ≡ cond (is_number text) (Some (digits_value 10 text)) None
 read_by text (Ok x) few told =
     ap (λ (n : ℕ). Some n) told.1

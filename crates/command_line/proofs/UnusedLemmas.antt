@@ -7,7 +7,8 @@ use Rattle.step_counts.specs.declared.rows.SeatRows.{SeatRows}
 use Rattle.command_line.specs.Command.{flowdir_app}
 use Rattle.command_line.specs.CommandLines.{as_used}
 use Rattle.command_line.specs.Texts.{◌>>=◌}
-use Rattle.command_line.specs.Words.{Values, hashing_in, mode_of, plan_of, plan_with, reads, rows_for, share_in, start_in, text_in}
+use Rattle.command_line.specs.Words.{Values, hashing_in, mode_of, plan_of, plan_with, reads, rows_for, share_in}
+use Rattle.command_line.specs.Words.{start_in, text_in}
 use Rattle.command_line.specs.declared.plan.Mode.{Mode}
 use Rattle.command_line.specs.declared.plan.Mode.TheVariants.{Serve, Make, Trial}
 use Rattle.command_line.specs.declared.plan.Plan.{Plan}

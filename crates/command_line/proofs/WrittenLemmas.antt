@@ -6,14 +6,16 @@ use Rattle.std.specs.Fmt.{decimal as written}
 use Rattle.std.specs.List.{All}
 use Rattle.std.specs.Str.Parse.{IsNumeral, digits_value, without_leading_plus}
 use Rattle.std.proofs.lemmas.Bool.{eq-eqb, ne_eqb}
-use Rattle.std.proofs.lemmas.Fmt.{decimal_is_IsNumeral, decimal_nonempty, digits_decimal, digits_value-decimal, length-decimal-le}
+use Rattle.std.proofs.lemmas.Fmt.{decimal_is_IsNumeral, decimal_nonempty, digits_decimal, digits_value-decimal}
+use Rattle.std.proofs.lemmas.Fmt.{length-decimal-le}
 use Rattle.std.proofs.lemmas.List.{get_or_default}
 use Rattle.std.proofs.lemmas.List.Splits.{slice_split_at, slice_split_none}
 use Rattle.std.proofs.lemmas.Str.Parse.{digit_from_value, not_in_digits, without_leading_plus_none}
 use Rattle.step_counts.specs.declared.rows.SeatRows.{SeatRows}
 use Rattle.clap.specs.Walk.{Text}
 use Rattle.command_line.specs.CommandLines.{rows_text}
-use Rattle.command_line.specs.Texts.{◌>>=◌, AreRowsInRange, at_most, comma, is_number, number_between, parts_at, rows_in, rows_of}
+use Rattle.command_line.specs.Texts.{◌>>=◌, AreRowsInRange, at_most, comma, is_number, number_between, parts_at}
+use Rattle.command_line.specs.Texts.{rows_in, rows_of}
 use Rattle.command_line.specs.Words.{decimal}
 use Rattle.command_line.proofs.TextLemmas.{at_most_of, number_is, own}
 
@@ -51,8 +53,8 @@ between_written x least most low high few =
 
 no_mark : (c x : ℕ) → x < 2 ^ 64 → (c < 48) → All (λ b. (b == c) ≡ false) (written x)
 no_mark c x fits low i d inside =
-    ne_eqb _ c (λ e. not_in_digits own (written x) c (digits_decimal own x fits) (λ r. absurd (omega (arith, r))) i inside
-    (get_or_default (written x) i 0 d inside ∙ e))
+    ne_eqb _ c (λ e. not_in_digits own (written x) c (digits_decimal own x fits) (λ r. absurd (omega (arith, r)))
+    i inside (get_or_default (written x) i 0 d inside ∙ e))
 
 -- the parts of a written number and what follows a mark
 pub mark_after : (c x : ℕ) → x < 2 ^ 64 → c < 48 → (more : Text)
@@ -67,16 +69,20 @@ four_parts : (rows : SeatRows) → AreRowsInRange rows → parts_at comma (rows_
     ≡ written rows.op_rows ∷ written rows.bucket_rows ∷ written rows.bucket_words ∷ written rows.directory_rows ∷ []
 four_parts rows h =
     mark_after comma rows.op_rows (omega (arith, h.op_rows)) (omega arith) _
-    ∙ ap (λ ps. written rows.op_rows ∷ ps) (mark_after comma rows.bucket_rows (omega (arith, h.bucket_rows)) (omega arith) _
-    ∙ ap (λ ps. written rows.bucket_rows ∷ ps) (mark_after comma rows.bucket_words (omega (arith, h.bucket_words)) (omega arith) _
-    ∙ ap (λ ps. written rows.bucket_words ∷ ps) (no_mark_after comma rows.directory_rows (omega (arith, h.directory_rows)) (omega arith))))
+    ∙ ap (λ ps. written rows.op_rows ∷ ps) (mark_after comma rows.bucket_rows
+    (omega (arith, h.bucket_rows)) (omega arith) _
+    ∙ ap (λ ps. written rows.bucket_rows ∷ ps) (mark_after comma rows.bucket_words
+    (omega (arith, h.bucket_words)) (omega arith) _
+    ∙ ap (λ ps. written rows.bucket_words ∷ ps) (no_mark_after comma rows.directory_rows
+    (omega (arith, h.directory_rows)) (omega arith))))
 
 pub rows_text_back : (rows : SeatRows) → AreRowsInRange rows → rows_of (rows_text rows) ≡ Some rows
 rows_text_back rows h =
     let a = between_written rows.op_rows 0 100000 (omega arith) h.op_rows (omega (arith, h.op_rows)) in
     let b = between_written rows.bucket_rows 0 100000 (omega arith) h.bucket_rows (omega (arith, h.bucket_rows)) in
     let w = between_written rows.bucket_words 0 100000 (omega arith) h.bucket_words (omega (arith, h.bucket_words)) in
-    let d = between_written rows.directory_rows 0 5000 (omega arith) h.directory_rows (omega (arith, h.directory_rows)) in
+    let d = between_written rows.directory_rows 0 5000 (omega arith) h.directory_rows
+    (omega (arith, h.directory_rows)) in
     ap rows_in (four_parts rows h)
     ∙ (λ i. (a i) >>= (λ ops. (b i) >>= (λ buckets. (w i) >>= (λ words. (d i) >>= (λ directories. Some (record {
       op_rows = ops;

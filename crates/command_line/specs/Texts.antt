@@ -1,6 +1,7 @@
 -- The texts that the program reads by itself, as definitions on the whole text: numbers in a range, and four numbers
 -- with commas between.
-use Rattle.std.specs.Prelude.{◌≤◌, ◌==◌, ℕ, nat_lt, Bool, ◌&&◌, not, List, [], ◌∷◌, length, Option, Some, None, if◌then◌else◌}
+use Rattle.std.specs.Prelude.{◌≤◌, ◌==◌, ℕ, nat_lt, Bool, ◌&&◌, not, List, [], ◌∷◌, length, Option, Some, None}
+use Rattle.std.specs.Prelude.{if◌then◌else◌}
 use Rattle.std.specs.List.{slice_split}
 use Rattle.std.specs.Str.{all_ascii_digits}
 use Rattle.std.specs.Str.Parse.{digits_value}

@@ -1,7 +1,8 @@
 //! The words of a command line, `flowdir MODE [options]` without its first word.
 //!
 //! `clap` states which words a simple command takes, and what it finds in them. The plan is a
-//! function of that, so nothing here splits or judges an option's word.
+//! function of that: each option's value or its default. The program itself reads only the text
+//! of rows.
 
 ghost use Rattle.std.specs.Prelude.{◌≡◌, IfOk, IfErr, [], map, string_bytes};
 ghost use Rattle.std.specs.List.{AllByRecursion};

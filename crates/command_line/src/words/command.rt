@@ -5,7 +5,8 @@
 
 ghost use Rattle.std.specs.Prelude.{◌≡◌, IfOk, [], map, codes, true, false};
 ghost use Rattle.clap.specs.Words.{app_of, rule_of};
-ghost use Rattle.command_line.specs.Command.{app_of_rules, app_with, mode_rule, number_of, number_rule, text_rule, numbers, texts};
+ghost use Rattle.command_line.specs.Command.{app_of_rules, app_with, mode_rule, number_of, number_rule, text_rule};
+ghost use Rattle.command_line.specs.Command.{numbers, texts};
 
 use crate::words::options::{NUMBERS, NumberOption, TEXTS};
 use clap::builder::ValueParser;

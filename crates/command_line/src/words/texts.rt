@@ -2,7 +2,8 @@
 
 ghost use Rattle.std.specs.Prelude.{◌≡◌, IfOk, IfSome, Some, None, if◌then◌else◌, map};
 ghost use Rattle.std.specs.Str.Parse.{digits_value};
-ghost use Rattle.command_line.specs.Texts.{comma, is_number, number_between, parts_at, rows_in, rows_of, AreRowsInRange};
+ghost use Rattle.command_line.specs.Texts.{comma, is_number, number_between, parts_at, rows_in, rows_of};
+ghost use Rattle.command_line.specs.Texts.{AreRowsInRange};
 
 use std::alloc::{AllocError, Global};
 use step_counts::SeatRows;

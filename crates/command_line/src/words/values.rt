@@ -8,8 +8,10 @@ ghost use Rattle.std.specs.Option.{option_map};
 ghost use Rattle.clap.specs.Words.{first_value, found_of};
 ghost use Rattle.command_line.specs.Command.{depth, number_of, numbers, Passes};
 ghost use Rattle.command_line.specs.Texts.{AreRowsInRange};
-ghost use Rattle.command_line.specs.Words.{asked_rows, has_table, hashing_in, hashing_of, makes_capture, mode_of, number_if, number_in};
-ghost use Rattle.command_line.specs.Words.{plan_of, plan_with, rows_for, share_in, share_of, start_in, text_in, IsInRange};
+ghost use Rattle.command_line.specs.Words.{asked_rows, has_table, hashing_in, hashing_of, makes_capture, mode_of};
+ghost use Rattle.command_line.specs.Words.{number_if, number_in};
+ghost use Rattle.command_line.specs.Words.{plan_of, plan_with, rows_for, share_in, share_of, start_in, text_in};
+ghost use Rattle.command_line.specs.Words.{IsInRange};
 
 use crate::plan::{Mode, Plan};
 use crate::words::options::{DEPTH, ITEMS, NUMBER, NumberOption, PACKETS, SEATS, SEED, START};
