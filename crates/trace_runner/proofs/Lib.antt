@@ -1,15 +1,5 @@
-pub mod BuilderLemmas
-pub mod IdLemmas
-pub mod PassingLemmas
-pub mod CommandLemmas
-pub mod WordsLemmas
-pub mod CommandLinesLemmas
-pub mod RoundTripLemmas
 pub mod CallLemmas
 pub mod InputLemmas
 pub mod TakenLemmas
 pub mod ServingLemmas
-pub mod IntakeLemmas
-pub mod PrintLemmas
-pub mod ServeLemmas
-pub mod ExactLemmas
+pub mod ReadingLemmas

@@ -1,10 +1,5 @@
-pub mod Command
-pub mod Words
-pub mod CommandLines
 pub mod PacketCalls
 pub mod Input
+pub mod Batches
 pub mod Endings
 pub mod Reading
-pub mod Answering
-pub mod Headline
-pub mod Printing
