@@ -1,4 +1,6 @@
 pub mod Served
+pub mod Seats
 pub mod Printed
 pub mod Promises
 pub mod Told
+pub mod Totals

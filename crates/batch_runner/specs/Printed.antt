@@ -1,7 +1,7 @@
 -- What is printed of batches that were served: the numbers of a seat's calls go on from batch to batch, and so does what
 -- was seen.
 -- Source: this project's own; the lines are those of the report.
-use Rattle.std.specs.Prelude.{ℕ, ◌+◌, true, false, not, List, [], ◌∷◌, length, map, max, fold, filter, flat_map, sum_by, count_by, is_some, if◌then◌else◌}
+use Rattle.std.specs.Prelude.{ℕ, ◌+◌, ◌^◌, true, false, not, List, [], ◌∷◌, length, map, max, fold, filter, flat_map, sum_by, count_by, is_some, if◌then◌else◌}
 use Rattle.plain_map.specs.declared.records.Record.{Record}
 use Rattle.plain_map.specs.History.{ids_of}
 use Rattle.core_model.specs.SeatStates.{is_update}
@@ -12,6 +12,10 @@ use Rattle.report_text.specs.Report.{Batch as Lines}
 use Rattle.batch_orders.specs.Batches.{answered_then, gone_on}
 use Rattle.batch_runner.specs.declared.service.Service.{Service}
 use Rattle.batch_runner.specs.Served.{Served, history_in, order_in}
+
+-- so many calls a seat has answered at most before a batch
+abbrev pub BEFORE_LIMIT : ℕ
+BEFORE_LIMIT = 2 ^ 31
 
 -- an outcome, where the seats had answered so many calls before
 abbrev pub outcome_on : (before : List ℕ) → Outcome → Outcome

@@ -39,5 +39,3 @@ abbrev pub NoneIsRefused : Type 0
 NoneIsRefused =
     (service : Service) (batches : List Served) → service.rows ≡ None → AreServed service [] batches →
     All (λ (batch : Served). All (λ log. All (λ outcome. full_in outcome ≡ None) log) batch.logs) batches
-
--- the pairs that are left can open the next table

@@ -13,7 +13,8 @@ use Rattle.plain_map.specs.History.{Placed}
 use Rattle.plain_map.specs.declared.leaves.Leaf.{Leaf}
 use Rattle.word_rows.specs.Shape.{Shape, sizes_of}
 use Rattle.core_model.specs.declared.events.Event.{Event}
-use Rattle.core_model.specs.Setup.{Setup}
+use Rattle.core_model.specs.Setup.{Setup, HaveRoom, IsPair}
+use Rattle.bucket_states.specs.Parts.{HasDistinctKeys}
 use Rattle.core_model.specs.SeatStates.{SeatState, Idle}
 use Rattle.core_model.specs.Worlds.{World, IsRun, world_after, seat_in}
 use Rattle.core_model.specs.Order.{Closing, order_of}
@@ -24,12 +25,18 @@ use Rattle.trace_share.specs.declared.outcome.Outcome.{Outcome}
 use Rattle.trace_share.specs.Deal.{dealt}
 use Rattle.trace_share.specs.Outcomes.{asked_in, records_in, RefusedByRoom}
 use Rattle.batch_orders.specs.Batches.{Batch}
-use Rattle.batch_rows.specs.BatchRows.{rows_in, rules_in, rows_of}
+use Rattle.batch_rows.specs.BatchRows.{rules_in, rows_of}
 use Rattle.batch_runner.specs.declared.service.Service.{Service}
 
 -- the rules of the plain map that the table keeps
 abbrev pub rules_of : Service → Rules
 rules_of service = rules_in service.settings service.hashing
+
+-- a table can be opened with these pairs: each can be kept, their keys are distinct, and they find room
+pub record CanOpen (rules : Rules) (first : List Pair) : Type 0 where
+  pub pairs : All IsPair first
+  pub distinct : HasDistinctKeys first
+  pub room : HaveRoom rules first
 
 -- for each seat the calls that it makes
 abbrev pub shares_of : Service → List (ℕ × Call) → List (List (ℕ × Call))

@@ -1,13 +1,12 @@
 //! One batch.
 
-ghost use Rattle.std.specs.Prelude.{◌≡◌, ◌<◌, ◌^◌, All, ForSome, IfOk, length};
+ghost use Rattle.std.specs.Prelude.{◌≡◌, ◌<◌, ◌≤◌, All, IfOk, length, map, vec_len};
+ghost use Rattle.std.specs.Option.{ForSome};
 ghost use Rattle.plain_map.specs.Serving.{IsAskable};
 ghost use Rattle.word_rows.specs.Shape.{AreBelow};
-ghost use Rattle.bucket_states.specs.Parts.{HasDistinctKeys};
-ghost use Rattle.core_model.specs.Setup.{HaveRoom, IsPair};
 ghost use Rattle.batch_rows.specs.declared.rows.TheConstants.{CALL_LIMIT};
-ghost use Rattle.batch_runner.specs.Served.{IsServed, Served, rules_of};
-ghost use Rattle.batch_runner.specs.Told.{Ascend, IsToldBy};
+ghost use Rattle.batch_runner.specs.Served.{CanOpen, IsServed, Served, rules_of};
+ghost use Rattle.batch_runner.specs.Told.{HasCounts, IsToldBy};
 
 use crate::service::Service;
 use edge_traits::Gate;
@@ -22,6 +21,8 @@ use trace_share::Outcome;
 pub struct Batch {
     /// In packet order, each with its seat.
     pub outcomes: Vec<(u32, Outcome)>,
+    /// How many calls each seat has answered.
+    pub answered: Vec<u32>,
     /// All answered calls, in their one order.
     pub order: Vec<CallId>,
     /// The pairs that are left, in the order of their keys.
@@ -35,7 +36,8 @@ pub struct Batch {
 /// Opens a table with these pairs, lets the seats make the calls that are dealt to them, in threads of their own, closes
 /// it, and tells what it came to.
 ///
-/// The gate is passed before each call and told of each answer. The only error is want of memory.
+/// The gate is passed before each call and told of each answer. The only error is want of memory. What is left can open
+/// the next batch.
 pub fn serve_batch<R: Threads + Sync, G: Gate + Sync>(
     rt: &R,
     alloc: Global,
@@ -47,13 +49,14 @@ pub fn serve_batch<R: Threads + Sync, G: Gate + Sync>(
 ) -> Result<Batch, AllocError>
     requires given { ForSome service.now.rows (AreBelow (2 ^ 32)) }
     requires few { length calls.now < CALL_LIMIT }
-    requires ascending { Ascend calls.now }
     requires askable { All (λ call. IsAskable call.1) calls.now }
-    requires pairs { All IsPair first.now }
-    requires distinct { HasDistinctKeys first.now }
-    requires room { HaveRoom (rules_of service.now) first.now }
+    requires opens { CanOpen (rules_of service.now) first.now }
     ensures served { IfOk result (λ batch. (served : Served) × (served.first ≡ first.now)
         × (served.calls ≡ calls.now) × IsServed service.now served × IsToldBy service.now served batch) }
+    ensures reopens { IfOk result (λ batch. CanOpen (rules_of service.now) batch.pairs.items) }
+    ensures counted { IfOk result (λ batch. All (λ o. HasCounts CALL_LIMIT o.1) batch.outcomes.items) }
+    ensures seats { IfOk result (λ batch. vec_len batch.answered ≤ 8) }
+    ensures answered { IfOk result (λ batch. All (λ count. count ≤ length calls.now) batch.answered.items) }
 {
     Err(AllocError)
 }

@@ -2,7 +2,17 @@
 #![tactic(auto)]
 
 mod batch;
+mod counts;
+mod laws;
+mod outcomes;
 mod service;
+mod text;
+mod totals;
+mod workers;
 
 pub use batch::{Batch, serve_batch};
+pub use counts::go_on;
+pub use laws::served_laws;
 pub use service::Service;
+pub use text::batch_text;
+pub use totals::{Replies, Totals};

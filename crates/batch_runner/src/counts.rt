@@ -1,0 +1,23 @@
+//! How many calls the seats have answered in all batches.
+
+ghost use Rattle.std.specs.Prelude.{◌≡◌, ℕ, ◌+◌, ◌<◌, ◌≤◌, All, vec_len};
+ghost use Rattle.batch_rows.specs.declared.rows.TheConstants.{CALL_LIMIT};
+ghost use Rattle.batch_orders.specs.Batches.{with_counts};
+ghost use Rattle.batch_runner.specs.Printed.{BEFORE_LIMIT};
+
+use crate::batch::Batch;
+use plain_map::MOST_SEATS;
+
+/// So many calls the seats have answered once this batch is done.
+pub fn go_on(before: &mut [u32; MOST_SEATS], batch: &Batch)
+    requires seats { vec_len batch.now.answered ≤ 8 }
+    requires few { All (λ count. count < CALL_LIMIT) batch.now.answered.items }
+    requires before { All (λ count. count ≤ BEFORE_LIMIT) before.old }
+    ensures counts { before.new ≡ with_counts before.old batch.now.answered.items }
+    ensures most { (most more : ℕ) → All (λ count. count ≤ most) before.old →
+        All (λ count. count ≤ more) batch.now.answered.items → All (λ count. count ≤ most + more) before.new }
+{
+    for (seat, count) in batch.answered.iter().enumerate() {
+        before[seat] += *count;
+    }
+}

@@ -1,0 +1,64 @@
+//! What the calls of all seats came to, put together.
+
+ghost use Rattle.std.specs.Prelude.{◌≡◌, ◌≤◌, IfOk, map};
+ghost use Rattle.trace_share.specs.Deal.{dealt};
+ghost use Rattle.trace_share.specs.Outcomes.{asked_in, records_in};
+ghost use Rattle.batch_runner.specs.Served.{AreInPacketOrder};
+
+use plain_map::{Call, Record};
+use std::alloc::{AllocError, Global};
+use trace_share::{Outcome, Share, seat_for};
+
+/// All outcomes in the order of the calls, each with its seat: that of a call is the next one of the seat that it is dealt
+/// to.
+pub(crate) fn outcomes_of(
+    alloc: Global,
+    share: Share,
+    seats: u32,
+    calls: &[(u32, Call)],
+    logs: &[Vec<Outcome>],
+) -> Result<Vec<(u32, Outcome)>, AllocError>
+    requires some { 1 ≤ seats }
+    requires few { seats ≤ 8 }
+    requires logs { map (map asked_in) (map (λ log. log.items) logs.now) ≡ dealt share seats calls.now }
+    ensures { IfOk result (λ outcomes.
+        AreInPacketOrder calls.now (map (λ log. log.items) logs.now) outcomes.items) }
+{
+    let mut taken = [0usize; 8];
+    let mut outcomes = Vec::with_capacity(alloc, calls.len())?;
+    for (place, call) in calls.iter().enumerate() {
+        let seat = seat_for(share, seats, calls.len(), place, call);
+        let outcome = logs[seat as usize][taken[seat as usize]];
+        taken[seat as usize] += 1;
+        outcomes.push((seat, outcome))?;
+    }
+    Ok(outcomes)
+}
+
+/// The records of those of each log that were answered.
+pub(crate) fn records_of(
+    alloc: Global,
+    logs: &[Vec<Outcome>],
+) -> Result<Vec<Vec<Record>>, AllocError>
+    ensures { IfOk result (λ records. map (λ log. log.items) records.items
+        ≡ map records_in (map (λ log. log.items) logs.now)) }
+{
+    let mut records = Vec::with_capacity(alloc, logs.len())?;
+    for log in logs {
+        records.push(answered_in(alloc, log)?)?;
+    }
+    Ok(records)
+}
+
+// The records of those that were answered.
+fn answered_in(alloc: Global, log: &[Outcome]) -> Result<Vec<Record>, AllocError>
+    ensures { IfOk result (λ records. records.items ≡ records_in log.now) }
+{
+    let mut records = Vec::with_capacity(alloc, log.len())?;
+    for outcome in log {
+        if let Outcome::Answered(made) = outcome {
+            records.push(*made)?;
+        }
+    }
+    Ok(records)
+}

@@ -1,0 +1,105 @@
+//! The seats of a table make the calls that are dealt to them.
+
+ghost use Rattle.std.specs.Prelude.{◌≡◌, ℕ, ◌^◌, ◌<◌, ◌≤◌, [], All, IfOk, List, map, vec_capacity, vec_len};
+ghost use Rattle.plain_map.specs.declared.calls.Call.{Call as ACall};
+ghost use Rattle.plain_map.specs.Serving.{IsAskable};
+ghost use Rattle.shared_table.specs.Values.{new_seat, new_seats};
+ghost use Rattle.batch_runner.specs.Seats.{AreFresh, AreThrough, HaveMade, IsFresh};
+
+use edge_traits::Gate;
+use plain_map::Call;
+use shared_table::{Caller, Directory, Seat};
+use std::alloc::{AllocError, Global};
+use std::thread::Threads;
+use trace_share::{Outcome, Worker, serve_all};
+
+/// Each seat makes its share of the calls, in a thread of its own. Then the seats come back, in the order of their numbers,
+/// with what each one's calls came to.
+pub(crate) fn serve_shares<R: Threads + Sync, G: Gate + Sync>(
+    rt: &R,
+    alloc: Global,
+    directory: &Directory,
+    seats: Vec<Seat>,
+    shares: Vec<Vec<(u32, Call)>>,
+    gate: &G,
+) -> Result<(Vec<Seat>, Vec<Vec<Outcome>>), AllocError>
+    requires new { seats.items ≡ new_seats directory.now 0 (vec_len seats) }
+    requires as_many { vec_len seats ≡ vec_len shares }
+    requires few { vec_len seats ≤ 8 }
+    requires askable { All (λ share. All (λ call. IsAskable call.1) share.items) shares.items }
+    requires short { All (λ share. vec_len share < 2 ^ 32) shares.items }
+    ensures { IfOk result (λ done. HaveMade directory.now 0 (map (λ share. share.items) shares.items) done.0.items
+        (map (λ log. log.items) done.1.items)) }
+{
+    let mut logs = Vec::with_capacity(alloc, seats.len())?;
+    let mut back = Vec::with_capacity(alloc, seats.len())?;
+    let mut workers = workers_of(alloc, directory, seats, shares)?;
+    serve_all(rt, workers.as_mut_slice(), gate);
+    take_apart(directory, workers, &mut back, &mut logs);
+    Ok((back, logs))
+}
+
+// A worker for each seat and its share, in the order of the seats.
+fn workers_of<'a>(
+    alloc: Global,
+    directory: &'a Directory,
+    mut seats: Vec<Seat>,
+    mut shares: Vec<Vec<(u32, Call)>>,
+) -> Result<Vec<Worker<Caller<'a>>>, AllocError>
+    requires new { seats.items ≡ new_seats directory.now 0 (vec_len seats) }
+    requires as_many { vec_len seats ≡ vec_len shares }
+    ensures { IfOk result (λ workers.
+        AreFresh directory.now 0 (map (λ share. share.items) shares.items) workers.items) }
+{
+    let mut workers = Vec::with_capacity(alloc, seats.len())?;
+    while let Some(seat) = seats.pop() {
+        let Some(calls) = shares.pop() else {
+            unreachable!()
+        };
+        let worker = worker_of(alloc, directory, seat, calls)?;
+        workers.push(worker)?;
+    }
+    workers.reverse();
+    Ok(workers)
+}
+
+// A worker for one seat.
+fn worker_of<'a>(
+    alloc: Global,
+    directory: &'a Directory,
+    seat: Seat,
+    calls: Vec<(u32, Call)>,
+) -> Result<Worker<Caller<'a>>, AllocError>
+    requires new { seat ≡ new_seat directory.now seat.holding.seat }
+    ensures { IfOk result (IsFresh directory.now seat.holding.seat calls.items) }
+{
+    match Worker::new(alloc, Caller::new(seat, directory), calls) {
+        Ok(worker) => Ok(worker),
+        Err((failed, _)) => Err(failed),
+    }
+}
+
+// The seats and the logs of workers that are done, in the order of the seats.
+fn take_apart(
+    directory: &Directory,
+    mut workers: Vec<Worker<Caller<'_>>>,
+    seats: &mut Vec<Seat>,
+    logs: &mut Vec<Vec<Outcome>>,
+)
+    requires seats { (seats.old.items ≡ []) × (vec_capacity seats.old ≡ vec_len workers) }
+    requires logs { (logs.old.items ≡ []) × (vec_capacity logs.old ≡ vec_len workers) }
+    ensures { (shares : List (List (ℕ × ACall))) → AreThrough directory.now 0 shares workers.entry.items →
+        HaveMade directory.now 0 shares seats.new.items (map (λ log. log.items) logs.new.items) }
+{
+    while let Some(worker) = workers.pop() {
+        let Worker {
+            server,
+            calls: _,
+            log,
+        } = worker;
+        seats.push_reserved(server.into_seat());
+        logs.push_reserved(log);
+    }
+    seats.reverse();
+    logs.reverse();
+}
