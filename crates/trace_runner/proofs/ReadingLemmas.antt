@@ -298,8 +298,10 @@ on_both fault.Memory p q make = tt
 on_told : (first : Option (List ℕ)) (bytes : List ℕ) (found : CaptureFault) → first ≡ Some bytes →
     OnInputFault found (OfInput first (λ (told : List ℕ). ShowsFault told found)) →
     OnInputFault found (ShowsFault bytes found)
-on_told first bytes found is shown = subst (λ (known : Option (List ℕ)). OnInputFault found
-(OfInput known (λ (told : List ℕ). ShowsFault told found))) is shown
+on_told first bytes found is shown =
+    let P : Option (List ℕ) → Type 0 =
+    λ known. OnInputFault found (OfInput known (λ (told : List ℕ). ShowsFault told found)) in
+    subst P is shown
 
 -- what was taken of it
 taken_fault :

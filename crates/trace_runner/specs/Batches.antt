@@ -15,8 +15,7 @@ batch_count packets = max 1 ((packets + 2047) / batch_length)
 abbrev pub IsOfBatch : ℕ → ℕ × Call → Type 0
 IsOfBatch batch call = (batch_length * batch < call.0) × (call.0 ≤ batch_length * suc batch)
 
--- the calls of so many packets are cut into these batches
-pub record AreCut (packets : ℕ) (calls : List (ℕ × Call)) (batches : List (List (ℕ × Call))) : Type 0 where
-  pub count : length batches ≡ batch_count packets
+-- the calls of these batches, one after the other, are these, and each is of its batch
+pub record AreOfBatches (calls : List (ℕ × Call)) (batches : List (List (ℕ × Call))) : Type 0 where
   pub parts : flat_map (λ batch. batch) batches ≡ calls
   pub each : (batch : ℕ) → batch < length batches → All (IsOfBatch batch) (slice_index_or batches batch [])

@@ -1,6 +1,6 @@
 -- What a run serves of its input.
 -- Source: pcap-savefile(5), by the definition of a capture.
-use Rattle.std.specs.Prelude.{◌≡◌, ℕ, ◌<◌, ◌≤◌, ◌+◌, List, [], ◌++◌, length, map, sum_by, take, Option, Some, Result, Ok, Err}
+use Rattle.std.specs.Prelude.{◌≡◌, ℕ, ◌<◌, ◌≤◌, ◌+◌, ◌⊎◌, List, [], ◌++◌, length, map, sum_by, take, Option, Some, Result, Ok, Err}
 use Rattle.pcap_reader.specs.declared.fault.CaptureFault.{CaptureFault}
 use Rattle.pcap_reader.specs.Capture.{Saved, Capture, file_head_length, record_head_length}
 use Rattle.pcap_reader.specs.Laws.{BeginsWith}
@@ -61,10 +61,13 @@ pub record Serves (bytes : List ℕ) (left : Option (List ℕ)) (packets : List 
   pub holds : HoldsUntil bytes left packets ending
   pub takes : TakesFew bytes left packets
 
+-- these are the first packets of an input with these bytes
+abbrev pub IsFirst : List ℕ → List (List ℕ) → Type 0
+IsFirst bytes packets =
+    (packets ≡ []) ⊎ ((records : List Saved) × (more : List ℕ) × BeginsWith bytes records more
+    × (packets ≡ packets_of records))
+
 -- Of an input with these bytes, of which these are left, these packets have been read; how it ends is not known yet.
 pub record Begins (bytes : List ℕ) (left : Option (List ℕ)) (packets : List (List ℕ)) : Type 0 where
-  pub records : List Saved
-  pub more : List ℕ
-  pub begins : BeginsWith bytes records more
-  pub are : packets ≡ packets_of records
+  pub first : IsFirst bytes packets
   pub takes : TakesFew bytes left packets

@@ -41,10 +41,11 @@ pub(crate) struct Part {
 
 /// Reads the file head. The only error is want of memory, before anything is read.
 pub(crate) fn open<S: Source>(alloc: Global, source: &mut S) -> Result<Opened, AllocError>
-    ensures come { IfOk result (λ opened. OnReads opened (λ reader. IsAtStart reader
-        × HaveCome (S.left source.old) (S.left source.new) reader 0 [])) }
-    ensures ended { IfOk result (λ opened. OnEnds opened (λ ending. IsEnding ending
-        × HaveEnded (S.left source.old) (S.left source.new) 0 [] ending)) }
+    ensures start { IfOk result (λ opened. OnReads opened IsAtStart) }
+    ensures come { IfOk result (λ opened. OnReads opened (λ reader.
+        HaveCome (S.left source.old) (S.left source.new) reader 0 [])) }
+    ensures ending { IfOk result (λ opened. OnEnds opened IsEnding) }
+    ensures ended { IfOk result (λ opened. OnEnds opened (HaveEnded (S.left source.old) (S.left source.new) 0 [])) }
     ensures read_fault { result ≡ Ok (Opened.Ends Ending.ReadFault) →
         Rose (S.faults source.old) (S.faults source.new) }
     ensures counted { S.faults source.old ≤ S.faults source.new }

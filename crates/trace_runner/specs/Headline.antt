@@ -1,0 +1,123 @@
+-- What a run prints, and so what its user may rely on.
+use Rattle.std.specs.Prelude.{◌≡◌, ◌*◌, ◌⊎◌, ℕ, List, [], ◌++◌, length, Some, nat_lt, if◌then◌else◌, is_ok, Option, Result}
+use Rattle.std.specs.Io.KnownBytes.{Appends}
+use Rattle.edge_traits.specs.Edge.{AppendsFront}
+use Rattle.plain_map.specs.declared.calls.Call.{Call}
+use Rattle.pcap_reader.specs.declared.fault.CaptureFault.{CaptureFault}
+use Rattle.pcap_reader.specs.Capture.{Saved}
+use Rattle.pcap_reader.specs.Made.{made_capture}
+use Rattle.pcap_reader.specs.Reading.{Took}
+use Rattle.report_text.specs.declared.parts.Ending.{Ending}
+use Rattle.report_text.specs.declared.parts.Ending.TheVariants.{Done, ReadFault, Limit, Fault}
+use Rattle.report_text.specs.Report.{report_of}
+use Rattle.batch_runner.specs.declared.service.Service.{Service}
+use Rattle.batch_runner.specs.Served.{Served}
+use Rattle.command_line.specs.declared.plan.Plan.{Plan}
+use Rattle.trace_runner.specs.declared.status.Status.{Status}
+use Rattle.trace_runner.specs.declared.status.Status.TheVariants as status
+use Rattle.trace_runner.specs.Batches.{batch_count, batch_length}
+use Rattle.trace_runner.specs.PacketCalls.{MakeCalls}
+use Rattle.trace_runner.specs.Input.{Begins, IsFirst, Serves, packet_limit}
+use Rattle.trace_runner.specs.Served.{AreDone, lines_so_far, run_report}
+
+-- ---- what is printed of packets
+
+-- The text is the report of so many packets, whose calls are these, served as the plan says, with this ending.
+abbrev pub IsReportOf : Plan → ℕ → List (ℕ × Call) → Ending → List ℕ → Type 0
+IsReportOf plan packets calls ending text =
+    (service : Service) × (batches : List Served) × AreDone plan service calls batches
+    × (length batches ≡ batch_count packets) × (text ≡ report_of (run_report plan service packets batches ending))
+
+-- the text is the head line and the lines of the whole batches of so many packets, whose calls are these
+abbrev pub IsFrontOf : Plan → ℕ → List (ℕ × Call) → List ℕ → Type 0
+IsFrontOf plan packets calls text =
+    (service : Service) × (batches : List Served) × AreDone plan service calls batches
+    × (batch_length * length batches ≡ packets) × (text ≡ lines_so_far plan service batches)
+
+abbrev pub IsReport : Plan → List (List ℕ) → Ending → List ℕ → Type 0
+IsReport plan packets ending text =
+    (calls : List (ℕ × Call)) × MakeCalls 1 packets calls × IsReportOf plan (length packets) calls ending text
+
+abbrev pub IsFront : Plan → List (List ℕ) → List ℕ → Type 0
+IsFront plan packets text =
+    (calls : List (ℕ × Call)) × MakeCalls 1 packets calls × IsFrontOf plan (length packets) calls text
+
+-- of an input with these bytes, of which these are left, the text is the report, with this ending
+abbrev pub Reports : Plan → List ℕ → Option (List ℕ) → Ending → List ℕ → Type 0
+Reports plan bytes left ending text =
+    (packets : List (List ℕ)) × Serves bytes left packets ending × IsReport plan packets ending text
+
+-- ---- the status
+
+-- the status of a run whose report was put whole
+abbrev pub status_of : Ending → Status
+status_of (Done rest) = status.Done
+status_of ReadFault = status.ReadFault
+status_of (Limit limit) = status.Limit
+status_of (Fault fault) = status.BadCapture
+
+-- the program's exit status
+abbrev pub code_of : Status → ℕ
+code_of status.Done = 0
+code_of status.Memory = 1
+code_of status.Usage = 2
+code_of status.ReadFault = 3
+code_of status.WriteFault = 4
+code_of status.BadCapture = 5
+code_of status.Limit = 6
+
+-- the status that a capture of these records with this ending is answered with, where nothing fails
+abbrev pub status_for : List Saved → Result ℕ CaptureFault → Status
+status_for records ending = if nat_lt packet_limit (length records) then status.Limit
+    else (if is_ok ending then status.Done else status.BadCapture)
+
+-- ---- what a run leaves
+
+-- a front of a text was put
+abbrev pub PutsFront : (before after : Option (List ℕ)) → (List ℕ → Type 0) → Type 0
+PutsFront before after IsText = (text : List ℕ) × IsText text × AppendsFront before after text
+
+-- The whole report was put, with this ending.
+abbrev pub PutsReport : Plan → List ℕ → Option (List ℕ) → Option (List ℕ) → Option (List ℕ) → Ending → Type 0
+PutsReport plan bytes left before after ending =
+    (text : List ℕ) × Reports plan bytes left ending text × Appends before after text
+
+-- A front of the report was put, where the ending is known, and otherwise of the lines of the batches so far.
+abbrev pub PutsSome : Plan → List ℕ → Option (List ℕ) → Option (List ℕ) → Option (List ℕ) → Type 0
+PutsSome plan bytes left before after =
+    ((ending : Ending) × PutsFront before after (Reports plan bytes left ending))
+    ⊎ ((packets : List (List ℕ)) × Begins bytes left packets × PutsFront before after (IsFront plan packets))
+
+-- The same where memory ran out, which may be while more of the input has been read.
+abbrev pub PutsLess : Plan → List ℕ → Option (List ℕ) → Option (List ℕ) → Option (List ℕ) → Type 0
+PutsLess plan bytes left before after =
+    ((ending : Ending) × PutsFront before after (Reports plan bytes left ending))
+    ⊎ ((packets : List (List ℕ)) × IsFirst bytes packets × PutsFront before after (IsFront plan packets))
+
+-- What `serve` leaves that ended so: of the input's bytes these are left, and the sink had taken `before` and has taken
+-- `after`.
+abbrev pub Leaves : Plan → List ℕ → Option (List ℕ) → Option (List ℕ) → Option (List ℕ) → Status → Type 0
+Leaves plan bytes left before after status.Done = (rest : ℕ) × PutsReport plan bytes left before after (Done rest)
+Leaves plan bytes left before after status.BadCapture =
+    (fault : CaptureFault) × PutsReport plan bytes left before after (Fault fault)
+Leaves plan bytes left before after status.Limit = (limit : ℕ) × PutsReport plan bytes left before after (Limit limit)
+Leaves plan bytes left before after status.ReadFault = PutsReport plan bytes left before after ReadFault
+Leaves plan bytes left before after status.WriteFault = PutsSome plan bytes left before after
+Leaves plan bytes left before after status.Memory = PutsLess plan bytes left before after
+Leaves plan bytes left before after status.Usage = ⊥
+
+-- so it is for the bytes of a source, where they are told, and for those that were taken of it, as of a source that told
+-- just these
+pub record LeavesAll (plan : Plan) (first left before after : Option (List ℕ)) (answer : Status) : Type 0 where
+  pub told : (bytes : List ℕ) → first ≡ Some bytes → Leaves plan bytes left before after answer
+  pub took : Took first left (λ taken. Leaves plan taken (Some []) before after answer)
+
+-- what `make` leaves
+abbrev pub LeavesMade : Plan → Option (List ℕ) → Option (List ℕ) → Status → Type 0
+LeavesMade plan before after status.Done = Appends before after (made_capture plan.number plan.packets)
+LeavesMade plan before after status.WriteFault = AppendsFront before after (made_capture plan.number plan.packets)
+LeavesMade plan before after status.Memory = AppendsFront before after (made_capture plan.number plan.packets)
+LeavesMade plan before after status.Usage = ⊥
+LeavesMade plan before after status.ReadFault = ⊥
+LeavesMade plan before after status.BadCapture = ⊥
+LeavesMade plan before after status.Limit = ⊥
