@@ -1,5 +1,5 @@
 -- What is told of a batch.
-use Rattle.std.specs.Prelude.{◌≡◌, ℕ, ◌<◌, All, length, map}
+use Rattle.std.specs.Prelude.{◌≡◌, ℕ, ◌<◌, length, map, slice_index}
 use Rattle.plain_map.specs.History.{ids_of}
 use Rattle.trace_share.specs.declared.outcome.Outcome.{Outcome}
 use Rattle.trace_share.specs.declared.outcome.Outcome.TheVariants.{Answered, Refused}
@@ -19,5 +19,6 @@ pub record IsToldBy (service : Service) (served : Served) (batch : Batch) : Type
 
 -- an answered call's number, and all counts that its caller had seen, are below this
 abbrev pub HasCounts : (limit : ℕ) → Outcome → Type 0
-HasCounts limit (Answered made) = (made.number < limit) × All (λ count. count < limit) made.seen.counts
+HasCounts limit (Answered made) =
+    (made.number < limit) × ((seat : ℕ) → seat < 8 → slice_index made.seen.counts seat < limit)
 HasCounts limit (Refused packet call full) = Unit {0}

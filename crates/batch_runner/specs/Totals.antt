@@ -1,9 +1,13 @@
 -- What calls came to.
 -- Source: this project's own.
-use Rattle.std.specs.Prelude.{ℕ, Bool, true, false, List, length, count_by}
+use Rattle.std.specs.Prelude.{ℕ, ◌+◌, ◌<◌, max, Bool, true, false, List, length, count_by}
 use Rattle.plain_map.specs.declared.calls.Reply.{Reply}
 use Rattle.plain_map.specs.declared.calls.Reply.TheVariants.{New, Old, NoRoom, Gone, Found, Absent}
+use Rattle.plain_map.specs.declared.calls.Call.{Call}
+use Rattle.plain_map.specs.declared.calls.Call.TheVariants.{Insert, Remove, Lookup}
 use Rattle.trace_share.specs.declared.outcome.Outcome.{Outcome}
+use Rattle.trace_share.specs.declared.outcome.Outcome.TheVariants.{Answered, Refused}
+use Rattle.batch_runner.specs.declared.totals.Replies.{Replies}
 use Rattle.batch_runner.specs.declared.totals.Totals.{Totals}
 use Rattle.batch_runner.specs.Printed.{answers_in, lookup_steps_in, refused_in, update_steps_in}
 
@@ -50,3 +54,37 @@ totals_of outcomes = record {
     absent = replies_in is_absent outcomes;
   };
 }
+
+-- each is below this
+pub record AreFewer (limit : ℕ) (replies : Replies) : Type 0 where
+  pub new : replies.new < limit
+  pub old : replies.old < limit
+  pub noroom : replies.noroom < limit
+  pub gone : replies.gone < limit
+  pub found : replies.found < limit
+  pub absent : replies.absent < limit
+
+-- one more of a reply
+abbrev pub with_reply : Reply → Replies → Replies
+with_reply New replies = record replies { new = replies.new + 1 }
+with_reply (Old value) replies = record replies { old = replies.old + 1 }
+with_reply NoRoom replies = record replies { noroom = replies.noroom + 1 }
+with_reply (Gone value) replies = record replies { gone = replies.gone + 1 }
+with_reply (Found value) replies = record replies { found = replies.found + 1 }
+with_reply Absent replies = record replies { absent = replies.absent + 1 }
+
+-- the most steps, with those of one more call
+abbrev pub with_steps : Call → (steps : ℕ) → Totals → Totals
+with_steps (Lookup key) steps totals = record totals { lookup = max totals.lookup steps }
+with_steps (Insert key value) steps totals = record totals { update = max totals.update steps }
+with_steps (Remove key) steps totals = record totals { update = max totals.update steps }
+
+-- one call more
+abbrev pub with_outcome : Outcome → Totals → Totals
+with_outcome (Answered made) totals =
+    record (with_steps made.call made.steps totals) {
+      calls = totals.calls + 1;
+      replies = with_reply made.reply totals.replies;
+    }
+with_outcome (Refused packet call full) totals =
+    record totals { calls = totals.calls + 1; refused = totals.refused + 1 }

@@ -1,9 +1,10 @@
 //! What all calls came to, over all batches.
 
-ghost use Rattle.std.specs.Prelude.{◌≡◌, ◌+◌, ◌^◌, ◌<◌, [], List, ◌++◌, length, map};
+ghost use Rattle.std.specs.Prelude.{◌≡◌, ◌+◌, ◌-◌, ◌^◌, ◌<◌, [], List, ◌++◌, length, map};
 ghost use Rattle.trace_share.specs.declared.outcome.Outcome.{Outcome as AnOutcome};
-ghost use Rattle.batch_runner.specs.Totals.{totals_of};
+ghost use Rattle.batch_runner.specs.Totals.{AreFewer, totals_of, with_outcome, with_reply};
 
+use plain_map::{Call, Reply};
 use trace_share::Outcome;
 
 /// How many calls had each reply.
@@ -64,5 +65,39 @@ impl Totals {
     }
 
     // One call more.
-    fn put(&mut self, outcome: &Outcome) {}
+    fn put(&mut self, outcome: &Outcome)
+        requires { (all : List AnOutcome) × (self.old ≡ totals_of all) × (length all + 1 < 2 ^ 64) }
+        ensures { self.new ≡ with_outcome outcome.now self.old }
+    {
+        self.calls += 1;
+        match outcome {
+            Outcome::Answered(made) => {
+                self.replies.put(made.reply);
+                match made.call {
+                    Call::Lookup(_) => self.lookup = self.lookup.max(made.steps),
+                    Call::Insert(_, _) | Call::Remove(_) => {
+                        self.update = self.update.max(made.steps);
+                    }
+                }
+            }
+            Outcome::Refused { .. } => self.refused += 1,
+        }
+    }
+}
+
+impl Replies {
+    // One reply more.
+    fn put(&mut self, reply: Reply)
+        requires { AreFewer (2 ^ 64 - 1) self.now }
+        ensures { self.exit.now ≡ with_reply reply self.entry.now }
+    {
+        match reply {
+            Reply::New => self.new += 1,
+            Reply::Old(_) => self.old += 1,
+            Reply::NoRoom => self.noroom += 1,
+            Reply::Gone(_) => self.gone += 1,
+            Reply::Found(_) => self.found += 1,
+            Reply::Absent => self.absent += 1,
+        }
+    }
 }
