@@ -1,0 +1,10 @@
+pub mod BuilderLemmas
+pub mod IdLemmas
+pub mod PassingLemmas
+pub mod CommandLemmas
+pub mod TextLemmas
+pub mod WordsLemmas
+pub mod CommandLinesLemmas
+pub mod WrittenLemmas
+pub mod RoundTripLemmas
+pub mod UnusedLemmas

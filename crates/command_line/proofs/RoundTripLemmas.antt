@@ -1,0 +1,130 @@
+-- The line that is written from a plan asks for it.
+use Rattle.std.proofs.Common.{◌≡◌, ◌∙◌, ◌<◌, ◌≤◌, ◌^◌, ℕ, ◌&&◌, Bool, cond, true, Option, Some, None}
+use Rattle.std.proofs.Common.{IfSome, ap, ap₂, refl, arith}
+use Rattle.std.specs.Fmt.{decimal as written}
+use Rattle.std.specs.List.{list_all}
+use Rattle.std.specs.Option.{option_map}
+use Rattle.std.specs.Str.Parse.{IsNumeral, digits_value, without_leading_plus}
+use Rattle.std.proofs.lemmas.Fmt.{decimal_is_IsNumeral}
+use Rattle.clap.proofs.ValueTestLemmas.{Accepts-accepts}
+use Rattle.clap.specs.declared.builder.value_parser.ValueParser.TheVariants.{Unsigned}
+use Rattle.hash_bits.specs.declared.hashing.Hashing.{Hashing}
+use Rattle.hash_bits.specs.declared.hashing.Hashing.TheVariants.{Mix, Ports}
+use Rattle.step_counts.specs.declared.rows.SeatRows.{SeatRows}
+use Rattle.trace_share.specs.declared.deals.Share.{Share}
+use Rattle.trace_share.specs.declared.deals.Share.TheVariants.{Round, Block, Flow}
+use Rattle.command_line.specs.Command.{Number, capture_number, depth, items, packets, seats, seed, start}
+use Rattle.command_line.specs.CommandLines.{IsAskable, as_used, asked, default_plan, given_of, hash_text, is_in, line_of}
+use Rattle.command_line.specs.CommandLines.{rows_text, seed_of, share_text, tests}
+use Rattle.command_line.specs.Texts.{◌>>=◌, AreRowsInRange}
+use Rattle.command_line.specs.Words.{asked_rows, decimal, hashing_of, reads, share_of, start_below}
+use Rattle.command_line.specs.declared.plan.Mode.{Mode}
+use Rattle.command_line.specs.declared.plan.Mode.TheVariants.{Serve, Make, Trial}
+use Rattle.command_line.specs.declared.plan.Plan.{Plan}
+use Rattle.command_line.proofs.CommandLinesLemmas.{any_line}
+use Rattle.command_line.proofs.TextLemmas.{at_most_of}
+use Rattle.command_line.proofs.WrittenLemmas.{bare, read_back, rows_text_back}
+
+-- it is one that its option takes
+passes : (n : Number) (x : ℕ) → n.least ≤ x → x ≤ n.most → x < 2 ^ 64 → is_in n (written x) ≡ true
+passes n x low high fits =
+    let value : digits_value 10 (without_leading_plus (written x)) ≡ x = read_back x fits in
+    let numeral : IsNumeral 10 (without_leading_plus (written x)) = rw (bare x fits) (decimal_is_IsNumeral x fits).0 in
+    Accepts-accepts true (Unsigned n.least n.most) (written x) (numeral, rw value fits, rw value low, rw value high)
+
+-- ---- the texts of a plan
+
+hash_back : (h : Hashing) → seed_of h < 2 ^ 64 → hashing_of (hash_text h) (decimal (written (seed_of h))) ≡ Some h
+hash_back (Mix s) fits = ap (λ n. Some (Mix n)) (read_back s fits)
+hash_back (Ports s) fits = ap (λ n. Some (Ports n)) (read_back s fits)
+
+share_back : (s : Share) → share_of (share_text s) ≡ Some s
+share_back Round = refl
+share_back Block = refl
+share_back Flow = refl
+
+start_back : (d s : ℕ) → d < 2 ^ 64 → s < 2 ^ 64 → s ≤ d → start_below (decimal (written d)) (decimal (written s)) ≡ Some s
+start_back d s df sf low =
+    ap₂ start_below (read_back d df) (read_back s sf) ∙ ap (λ b. cond b (Some s) None) (at_most_of d s low)
+
+rows_back : (rows : Option SeatRows) → IfSome rows AreRowsInRange → asked_rows (option_map rows_text rows) ≡ Some rows
+rows_back None h = refl
+rows_back (Some rows) h = ap (option_map (λ (r : SeatRows). Some r)) (rows_text_back rows h)
+
+and : {a b : Bool} → a ≡ true → b ≡ true → (a && b) ≡ true
+and e f = ap₂ (λ x y. x && y) e f
+
+all_pass : (p : Plan) → IsAskable p → list_all (λ b. b) (tests (given_of p)) ≡ true
+all_pass p h =
+    let r = h.range.settings in
+    and (passes seats p.seats r.seats_in_range.0 r.seats_in_range.1 (omega arith))
+    (and (passes items p.items r.items_in_range.0 r.items_in_range.1 (omega arith))
+    (and (passes depth p.depth r.depth_in_range.0 r.depth_in_range.1 (omega arith))
+    (and (passes start p.start (omega arith) (omega arith) (omega arith))
+    (and (passes seed (seed_of p.hashing) (omega arith) (omega arith) h.seed)
+    (and (passes capture_number p.number (omega arith) (omega arith) h.number)
+    (and (passes packets p.packets (omega arith) h.range.packets (omega arith)) refl))))))
+
+serve_back : (p : Plan) → IsAskable p → asked Serve (given_of p) (option_map rows_text p.rows) ≡ Some (as_used p Serve)
+serve_back p h =
+    let r = h.range.settings in
+    let n = read_back p.seats (omega arith) in
+    let b = read_back p.items (omega arith) in
+    let d = read_back p.depth (omega arith) in
+    let s = start_back p.depth p.start (omega arith) (omega arith) r.start_in_range.1 in
+    let hs = hash_back p.hashing h.seed in
+    let sh = share_back p.share in
+    let rs = rows_back p.rows h.range.rows in
+    λ i. (rs i) >>= (λ rows. (s i) >>= (λ start. (hs i) >>= (λ hashing. (sh i) >>= (λ share. Some (record {
+      mode = Serve;
+      seats = n i;
+      items = b i;
+      depth = d i;
+      start = start;
+      hashing = hashing;
+      share = share;
+      rows = rows;
+      number = 0;
+      packets = 1000;
+    })))))
+
+make_back : (p : Plan) → IsAskable p → asked Make (given_of p) (option_map rows_text p.rows) ≡ Some (as_used p Make)
+make_back p h =
+    let n = read_back p.number h.number in
+    let k = read_back p.packets (omega (arith, h.range.packets)) in
+    λ i. Some (record default_plan { mode = Make; number = n i; packets = k i })
+
+trial_back : (p : Plan) → IsAskable p → asked Trial (given_of p) (option_map rows_text p.rows) ≡ Some (as_used p Trial)
+trial_back p h =
+    let r = h.range.settings in
+    let n = read_back p.seats (omega arith) in
+    let b = read_back p.items (omega arith) in
+    let d = read_back p.depth (omega arith) in
+    let s = start_back p.depth p.start (omega arith) (omega arith) r.start_in_range.1 in
+    let hs = read_back (seed_of p.hashing) h.seed in
+    let x = read_back p.number h.number in
+    let k = read_back p.packets (omega (arith, h.range.packets)) in
+    λ i. (s i) >>= (λ start. Some (record {
+      mode = Trial;
+      seats = n i;
+      items = b i;
+      depth = d i;
+      start = start;
+      hashing = Mix (hs i);
+      share = Flow;
+      rows = None;
+      number = x i;
+      packets = k i;
+    }))
+
+asked_back : (p : Plan) → IsAskable p → (mode : Mode)
+    → asked mode (given_of p) (option_map rows_text p.rows) ≡ Some (as_used p mode)
+asked_back p h Serve = serve_back p h
+asked_back p h Make = make_back p h
+asked_back p h Trial = trial_back p h
+
+pub round_trip : (p : Plan) → IsAskable p → reads (line_of p) ≡ Some (as_used p p.mode)
+round_trip p h =
+    any_line p.mode (given_of p) (option_map rows_text p.rows)
+    ∙ ap (λ b. cond b (asked p.mode (given_of p) (option_map rows_text p.rows)) None) (all_pass p h)
+    ∙ asked_back p h p.mode

@@ -1,0 +1,4 @@
+pub mod Command
+pub mod Texts
+pub mod Words
+pub mod CommandLines

@@ -1,0 +1,146 @@
+-- What the words of a command line ask for.
+--
+-- `clap` states, of a simple command, which words it takes (`fault_of` is empty) and what it finds
+-- in them (`matches_of`). The plan is a function of what was found: each option's value or its
+-- default, where each text that the mode uses is one of the words for it. Of an option that the mode
+-- does not use nothing is looked at: it has its default.
+use Rattle.std.specs.Prelude.{◌≡◌, ◌≤◌, ℕ, Bool, true, false, List, [], Option, Some, None, codes, if◌then◌else◌}
+use Rattle.std.specs.Prelude.{Result, Ok, Err, unwrap_or, IfSome}
+use Rattle.std.specs.Option.{option_map, option_map_or}
+use Rattle.std.specs.Str.{bytes_eq}
+use Rattle.std.specs.Str.Parse.{digits_value, without_leading_plus}
+use Rattle.clap.specs.Walk.{Text, first_of, is_empty}
+use Rattle.clap.specs.Simple.{matches_of}
+use Rattle.clap.specs.Faults.{fault_of}
+use Rattle.hash_bits.specs.declared.hashing.Hashing.{Hashing}
+use Rattle.hash_bits.specs.declared.hashing.Hashing.TheVariants.{Mix, Ports}
+use Rattle.step_counts.specs.Ranges.{AreInRange}
+use Rattle.step_counts.specs.declared.rows.SeatRows.{SeatRows}
+use Rattle.trace_share.specs.declared.deals.Share.{Share}
+use Rattle.trace_share.specs.declared.deals.Share.TheVariants.{Round, Block, Flow}
+use Rattle.command_line.specs.Command.{Number, capture_number, depth, flowdir_app, items, packets, seats, seed, start}
+use Rattle.command_line.specs.Texts.{◌>>=◌, AreRowsInRange, at_most, rows_of}
+use Rattle.command_line.specs.declared.plan.Mode.{Mode}
+use Rattle.command_line.specs.declared.plan.Mode.TheVariants as mode
+use Rattle.command_line.specs.declared.plan.Plan.{Plan}
+use Rattle.command_line.specs.declared.words.WordsFault.{WordsFault}
+use Rattle.command_line.specs.declared.words.WordsFault.TheVariants as fault
+
+-- what the words give for a name, if anything
+abbrev pub Values : Type 0
+Values = Text → Option Text
+
+-- the number that decimal digits write, after a `+` or none
+abbrev pub decimal : Text → ℕ
+decimal text = digits_value 10 (without_leading_plus text)
+
+-- the number of an option, or its default
+abbrev pub number_in : Values → Number → ℕ
+number_in given n = option_map_or decimal (given n.name) n.default
+
+-- the text of a name, or the default
+abbrev pub text_in : Values → Text → Text → Text
+text_in given name default = unwrap_or (given name) default
+
+abbrev pub mode_of : Text → Option Mode
+mode_of text = if bytes_eq text (codes "serve") then Some mode.Serve
+    else (if bytes_eq text (codes "make") then Some mode.Make
+    else (if bytes_eq text (codes "trial") then Some mode.Trial else None))
+
+-- ---- what a mode uses
+
+-- the mode has a table: it uses `seats`, `items`, `depth`, `start` and `seed`
+abbrev pub has_table : Mode → Bool
+has_table mode.Serve = true
+has_table mode.Make = false
+has_table mode.Trial = true
+
+-- the mode makes a capture: it uses `number` and `packets`
+abbrev pub makes_capture : Mode → Bool
+makes_capture mode.Serve = false
+makes_capture mode.Make = true
+makes_capture mode.Trial = true
+
+-- the number of an option that may be used, or its default
+abbrev pub number_if : Bool → Values → Number → ℕ
+number_if uses given n = if uses then number_in given n else n.default
+
+abbrev pub start_below : ℕ → ℕ → Option ℕ
+start_below depth start = if at_most depth start then Some start else None
+
+-- the starting depth is at most the greatest
+abbrev pub start_in : Mode → Values → Option ℕ
+start_in mode given = start_below (number_if (has_table mode) given depth) (number_if (has_table mode) given start)
+
+abbrev pub hashing_of : Text → ℕ → Option Hashing
+hashing_of text seed = if bytes_eq text (codes "mix") then Some (Mix seed)
+    else (if bytes_eq text (codes "ports") then Some (Ports seed) else None)
+
+abbrev pub hashing_in : Mode → Values → Option Hashing
+hashing_in mode.Serve given = hashing_of (text_in given (codes "hash") (codes "mix")) (number_in given seed)
+hashing_in mode.Make given = Some (Mix seed.default)
+hashing_in mode.Trial given = Some (Mix (number_in given seed))
+
+abbrev pub share_of : Text → Option Share
+share_of text = if bytes_eq text (codes "round") then Some Round
+    else (if bytes_eq text (codes "block") then Some Block
+    else (if bytes_eq text (codes "flow") then Some Flow else None))
+
+-- a trial serves by flows
+abbrev pub share_in : Mode → Values → Option Share
+share_in mode.Serve given = share_of (text_in given (codes "share") (codes "round"))
+share_in mode.Make given = Some Round
+share_in mode.Trial given = Some Flow
+
+-- the rows of a text, automatic where there is no text
+abbrev pub asked_rows : Option Text → Option (Option SeatRows)
+asked_rows None = Some None
+asked_rows (Some text) = option_map (λ (rows : SeatRows). Some rows) (rows_of text)
+
+abbrev pub rows_for : Mode → Values → Option (Option SeatRows)
+rows_for mode.Serve given = asked_rows (given (codes "rows"))
+rows_for mode.Make given = Some None
+rows_for mode.Trial given = Some None
+
+-- the plan of a mode with these rows
+abbrev pub plan_with : Mode → Option SeatRows → Values → Option Plan
+plan_with mode rows given = do
+  start ← start_in mode given
+  hashing ← hashing_in mode given
+  share ← share_in mode given
+  Some (record {
+    mode = mode;
+    seats = number_if (has_table mode) given seats;
+    items = number_if (has_table mode) given items;
+    depth = number_if (has_table mode) given depth;
+    start = start;
+    hashing = hashing;
+    share = share;
+    rows = rows;
+    number = number_if (makes_capture mode) given capture_number;
+    packets = number_if (makes_capture mode) given packets;
+  })
+
+-- the plan of what the words give, where each text that the mode uses is one of the words for it
+abbrev pub plan_of : Values → Option Plan
+plan_of given = do
+  mode ← mode_of (text_in given (codes "mode") [])
+  rows ← rows_for mode given
+  plan_with mode rows given
+
+-- the numbers of the plan are those that a table, and a made capture, may have
+pub record IsInRange (p : Plan) : Type 0 where
+  pub settings : AreInRange p.seats p.items p.depth p.start
+  pub rows : IfSome p.rows AreRowsInRange
+  pub packets : p.packets ≤ packets.most
+
+-- the plan that the words ask for: none where the command does not take them
+unfoldable pub reads : List Text → Option Plan
+reads words = if is_empty (fault_of flowdir_app words)
+    then plan_of (λ name. first_of name (matches_of flowdir_app words)) else None
+
+-- the answer is the plan, a refusal where there is none, or want of memory
+abbrev pub Answers : Option Plan → Result Plan WordsFault → Type 0
+Answers plan (Ok p) = plan ≡ Some p
+Answers plan (Err fault.Usage) = plan ≡ None
+Answers plan (Err fault.Memory) = Unit {0}

@@ -1,0 +1,39 @@
+//! What a command line asks for.
+
+use hash_bits::Hashing;
+use step_counts::SeatRows;
+use trace_share::Share;
+
+/// What the program does.
+#[derive(Clone, Copy, Debug, PartialEq, Eq)]
+pub enum Mode {
+    /// Reads a capture, calls the table for each packet, and reports.
+    Serve,
+    /// Writes the made capture, and reads nothing.
+    Make,
+    /// Serves the made capture, with share `flow` and hash `mix`, and prints a summary; reads nothing.
+    Trial,
+}
+
+/// The mode and its settings. A setting that the mode does not use has its default.
+#[derive(Clone, Copy, Debug, PartialEq, Eq)]
+pub struct Plan {
+    pub mode: Mode,
+    /// How many callers the table has, 1 to 8.
+    pub seats: u32,
+    /// Room of a bucket, in items, 1 to 16.
+    pub items: u32,
+    /// The greatest number of hash bits that tell two buckets apart, 0 to 12.
+    pub depth: u32,
+    /// The depth of the table at its opening, 0 to `depth`.
+    pub start: u32,
+    pub hashing: Hashing,
+    /// Which seat makes which call; in `Trial` it is `Flow`.
+    pub share: Share,
+    /// The rows of each seat; `None` where they are automatic.
+    pub rows: Option<SeatRows>,
+    /// The number of the made capture.
+    pub number: u64,
+    /// How many packets the made capture has, 0 to 4,000,000.
+    pub packets: u32,
+}

@@ -1,0 +1,72 @@
+//! The options of the command, as two tables.
+//!
+//! A new option is a row here, a row of `specs/Command.antt`, and a field of the plan.
+
+/// An option `--name` with a number in a range.
+#[derive(Clone, Copy, Debug)]
+pub struct NumberOption<'a> {
+    pub name: &'a str,
+    pub least: u64,
+    pub most: u64,
+    /// The number where the words have none.
+    pub default: u64,
+}
+
+pub const SEATS: NumberOption<'static> = NumberOption {
+    name: "seats",
+    least: 1,
+    most: 8,
+    default: 2,
+};
+
+pub const ITEMS: NumberOption<'static> = NumberOption {
+    name: "items",
+    least: 1,
+    most: 16,
+    default: 8,
+};
+
+pub const DEPTH: NumberOption<'static> = NumberOption {
+    name: "depth",
+    least: 0,
+    most: 12,
+    default: 10,
+};
+
+pub const START: NumberOption<'static> = NumberOption {
+    name: "start",
+    least: 0,
+    most: 12,
+    default: 0,
+};
+
+pub const SEED: NumberOption<'static> = NumberOption {
+    name: "seed",
+    least: 0,
+    most: u64::MAX,
+    default: 0,
+};
+
+/// Of the made capture.
+pub const NUMBER: NumberOption<'static> = NumberOption {
+    name: "number",
+    least: 0,
+    most: u64::MAX,
+    default: 0,
+};
+
+/// Of the made capture.
+pub const PACKETS: NumberOption<'static> = NumberOption {
+    name: "packets",
+    least: 0,
+    most: 4_000_000,
+    default: 1_000,
+};
+
+/// The options with a number.
+pub static NUMBERS: [NumberOption<'static>; 7] = [
+    SEATS, ITEMS, DEPTH, START, SEED, NUMBER, PACKETS,
+];
+
+/// The options with a text.
+pub static TEXTS: [&str; 3] = ["hash", "share", "rows"];

@@ -1,0 +1,230 @@
+//! From the values that the words give to the plan.
+//!
+//! An option that its mode does not use has no effect, and its text is not looked at.
+
+ghost use Rattle.std.specs.Prelude.{◌≡◌, ◌≤◌, IfOk, IfSome};
+ghost use Rattle.std.specs.List.{AllByRecursion};
+ghost use Rattle.std.specs.Option.{option_map};
+ghost use Rattle.clap.specs.Words.{first_value, found_of};
+ghost use Rattle.command_line.specs.Command.{depth, number_of, numbers, Passes};
+ghost use Rattle.command_line.specs.Texts.{AreRowsInRange};
+ghost use Rattle.command_line.specs.Words.{asked_rows, has_table, hashing_in, hashing_of, makes_capture, mode_of, number_if, number_in};
+ghost use Rattle.command_line.specs.Words.{plan_of, plan_with, rows_for, share_in, share_of, start_in, text_in, IsInRange};
+
+use crate::plan::{Mode, Plan};
+use crate::words::options::{DEPTH, ITEMS, NUMBER, NumberOption, PACKETS, SEATS, SEED, START};
+use crate::words::texts::rows_of;
+use clap::ArgMatches;
+use hash_bits::Hashing;
+use std::alloc::{AllocError, Global};
+use step_counts::SeatRows;
+use trace_share::Share;
+
+/// The number of an option, or its default.
+#[tactic(auto, unfolding(crate::specs::Command::Passes))]
+fn number(matches: &ArgMatches<'_>, option: &NumberOption<'_>) -> u64
+    requires passes { Passes (found_of matches.now) (number_of option.now) }
+    requires fits { (option.now.least ≤ option.now.default)
+        × (option.now.default ≤ option.now.most) }
+    ensures value { result
+        ≡ number_in (first_value (found_of matches.now)) (number_of option.now) }
+    ensures within { (option.now.least ≤ result) × (result ≤ option.now.most) }
+{
+    match matches.get_str(option.name) {
+        Some(text) => text.parse().unwrap_or(option.default),
+        None => option.default,
+    }
+}
+
+/// The text of a name, or its default.
+fn text<'a>(matches: &ArgMatches<'a>, name: &str, default: &'a str) -> &'a str
+    ensures { result.now
+        ≡ text_in (first_value (found_of matches.now)) name.now default.entry.now }
+{
+    match matches.get_str(name) {
+        Some(text) => text,
+        None => default,
+    }
+}
+
+fn mode_of(text: &str) -> Option<Mode>
+    ensures { result ≡ mode_of text.now }
+{
+    if text == "serve" {
+        Some(Mode::Serve)
+    } else if text == "make" {
+        Some(Mode::Make)
+    } else if text == "trial" {
+        Some(Mode::Trial)
+    } else {
+        None
+    }
+}
+
+/// The mode uses the options of a table.
+fn has_table(mode: Mode) -> bool
+    ensures { result ≡ has_table mode }
+{
+    match mode {
+        Mode::Serve | Mode::Trial => true,
+        Mode::Make => false,
+    }
+}
+
+/// The mode uses the options of the made capture.
+fn makes_capture(mode: Mode) -> bool
+    ensures { result ≡ makes_capture mode }
+{
+    match mode {
+        Mode::Serve => false,
+        Mode::Make | Mode::Trial => true,
+    }
+}
+
+/// The number of an option that may be used, or its default.
+fn number_if(uses: bool, matches: &ArgMatches<'_>, option: &NumberOption<'_>) -> u64
+    requires passes { Passes (found_of matches.now) (number_of option.now) }
+    requires fits { (option.now.least ≤ option.now.default)
+        × (option.now.default ≤ option.now.most) }
+    ensures value { result
+        ≡ number_if uses (first_value (found_of matches.now)) (number_of option.now) }
+    ensures within { (option.now.least ≤ result) × (result ≤ option.now.most) }
+{
+    if uses {
+        number(matches, option)
+    } else {
+        option.default
+    }
+}
+
+/// The starting depth, which is at most the greatest.
+fn start_in(mode: Mode, matches: &ArgMatches<'_>) -> Option<u32>
+    requires { AllByRecursion (Passes (found_of matches.now)) numbers }
+    ensures start { result ≡ start_in mode (first_value (found_of matches.now)) }
+    ensures fits { IfSome result (λ start.
+        start ≤ number_if (has_table mode) (first_value (found_of matches.now)) depth) }
+{
+    let start = number_if(has_table(mode), matches, &START);
+    if start <= number_if(has_table(mode), matches, &DEPTH) {
+        Some(start as u32)
+    } else {
+        None
+    }
+}
+
+fn hashing_of(text: &str, seed: u64) -> Option<Hashing>
+    ensures { result ≡ hashing_of text.now seed }
+{
+    if text == "mix" {
+        Some(Hashing::Mix(seed))
+    } else if text == "ports" {
+        Some(Hashing::Ports(seed))
+    } else {
+        None
+    }
+}
+
+fn hashing_in(mode: Mode, matches: &ArgMatches<'_>) -> Option<Hashing>
+    requires { AllByRecursion (Passes (found_of matches.now)) numbers }
+    ensures { result ≡ hashing_in mode (first_value (found_of matches.now)) }
+{
+    match mode {
+        Mode::Serve => hashing_of(text(matches, "hash", "mix"), number(matches, &SEED)),
+        Mode::Make => Some(Hashing::Mix(SEED.default)),
+        Mode::Trial => Some(Hashing::Mix(number(matches, &SEED))),
+    }
+}
+
+fn share_of(text: &str) -> Option<Share>
+    ensures { result ≡ share_of text.now }
+{
+    if text == "round" {
+        Some(Share::Round)
+    } else if text == "block" {
+        Some(Share::Block)
+    } else if text == "flow" {
+        Some(Share::Flow)
+    } else {
+        None
+    }
+}
+
+fn share_in(mode: Mode, matches: &ArgMatches<'_>) -> Option<Share>
+    ensures { result ≡ share_in mode (first_value (found_of matches.now)) }
+{
+    match mode {
+        Mode::Serve => share_of(text(matches, "share", "round")),
+        Mode::Make => Some(Share::Round),
+        Mode::Trial => Some(Share::Flow),
+    }
+}
+
+/// The rows of a text, automatic where there is no text.
+fn asked_rows(alloc: Global, text: Option<&str>) -> Result<Option<Option<SeatRows>>, AllocError>
+    ensures rows { IfOk result (λ rows. rows ≡ asked_rows (option_map (λ t. t.now) text.entry)) }
+    ensures fits { IfOk result (λ rows. IfSome rows (λ r. IfSome r AreRowsInRange)) }
+{
+    match text {
+        Some(text) => {
+            let rows = rows_of(alloc, text)?;
+            Ok(rows.map(Some))
+        }
+        None => Ok(Some(None)),
+    }
+}
+
+fn rows_for(
+    alloc: Global,
+    mode: Mode,
+    matches: &ArgMatches<'_>,
+) -> Result<Option<Option<SeatRows>>, AllocError>
+    ensures rows { IfOk result (λ rows.
+        rows ≡ rows_for mode (first_value (found_of matches.now))) }
+    ensures fits { IfOk result (λ rows. IfSome rows (λ r. IfSome r AreRowsInRange)) }
+{
+    match mode {
+        Mode::Serve => asked_rows(alloc, matches.get_str("rows")),
+        Mode::Make | Mode::Trial => Ok(Some(None)),
+    }
+}
+
+/// The plan of the mode, with rows that can be asked for.
+fn plan_with(mode: Mode, rows: Option<SeatRows>, matches: &ArgMatches<'_>) -> Option<Plan>
+    requires passes { AllByRecursion (Passes (found_of matches.now)) numbers }
+    requires rows { IfSome rows AreRowsInRange }
+    ensures plan { result ≡ plan_with mode rows (first_value (found_of matches.now)) }
+    ensures fits { IfSome result IsInRange }
+{
+    let start = start_in(mode, matches)?;
+    let hashing = hashing_in(mode, matches)?;
+    let share = share_in(mode, matches)?;
+    let table = has_table(mode);
+    let makes = makes_capture(mode);
+    Some(Plan {
+        mode,
+        seats: number_if(table, matches, &SEATS) as u32,
+        items: number_if(table, matches, &ITEMS) as u32,
+        depth: number_if(table, matches, &DEPTH) as u32,
+        start,
+        hashing,
+        share,
+        rows,
+        number: number_if(makes, matches, &NUMBER),
+        packets: number_if(makes, matches, &PACKETS) as u32,
+    })
+}
+
+/// The plan of the values, where each text that the mode uses is one of the words for it.
+pub fn plan_of(alloc: Global, matches: &ArgMatches<'_>) -> Result<Option<Plan>, AllocError>
+    requires { AllByRecursion (Passes (found_of matches.now)) numbers }
+    ensures plan { IfOk result (λ p. p ≡ plan_of (first_value (found_of matches.now))) }
+    ensures fits { IfOk result (λ p. IfSome p IsInRange) }
+{
+    match mode_of(text(matches, "mode", "")) {
+        Some(mode) => match rows_for(alloc, mode, matches)? {
+            Some(rows) => Ok(plan_with(mode, rows, matches)),
+            None => Ok(None),
+        },
+        None => Ok(None),
+    }
+}
