@@ -3,3 +3,8 @@ pub mod InputLemmas
 pub mod TakenLemmas
 pub mod ServingLemmas
 pub mod ReadingLemmas
+pub mod ProgressLemmas
+pub mod TextLemmas
+pub mod PrintLemmas
+pub mod EndLemmas
+pub mod ExactLemmas

@@ -1,7 +1,7 @@
 -- How far an input has been read, one packet further, and how it ends.
 use Rattle.std.proofs.Common.{◌≡◌, ◌≤◌, ℕ, ◌+◌, List, [], ◌∷◌, ◌++◌, length, drop, Option, Some, None, sym, ◌∙◌, ap, subst, refl, append_assoc, append-nil, length-append, length-drop, arith, IfSome}
 use Rattle.std.specs.List.{flat_map}
-use Rattle.std.proofs.KnownBytes.{Consumes-nil, Consumes-trans}
+use Rattle.std.proofs.KnownBytes.{Consumes-trans}
 use Rattle.std.proofs.lemmas.List.{drop-append-le, map-append, length-map}
 use Rattle.std.proofs.lemmas.Grind.{common_steps}
 use Rattle.pcap_reader.specs.declared.fault.CaptureFault.{CaptureFault}
@@ -71,7 +71,6 @@ HasRead-longer front more reading records read =
   where
     some_inj : {x y : List ℕ} → Some x ≡ Some y → y ≡ x
     some_inj is = cc
-
 
 -- ---- one packet further
 

@@ -1,6 +1,6 @@
 -- What a run prints, and so what its user may rely on.
-use Rattle.std.specs.Prelude.{◌≡◌, ◌*◌, ◌⊎◌, ℕ, List, [], ◌++◌, length, Some, nat_lt, if◌then◌else◌, is_ok, Option, Result}
-use Rattle.std.specs.Io.KnownBytes.{Appends}
+use Rattle.std.specs.Prelude.{◌≡◌, ◌*◌, ◌⊎◌, ℕ, List, [], length, Some, nat_lt, if◌then◌else◌, is_ok, Option, Result}
+use Rattle.std.specs.Io.KnownBytes.{Appends, Keeps}
 use Rattle.edge_traits.specs.Edge.{AppendsFront}
 use Rattle.plain_map.specs.declared.calls.Call.{Call}
 use Rattle.pcap_reader.specs.declared.fault.CaptureFault.{CaptureFault}
@@ -88,11 +88,11 @@ PutsSome plan bytes left before after =
     ((ending : Ending) × PutsFront before after (Reports plan bytes left ending))
     ⊎ ((packets : List (List ℕ)) × Begins bytes left packets × PutsFront before after (IsFront plan packets))
 
--- The same where memory ran out, which may be while more of the input has been read.
+-- The same where memory ran out, or nothing was put. More of the input may have been read.
 abbrev pub PutsLess : Plan → List ℕ → Option (List ℕ) → Option (List ℕ) → Option (List ℕ) → Type 0
 PutsLess plan bytes left before after =
-    ((ending : Ending) × PutsFront before after (Reports plan bytes left ending))
-    ⊎ ((packets : List (List ℕ)) × IsFirst bytes packets × PutsFront before after (IsFront plan packets))
+    Keeps before after ⊎ (((ending : Ending) × PutsFront before after (Reports plan bytes left ending))
+    ⊎ ((packets : List (List ℕ)) × IsFirst bytes packets × PutsFront before after (IsFront plan packets)))
 
 -- What `serve` leaves that ended so: of the input's bytes these are left, and the sink had taken `before` and has taken
 -- `after`.
@@ -106,11 +106,21 @@ Leaves plan bytes left before after status.WriteFault = PutsSome plan bytes left
 Leaves plan bytes left before after status.Memory = PutsLess plan bytes left before after
 Leaves plan bytes left before after status.Usage = ⊥
 
--- so it is for the bytes of a source, where they are told, and for those that were taken of it, as of a source that told
--- just these
+-- a fact of what was taken of a source; where memory ran out, of what had been taken at some moment of the run
+abbrev pub TookFor : Status → (first left : Option (List ℕ)) → (List ℕ → Type 0) → Type 0
+TookFor status.Done first left P = Took first left P
+TookFor status.BadCapture first left P = Took first left P
+TookFor status.Limit first left P = Took first left P
+TookFor status.ReadFault first left P = Took first left P
+TookFor status.WriteFault first left P = Took first left P
+TookFor status.Memory first left P = (between : Option (List ℕ)) × Took first between P
+TookFor status.Usage first left P = Took first left P
+
+-- So it is for the bytes of a source, where they are told, and for those that were taken of it, as of a source that told
+-- just these: so these decide which answer it is.
 pub record LeavesAll (plan : Plan) (first left before after : Option (List ℕ)) (answer : Status) : Type 0 where
   pub told : (bytes : List ℕ) → first ≡ Some bytes → Leaves plan bytes left before after answer
-  pub took : Took first left (λ taken. Leaves plan taken (Some []) before after answer)
+  pub took : TookFor answer first left (λ taken. Leaves plan taken (Some []) before after answer)
 
 -- what `make` leaves
 abbrev pub LeavesMade : Plan → Option (List ℕ) → Option (List ℕ) → Status → Type 0

@@ -1,5 +1,5 @@
 -- What is promised of packets that were served in batches, and what is printed of them.
-use Rattle.std.specs.Prelude.{◌≡◌, ◌<◌, ◌≤◌, ℕ, suc, ◌+◌, ◌*◌, ◌/◌, ◌-◌, max, false, List, [], ◌∷◌, ◌++◌, length, map, flat_map, replicate, slice_index_or, All}
+use Rattle.std.specs.Prelude.{◌≡◌, ℕ, ◌-◌, false, List, [], ◌∷◌, ◌++◌, length, map, flat_map, replicate}
 use Rattle.plain_map.specs.declared.calls.Call.{Call}
 use Rattle.step_counts.specs.Made.{IsMadeOf}
 use Rattle.step_counts.specs.StepCounts.{step_bound}
@@ -14,7 +14,7 @@ use Rattle.batch_runner.specs.Printed.{all_lines, outcomes_in}
 use Rattle.batch_runner.specs.Promises.{AreRight}
 use Rattle.batch_runner.specs.Totals.{totals_of}
 use Rattle.command_line.specs.declared.plan.Plan.{Plan}
-use Rattle.trace_runner.specs.Batches.{AreOfBatches, batch_count}
+use Rattle.trace_runner.specs.Batches.{AreOfBatches}
 
 -- the plan is served so
 pub record IsServiceOf (plan : Plan) (service : Service) : Type 0 where

@@ -1,11 +1,11 @@
 //! The input of a run: its packets' calls, batch by batch, and how it ended.
 
-ghost use Rattle.std.specs.Prelude.{◌≡◌, ◌<◌, ◌≤◌, ◌+◌, ℕ, List, [], ◌++◌, false, Option, Some, MatchOption, IfOk, IfSome, IfNone, OnOk};
+ghost use Rattle.std.specs.Prelude.{◌≡◌, ◌<◌, ◌≤◌, ◌+◌, ℕ, List, [], ◌++◌, false, Option, Some, MatchOption, Err, IfOk, IfErr, IfSome, IfNone, OnOk};
 ghost use Rattle.edge_traits.specs.Edge.{Rose};
 ghost use Rattle.pcap_reader.specs.Reading.{IsAtStart};
 ghost use Rattle.plain_map.specs.declared.calls.Call.{Call};
 ghost use Rattle.report_text.specs.Report.{IsEnding};
-ghost use Rattle.trace_runner.specs.Endings.{ending_at, OnEnds, OnReads};
+ghost use Rattle.trace_runner.specs.Endings.{ending_at, OnEnds};
 ghost use Rattle.trace_runner.specs.Reading.{AreBetween, HaveCome, HaveEnded};
 
 use crate::steps::{keep_call, read_on, read_past};
@@ -21,12 +21,11 @@ pub const PACKET_LIMIT: u32 = 4_000_000;
 /// How many packets a batch has; the last one may have fewer.
 pub const BATCH: u32 = 2_048;
 
-/// Where the reading of an input stands.
-#[derive(Drop)]
-pub(crate) enum Opened {
-    /// Behind the file head.
-    Reads(Reader),
-    /// At the end, before the first record.
+/// Why an input could not be opened.
+#[derive(Clone, Copy)]
+pub(crate) enum Unopened {
+    Memory,
+    /// It ends before its first record.
     Ends(Ending),
 }
 
@@ -39,22 +38,21 @@ pub(crate) struct Part {
     pub ending: Option<Ending>,
 }
 
-/// Reads the file head. The only error is want of memory, before anything is read.
-pub(crate) fn open<S: Source>(alloc: Global, source: &mut S) -> Result<Opened, AllocError>
-    ensures start { IfOk result (λ opened. OnReads opened IsAtStart) }
-    ensures come { IfOk result (λ opened. OnReads opened (λ reader.
-        HaveCome (S.left source.old) (S.left source.new) reader 0 [])) }
-    ensures ending { IfOk result (λ opened. OnEnds opened IsEnding) }
-    ensures ended { IfOk result (λ opened. OnEnds opened (HaveEnded (S.left source.old) (S.left source.new) 0 [])) }
-    ensures read_fault { result ≡ Ok (Opened.Ends Ending.ReadFault) →
+/// Reads the file head. Memory runs out before anything is read.
+pub(crate) fn open<S: Source>(alloc: Global, source: &mut S) -> Result<Reader, Unopened>
+    ensures start { IfOk result IsAtStart }
+    ensures come { IfOk result (λ reader. HaveCome (S.left source.old) (S.left source.new) reader 0 []) }
+    ensures ending { IfErr result (λ fault. OnEnds fault IsEnding) }
+    ensures ended { IfErr result (λ fault. OnEnds fault (HaveEnded (S.left source.old) (S.left source.new) 0 [])) }
+    ensures read_fault { result ≡ Err (Unopened.Ends Ending.ReadFault) →
         Rose (S.faults source.old) (S.faults source.new) }
     ensures counted { S.faults source.old ≤ S.faults source.new }
 {
     match Reader::open(alloc, source) {
-        Ok(reader) => Ok(Opened::Reads(reader)),
+        Ok(reader) => Ok(reader),
         Err(fault) => match ending_at(fault) {
-            Some(ending) => Ok(Opened::Ends(ending)),
-            None => Err(AllocError),
+            Some(ending) => Err(Unopened::Ends(ending)),
+            None => Err(Unopened::Memory),
         },
     }
 }

@@ -1,7 +1,16 @@
-//! The program behind its words: what they ask for, what is read, what is answered, what is printed.
+//! The program behind its words: what is read, what is answered, what is printed.
 #![tactic(auto)]
 
 mod intake;
+mod making;
+mod printing;
+mod progress;
+mod running;
+mod serving;
+mod status;
 mod steps;
+mod stop;
 
 pub use intake::{BATCH, PACKET_LIMIT};
+pub use running::run;
+pub use status::Status;

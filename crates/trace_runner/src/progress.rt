@@ -1,12 +1,12 @@
 //! What is kept of the batches that were served.
 
-ghost use Rattle.std.specs.Prelude.{◌≡◌, ◌≤◌, ◌<◌, ◌^◌, ◌+◌, ℕ, List, [], ◌∷◌, ◌++◌, length, All, OnOk};
+ghost use Rattle.std.specs.Prelude.{◌≡◌, ◌≤◌, ◌<◌, ◌^◌, ◌+◌, ℕ, List, [], ◌∷◌, ◌++◌, length, vec_len, All, OnOk};
 ghost use Rattle.std.specs.Option.{ForSome};
 ghost use Rattle.plain_map.specs.Serving.{IsAskable};
 ghost use Rattle.word_rows.specs.Shape.{AreBelow};
 ghost use Rattle.report_text.specs.Report.{batch_lines};
 ghost use Rattle.batch_runner.specs.declared.service.Service.{Service};
-ghost use Rattle.batch_runner.specs.Served.{IsServed, Served};
+ghost use Rattle.batch_runner.specs.Served.{CanOpen, IsServed, Served, rules_of};
 ghost use Rattle.batch_runner.specs.Printed.{lines_of};
 ghost use Rattle.batch_runner.specs.Told.{IsToldBy};
 ghost use Rattle.trace_runner.specs.declared.intake.TheConstants.{BATCH, PACKET_LIMIT};
@@ -36,7 +36,9 @@ impl Progress {
 
     /// None yet.
     pub fn new(alloc: Global) -> Progress
-        ensures { (service : Service) → HasServed service result [] }
+        ensures served { (service : Service) → HasServed service result [] }
+        ensures going { (service : Service) → IsGoing service result }
+        ensures calls { result.totals.calls ≡ 0 }
     {
         Progress {
             before: [0; MOST_SEATS],
@@ -82,8 +84,13 @@ impl Progress {
         requires texts { HasTexts calls.now }
         requires going { IsGoing service.now self.old }
         requires all { self.old.totals.calls ≤ PACKET_LIMIT }
-        ensures served { (batches : List Served) → HasServed service.now self.old batches →
-            (served : Served) × (served.calls ≡ calls.now) × HasServed service.now self.new (batches ++ served ∷ []) }
+        requires asked { length batch.outcomes.items ≡ length calls.now }
+        requires seats { vec_len batch.answered ≤ 8 }
+        requires answered { All (λ count. count ≤ length calls.now) batch.answered.items }
+        requires reopens { CanOpen (rules_of service.now) batch.pairs.items }
+        ensures served { (batches : List Served) (served : Served) → HasServed service.now self.old batches →
+            served.first ≡ self.old.pairs.items → served.calls ≡ calls.now → IsServed service.now served →
+            IsToldBy service.now served batch → HasServed service.now self.new (batches ++ served ∷ []) }
         ensures counted { self.new.totals.calls ≡ self.old.totals.calls + length calls.now }
     {
         go_on(&mut self.before, &batch);

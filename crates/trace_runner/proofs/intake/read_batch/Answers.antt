@@ -1,9 +1,7 @@
 -- The loop's facts say how far the input was read; the lemmas say what one packet more, or an ending, makes of it.
-use Rattle.std.proofs.Common.{◌≡◌, ◌≤◌, ◌+◌, ◌++◌, ℕ, List, [], ap, sym, subst, ◌∙◌, arith, append-nil}
-use Rattle.plain_map.specs.declared.calls.Call.{Call}
-use Rattle.pcap_reader.specs.Reading.{Reading}
+use Rattle.std.proofs.Common.{◌≡◌, ◌+◌, ◌++◌, ℕ, ap, subst, ◌∙◌, arith}
 use Rattle.trace_runner.specs.declared.intake.TheConstants.{PACKET_LIMIT}
-use Rattle.trace_runner.specs.Reading.{AreBetween, HaveCome, HaveEnded, TakesCall}
+use Rattle.trace_runner.specs.Reading.{AreBetween, HaveCome, HaveEnded}
 use Rattle.trace_runner.proofs.ReadingLemmas.{HaveCome-more, HaveEnded-ended}
 use Rattle.trace_runner.proofs.intake.read_batch.Goals as goal
 

@@ -1,4 +1,4 @@
-use Rattle.std.proofs.Common.{sym, subst, ◌∙◌, arith}
+use Rattle.std.proofs.Common.{arith}
 use Rattle.trace_runner.proofs.ReadingLemmas.{HaveEnded-ended, HaveEnded-limit}
 use Rattle.trace_runner.specs.declared.intake.TheConstants.{PACKET_LIMIT}
 use Rattle.trace_runner.proofs.steps.read_past.Goals as goal
