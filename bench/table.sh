@@ -1,11 +1,14 @@
 #!/usr/bin/env bash
 # Times the table that threads share, in five turns with what it is measured against, and prints the least of all turns:
-# - 2,048 calls of the made capture by one seat, and the same atomic steps in a plain loop of Rust, whose places are worked out
-#   beforehand and compared with what the seat told of each call;
-# - lookups of 256 flows by one caller, and those of a Rust HashMap under a Mutex and under an RwLock and of liburcu's cds_lfht;
-# - the longest call of 20,000 new keys, and that of the HashMap; the opening of tables.
-# Prints the load of the machine before and after. Not part of the gate. Wants rustc, gcc and liburcu-dev. The crates are proved
-# first, which takes a while; what was proved of them here is taken over. TURNS=N sets how many turns there are.
+# - 2,048 calls of the made capture by one seat, and the same atomic steps in a plain loop of Rust, whose places are
+#   worked out beforehand and compared with what the seat told of each call;
+# - lookups of 256 flows by one caller, and those of a Rust HashMap under a Mutex and under an RwLock and of liburcu's
+#   cds_lfht; these by 2 and 4 callers too;
+# - the longest call of 20,000 new keys, and that of the HashMap; the opening of tables by their words, from new words
+#   and from words that are kept.
+# Prints the load of the machine before and after. Not part of the gate. Wants rustc, gcc and liburcu-dev. The crates
+# are proved first, which takes a while; what was proved of them here is taken over. TURNS=N sets how many turns there
+# are.
 set -eu
 turns="${TURNS:-5}"
 top="$(cd "$(dirname "$(readlink -f "$0")")/.." && pwd)"
@@ -18,8 +21,12 @@ below="$(sed -n 's/^shared_table[^:]*: //p' "$top/crates.txt")"
 crates="shared_table $below"
 # Each crate that one of these names is wanted too, until none is missing.
 while :; do
-    more="$(for crate in $crates; do sed -n "s/^$crate\( [^:]*\)\?: //p" "$top/crates.txt"; done | tr ' ' '\n' | sort -u)"
-    all="$(for crate in $crates $more; do [ -d "$top/crates/$crate" ] && echo "$crate"; done | sort -u | tr '\n' ' ')"
+    more="$(for crate in $crates; do
+        sed -n "s/^$crate\( [^:]*\)\?: //p" "$top/crates.txt"
+    done | tr ' ' '\n' | sort -u)"
+    all="$(for crate in $crates $more; do
+        [ -d "$top/crates/$crate" ] && echo "$crate"
+    done | sort -u | tr '\n' ' ')"
     [ "$all" = "$crates" ] && break
     crates="$all"
 done
@@ -44,11 +51,12 @@ ghost use Rattle.shared_table.specs.Values.{IsOf, IsSame, new_seat, new_seats};
 
 use hash_bits::{Hashing, spread};
 use plain_map::{Call, Key, Pair, Record, Reply};
-use shared_table::{Directory, Seat};
+use shared_table::{Blank, Directory, Seat};
 use std::alloc::{AllocError, Global};
 use std::io;
 use std::time::{Clock, Instant};
 use step_counts::{SeatRows, Settings, automatic_rows};
+use word_rows::Layout;
 
 const CALLS: usize = 2048;
 
@@ -125,8 +133,28 @@ impl Load {
     }
 }
 
-// One call, and its record, if it is not refused.
-fn asked(seat: &mut Seat, directory: &Directory, packet: u32, call: &Call) -> Option<Record>
+// How many steps calls took, and how many of them found their key.
+#[derive(Clone, Copy)]
+struct Told {
+    steps: u64,
+    found: u64,
+}
+
+// What one record tells.
+fn told_by(made: &Record) -> Told {
+    let found = match made.reply {
+        Reply::Found(_) => 1,
+        _ => 0,
+    };
+    Told {
+        steps: made.steps,
+        found,
+    }
+}
+
+// One call, and what its record tells, if it is not refused. The record itself is not handed on, since a copy of it
+// would be timed with the call.
+fn asked(seat: &mut Seat, directory: &Directory, packet: u32, call: &Call) -> Option<Told>
     requires seat { IsOf directory.now seat.old }
     requires askable { IsAskable call.now }
     requires countable { CanCount (account_of seat.old).records }
@@ -134,17 +162,16 @@ fn asked(seat: &mut Seat, directory: &Directory, packet: u32, call: &Call) -> Op
     ensures count { length (account_of seat.new).records ≤ length (account_of seat.old).records + 1 }
 {
     match call {
-        Call::Insert(key, value) => seat.insert(directory, packet, *key, *value).ok(),
-        Call::Remove(key) => seat.remove(directory, packet, *key).ok(),
-        Call::Lookup(key) => Some(seat.lookup(directory, packet, key)),
+        Call::Insert(key, value) => match seat.insert(directory, packet, *key, *value) {
+            Ok(made) => Some(told_by(&made)),
+            Err(_) => None,
+        },
+        Call::Remove(key) => match seat.remove(directory, packet, *key) {
+            Ok(made) => Some(told_by(&made)),
+            Err(_) => None,
+        },
+        Call::Lookup(key) => Some(told_by(&seat.lookup(directory, packet, key))),
     }
-}
-
-// How many steps calls took, and how many of them found their key.
-#[derive(Clone, Copy)]
-struct Told {
-    steps: u64,
-    found: u64,
 }
 
 // Asks these calls again and again, so many in all.
@@ -161,9 +188,7 @@ fn ask_all(seat: &mut Seat, directory: &Directory, calls: &[Call], count: u32) -
             && let Some(made) = asked(seat, directory, i, call)
         {
             told.steps = told.steps.wrapping_add(made.steps);
-            if let Reply::Found(_) = made.reply {
-                told.found = told.found.wrapping_add(1);
-            }
+            told.found = told.found.wrapping_add(made.found);
         }
     }
     told
@@ -174,7 +199,8 @@ fn nanoseconds<R: Clock>(rt: &R, start: &Instant) -> io::Result<u64> {
     Ok(u64::try_from(start.elapsed(rt)?.as_nanos()).unwrap_or(u64::MAX))
 }
 
-// Asks these calls one by one, prints the steps of each where they are wanted, and tells the nanoseconds of the longest.
+// Asks these calls one by one, prints the steps of each where they are wanted, and tells the nanoseconds of the
+// longest.
 fn ask_each<R: Clock + Print>(
     rt: &R,
     seat: &mut Seat,
@@ -263,8 +289,8 @@ fn longest<R: Clock + Print>(
     println!(rt; "{name} 1 1 {most} 0 0")
 }
 
-// Asks the seat of a new table the first calls, and then the others again and again, and prints the name, how many these are,
-// their nanoseconds, their steps, and how many found their key.
+// Asks the seat of a new table the first calls, and then the others again and again, and prints the name, how many
+// these are, their nanoseconds, their steps, and how many found their key.
 fn timed<R: Clock + Print>(
     rt: &R,
     alloc: Global,
@@ -287,15 +313,38 @@ fn timed<R: Clock + Print>(
     println!(rt; "{name} 1 {count} {nanoseconds} {} {}", told.steps, told.found)
 }
 
-// Opens a table, and prints how many nanoseconds that takes.
-fn opening<R: Clock + Print>(rt: &R, alloc: Global, items: u32, depth: u32) -> io::Result<()> {
+// Opens a table from these words, and prints its own, and how many nanoseconds that takes.
+fn opening<R: Clock + Print>(
+    rt: &R,
+    alloc: Global,
+    name: &str,
+    settings: &Settings,
+    blank: &mut Blank,
+) -> io::Result<()>
+    requires one { settings.now.seats ≡ 1 }
+{
+    let Some(rows) = rows_for(settings, 2048) else {
+        return Ok(());
+    };
+    let words = Layout::new(settings, &[rows; 1]).words();
     let start = Instant::now(rt)?;
-    let table = opened(alloc, items, depth, 2048);
+    let table =
+        Directory::open_in(alloc, blank, settings, Hashing::Mix(0), &[rows; 1], &no_pairs()).ok();
     let nanoseconds = nanoseconds(rt, &start)?;
     if table.is_some() {
-        println!(rt; "open-1-{items}-{depth} 1 1 {nanoseconds} 0 0")?;
+        println!(rt; "{name}-{words} 1 1 {nanoseconds} 0 0")?;
     }
     Ok(())
+}
+
+// Opens a table of one seat from new words, and then from the same, which are kept.
+fn openings<R: Clock + Print>(rt: &R, alloc: Global, items: u32, depth: u32) -> io::Result<()> {
+    let Ok(settings) = Settings::new(1, items, depth, 0) else {
+        return Ok(());
+    };
+    let mut blank = Blank::new(alloc);
+    opening(rt, alloc, "open", &settings, &mut blank)?;
+    opening(rt, alloc, "kept", &settings, &mut blank)
 }
 
 fn main(rt: HostRuntime) -> io::Result<()> {
@@ -306,7 +355,7 @@ fn main(rt: HostRuntime) -> io::Result<()> {
     }
     longest(&rt, rt.alloc(), "table-longest", Load::NewKeys, 20_000, false)?;
     for (items, depth) in [(8, 4), (8, 10), (16, 12)] {
-        opening(&rt, rt.alloc(), items, depth)?;
+        openings(&rt, rt.alloc(), items, depth)?;
     }
     Ok(())
 }
@@ -380,13 +429,24 @@ awk '
         ours = least["capture 1"] / 2048; bare = least["bare 1"] / 2048
         printf "%-34s %8s %8s %8s\n", "2,048 calls of the made capture", "a seat", "bare", "ratio"
         printf "%-34s %8.0f %8.0f %8.2f\n", "ns a call", ours, bare, ours / bare
-        t = least["table 1"] / 100000; m = least["mutex 1"] / 100000
-        r = least["rwlock 1"] / 100000; l = least["lfht 1"] / 100000
-        printf "\n%-34s %8s %8s %8s %8s %10s %10s %10s\n", "lookups of 256 flows, one caller", "a seat", "Mutex", "RwLock", "lfht", "to Mutex", "to RwLock", "to lfht"
-        printf "%-34s %8.1f %8.1f %8.1f %8.1f %10.2f %10.2f %10.2f\n", "ns a lookup", t, m, r, l, t / m, t / r, t / l
-        printf "\nlongest of 20,000 new keys, us: a seat %.1f, HashMap under a Mutex %.1f\n", least["table-longest 1"] / 1000, least["mutex-longest 1"] / 1000
+        t = least["table 1"] / 100000
+        format = "%-34s %8s %8s %8s %8s %10s %10s %10s\n"
+        printf "\n" format, "ns a lookup of 256 flows", "a seat", "Mutex", "RwLock", "lfht",
+            "to Mutex", "to RwLock", "to lfht"
+        for (callers = 1; callers <= 4; callers *= 2) {
+            m = least["mutex " callers] / 100000 / callers
+            r = least["rwlock " callers] / 100000 / callers
+            l = least["lfht " callers] / 100000 / callers
+            own = callers == 1
+            printf format, callers " at once", own ? sprintf("%.1f", t) : "-", sprintf("%.1f", m),
+                sprintf("%.1f", r), sprintf("%.1f", l), own ? sprintf("%.2f", t / m) : "-",
+                own ? sprintf("%.2f", t / r) : "-", own ? sprintf("%.2f", t / l) : "-"
+        }
+        printf "\nlongest of 20,000 new keys, us: a seat %.1f, HashMap under a Mutex %.1f\n",
+            least["table-longest 1"] / 1000, least["mutex-longest 1"] / 1000
         for (key in least) if (key ~ /^open-/) {
-            split(key, part, " ")
-            printf "%s: %.2f ms\n", part[1], least[key] / 1e6
+            split(key, part, /[- ]/)
+            printf "opening of %d words, ms: %.2f, from kept words %.2f\n", part[2], least[key] / 1e6,
+                least["kept-" part[2] " 1"] / 1e6
         }
     }' "$work/times"

@@ -1,5 +1,5 @@
-// The bare atomic steps of the calls of one seat on the made capture: a plain program works out beforehand where each step goes,
-// and checks that each call has as many as the seat told; a plain loop then takes them.
+// The bare atomic steps of the calls of one seat on the made capture: a plain program works out beforehand where each
+// step goes, and checks that each call has as many as the seat told; a plain loop then takes them.
 use std::env::args;
 use std::fs::read_to_string;
 use std::sync::atomic::{AtomicU64, Ordering::SeqCst};

@@ -30,7 +30,10 @@ static uint64_t spread(uint64_t z) {
 
 static struct entry key(uint64_t flow) {
     uint64_t port = flow < 64 ? 53 : 443, protocol = flow < 64 ? 17 : 6;
-    struct entry made = {.k0 = (0x0a010000 + flow) << 32 | 0x0a020001, .k1 = (40000 + flow) << 24 | port << 8 | protocol};
+    struct entry made = {
+        .k0 = (0x0a010000 + flow) << 32 | 0x0a020001,
+        .k1 = (40000 + flow) << 24 | port << 8 | protocol,
+    };
     return made;
 }
 
@@ -81,7 +84,7 @@ int main(void) {
         cds_lfht_add(table, hash(entry), &entry->node);
         rcu_read_unlock();
     }
-    for (uint64_t callers = 1; callers <= 1; callers *= 2) {
+    for (uint64_t callers = 1; callers <= 4; callers *= 2) {
         struct caller all[4];
         uint64_t from = UINT64_MAX, to = 0;
         atomic_store(&arrivals, 0);

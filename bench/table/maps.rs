@@ -90,7 +90,7 @@ fn longest<M: Map>(name: &str, map: &M) {
 }
 
 fn main() {
-    for callers in [1] {
+    for callers in [1, 2, 4] {
         lookups("mutex", &Mutex::new(HashMap::new()), callers, 100_000);
         lookups("rwlock", &RwLock::new(HashMap::new()), callers, 100_000);
     }

@@ -1,9 +1,8 @@
 -- What a batch leaves to the order of its calls is what the run of its table leaves.
-use Rattle.std.proofs.Common.{◌≡◌, ℕ, zero, suc, ◌+◌, ◌<◌, ◌≤◌, List, [], ◌∷◌, ◌++◌, length, map, get_or, refl, sym, ap, ◌∙◌, subst, inl, inr, length-append, arith}
+use Rattle.std.proofs.Common.{◌≡◌, ℕ, zero, suc, ◌+◌, ◌<◌, ◌≤◌, List, [], ◌∷◌, ◌++◌, length, map, refl, sym, ap, ◌∙◌, subst, inl, inr, length-append, arith}
 use Rattle.std.specs.Prelude.{slice_index_or, flat_map, All}
 use Rattle.std.specs.List.{enumerate_from}
 use Rattle.std.proofs.lemmas.Bool.{cases_lt}
-use Rattle.std.proofs.lemmas.List.{length-map}
 use Rattle.std.proofs.lemmas.List.Elements.{All-nil, All-append, All-head, All-tail}
 use Rattle.plain_map.specs.declared.records.Record.{Record}
 use Rattle.core_model.specs.SeatStates.{SeatState, Idle, fresh_seat}
@@ -11,7 +10,7 @@ use Rattle.core_model.specs.Setup.{Setup, seats_of}
 use Rattle.core_model.specs.Worlds.{World, world_after, seat_in}
 use Rattle.core_model.specs.Closed.{begun_by, closing_of}
 use Rattle.core_model.specs.Order.{Closing}
-use Rattle.core_model.specs.Promises.{HasSteps, words_in}
+use Rattle.core_model.specs.Promises.{HasSteps}
 use Rattle.core_answers.proofs.AllRuns.{all_tell}
 use Rattle.core_bounds.proofs.Ends.{steps_are_bounded, records_are_numbered}
 use Rattle.trace_share.specs.Outcomes.{records_in}

@@ -1,9 +1,9 @@
 -- The outcomes of all seats, put together call by call.
-use Rattle.std.proofs.Common.{◌≡◌, ◌≢◌, ℕ, suc, zero, ◌<◌, ◌≤◌, ◌+◌, Bool, true, false, cond, ◌==◌, List, [], ◌∷◌, ◌++◌, length, map, take, drop, set, get_or, filter, replicate, refl, sym, ap, ◌∙◌, subst, inl, inr, zero-add, length-append, arith, Vec, Global}
-use Rattle.std.specs.Prelude.{All, slice_index_or}
-use Rattle.std.specs.List.{enumerate_from, range_with_len}
+use Rattle.std.proofs.Common.{◌≡◌, ℕ, suc, zero, ◌<◌, ◌≤◌, ◌+◌, Bool, true, false, cond, ◌==◌, List, [], ◌∷◌, ◌++◌, length, map, take, drop, set, get_or, filter, replicate, refl, sym, ap, ◌∙◌, subst, inl, inr, zero-add, length-append, arith, Vec, Global}
+use Rattle.std.specs.Prelude.{All}
+use Rattle.std.specs.List.{enumerate_from}
 use Rattle.std.proofs.lemmas.Bool.{cases_eq}
-use Rattle.std.proofs.lemmas.List.{append-nil, get_or-set_other, get_or-set_same, length-map, map-append, take_all, take_more, get_or-map, get_or-append-add, take-append-drop}
+use Rattle.std.proofs.lemmas.List.{append-nil, get_or-set_other, get_or-set_same, length-map, map-append, take_all, take_more, get_or-map, take-append-drop}
 use Rattle.std.proofs.lemmas.List.Elements.{All-nil, All-push, filter_more, filter-append}
 use Rattle.std.proofs.lemmas.List.FromFn.{get_or-enumerate_from, get_or-map-range_with_len, length-enumerate_from, length-map-range_with_len}
 use Rattle.plain_map.specs.declared.calls.Call.{Call}

@@ -12,19 +12,18 @@ use Rattle.plain_map.proofs.SessionLemmas.{pairs_of-sessions_of, sessions_of-nil
 use Rattle.core_model.specs.Order.{Closing, effects_of, order_of}
 use Rattle.core_model.specs.Promises.{HasSteps}
 use Rattle.core_model.specs.Closed.{Cover, Warranted, closed_depth, closed_leaves, closed_pairs, greatest_depth, sessions_with}
-use Rattle.core_model.specs.Histories.{closed, sessions_of_order}
+use Rattle.core_model.specs.Histories.{closed}
 use Rattle.core_orders.proofs.Promised.{order_is_legal, order_is_after, order_is_whole}
 use Rattle.core_orders.proofs.Depths.{depth_is_of_leaves}
 use Rattle.core_orders.proofs.Warranted.{leaves_are_warranted}
 use Rattle.core_orders.proofs.Reopens.{pairs_reopen_in_any_turn, sorted_pairs_are_held}
 use Rattle.core_book.proofs.Covers.{leaves_cover}
 use Rattle.trace_share.specs.Outcomes.{records_in}
-use Rattle.trace_share.specs.declared.outcome.Outcome.{Outcome}
 use Rattle.batch_orders.specs.Batches.{AreInOrder, IsInOrder, BatchesAreOneOrder}
 use Rattle.batch_runner.specs.declared.service.Service.{Service}
-use Rattle.batch_runner.specs.Served.{Served, IsServed, AreServed, CanOpen, closing_in, history_in, leaves_in, order_in, pairs_left, rules_of, setup_of_batch, shape_in}
-use Rattle.batch_runner.specs.Promises.{AreRight, IsSound, ServedAreRight}
-use Rattle.batch_runner.proofs.Closings.{closing_is, numbered, records_are, steps}
+use Rattle.batch_runner.specs.Served.{Served, IsServed, AreServed, CanOpen, history_in, leaves_in, order_in, pairs_left, rules_of, setup_of_batch, shape_in}
+use Rattle.batch_runner.specs.Promises.{IsSound, ServedAreRight}
+use Rattle.batch_runner.proofs.Closings.{closing_is, numbered, steps}
 
 module _ (service : Service) (batch : Served) (is : IsServed service batch) where
   -- the order is that of the run
@@ -115,7 +114,7 @@ all_sound service first (batch ∷ batches) are =
     (all_sound service batch.pairs batches are.2)
 
 -- one after the other they are in order
-all_in_order : (service : Service) (first : List Pair) (batches : List Served) → AreServed service first batches →
+pub all_in_order : (service : Service) (first : List Pair) (batches : List Served) → AreServed service first batches →
     AreInOrder (rules_of service) (sessions_with (rules_of service) first) (map (history_in service) batches)
     (sessions_with (rules_of service) (pairs_left first batches))
 all_in_order service first [] are = refl
@@ -129,11 +128,11 @@ all_in_order service first (batch ∷ batches) are =
     ∙ ap (λ (start : List Pair). sessions_after rules (from start) (order_in service batch)) are.0 in (
       here,
       subst (λ (sessions : Sessions). AreInOrder rules sessions (map (history_in service) batches)
-      (from (pairs_left batch.pairs batches))) next (all_in_order service batch.pairs batches are.2),
+          (from (pairs_left batch.pairs batches))) next (all_in_order service batch.pairs batches are.2),
     )
 
 -- what is left is held
-all_held : (service : Service) (first : List Pair) (batches : List Served) → AreServed service first batches →
+pub all_held : (service : Service) (first : List Pair) (batches : List Served) → AreServed service first batches →
     first ≡ pairs_of (sessions_with (rules_of service) first) →
     pairs_left first batches ≡ pairs_of (sessions_with (rules_of service) (pairs_left first batches))
 all_held service first [] are start = start

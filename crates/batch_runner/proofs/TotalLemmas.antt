@@ -1,6 +1,6 @@
 -- One call more.
-use Rattle.std.proofs.Common.{◌≡◌, ℕ, suc, zero, ◌<◌, ◌≤◌, ◌+◌, max, Bool, true, false, cond, List, [], ◌∷◌, ◌++◌, length, map, take, filter, get_or, subst, refl, sym, ap, ◌∙◌, append_assoc, append-nil, length-append, arith}
-use Rattle.std.specs.Prelude.{flat_map, count_by, fold, is_some, not}
+use Rattle.std.proofs.Common.{◌≡◌, ℕ, ◌<◌, ◌≤◌, ◌+◌, max, Bool, true, false, cond, List, [], ◌∷◌, ◌++◌, length, map, take, filter, get_or, subst, refl, sym, ap, ◌∙◌, append_assoc, append-nil, length-append, arith}
+use Rattle.std.specs.Prelude.{count_by, is_some, not}
 use Rattle.std.proofs.lemmas.Grind.{flat_map-append}
 use Rattle.std.proofs.lemmas.List.{take_more, map-append}
 use Rattle.std.proofs.lemmas.List.Sums.{fold_push, count_by-le-length}
@@ -17,7 +17,7 @@ use Rattle.trace_share.specs.declared.outcome.Outcome.TheVariants.{Answered, Ref
 use Rattle.trace_share.specs.Outcomes.{full_in, record_in}
 use Rattle.batch_runner.specs.declared.totals.Totals.{Totals}
 use Rattle.batch_runner.specs.declared.totals.Replies.{Replies}
-use Rattle.batch_runner.specs.Printed.{answers_in, lookup_steps_in, most_steps, refused_in, update_steps_in}
+use Rattle.batch_runner.specs.Printed.{answers_in, most_steps, refused_in}
 use Rattle.batch_runner.specs.Totals.{AreFewer, is_absent, is_found, is_gone, is_new, is_noroom, is_old, replies_in, totals_of, with_outcome, with_reply, with_steps}
 
 -- ---- lists

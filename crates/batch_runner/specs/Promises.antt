@@ -1,11 +1,8 @@
 -- What holds of batches that were served, whatever the interleaving: one right order of all calls, steps within the
--- bound, leaves that cover and have their cause, and refusals only where rows were given.
-use Rattle.std.specs.Prelude.{◌≡◌, ℕ, ◌+◌, ◌<◌, List, [], ◌∷◌, length, map, flat_map, None, All}
+-- bound, and leaves that cover and have their cause.
+use Rattle.std.specs.Prelude.{◌≡◌, List, [], map, flat_map, None, All}
 use Rattle.std.specs.FinMap.{empty}
-use Rattle.plain_map.specs.declared.calls.Call.{Call}
-use Rattle.plain_map.specs.declared.keys.Pair.{Pair}
 use Rattle.plain_map.specs.PlainObject.{Sessions, pairs_of}
-use Rattle.plain_map.specs.Serving.{IsAskable}
 use Rattle.core_model.specs.Promises.{HasSteps}
 use Rattle.core_model.specs.Closed.{Cover, Warranted, greatest_depth}
 use Rattle.trace_share.specs.Outcomes.{full_in, records_in}
@@ -33,9 +30,3 @@ pub record AreRight (service : Service) (batches : List Served) : Type 0 where
 -- whoever is served so is served right
 abbrev pub ServedAreRight : Type 0
 ServedAreRight = (service : Service) (batches : List Served) → AreServed service [] batches → AreRight service batches
-
--- with no rows given no call is refused
-abbrev pub NoneIsRefused : Type 0
-NoneIsRefused =
-    (service : Service) (batches : List Served) → service.rows ≡ None → AreServed service [] batches →
-    All (λ (batch : Served). All (λ log. All (λ outcome. full_in outcome ≡ None) log) batch.logs) batches

@@ -1,20 +1,26 @@
 //! One batch.
 
-ghost use Rattle.std.specs.Prelude.{◌≡◌, ◌<◌, ◌≤◌, All, IfOk, length, map, vec_len};
+ghost use Rattle.std.specs.Prelude.{◌≡◌, ◌^◌, ◌<◌, ◌≤◌, All, IfOk, length, map, vec_len};
 ghost use Rattle.std.specs.Option.{ForSome};
 ghost use Rattle.plain_map.specs.Serving.{IsAskable};
 ghost use Rattle.word_rows.specs.Shape.{AreBelow};
+ghost use Rattle.shared_table.specs.Values.{new_seats};
 ghost use Rattle.batch_rows.specs.declared.rows.TheConstants.{CALL_LIMIT};
-ghost use Rattle.batch_runner.specs.Served.{CanOpen, IsServed, Served, rules_of};
+ghost use Rattle.batch_runner.specs.Served.{CanOpen, IsServed, Served, rules_of, setup_in, shares_of};
 ghost use Rattle.batch_runner.specs.Told.{HasCounts, IsToldBy};
 
+use crate::outcomes::{counts_of, outcomes_of, records_of};
 use crate::service::Service;
+use crate::workers::serve_shares;
+use batch_rows::rows_for;
+use closed_words::Starts;
 use edge_traits::Gate;
-use plain_map::{Call, CallId, Pair};
-use shared_table::Blank;
+use history_order::order;
+use plain_map::{Call, CallId, OpenFault, Pair};
+use shared_table::{Blank, Directory, Seat, order_laws};
 use std::alloc::{AllocError, Global};
 use std::thread::Threads;
-use trace_share::Outcome;
+use trace_share::{Outcome, deal};
 
 /// What a batch came to.
 #[derive(Drop)]
@@ -58,5 +64,58 @@ pub fn serve_batch<R: Threads + Sync, G: Gate + Sync>(
     ensures seats { IfOk result (λ batch. vec_len batch.answered ≤ 8) }
     ensures answered { IfOk result (λ batch. All (λ count. count ≤ length calls.now) batch.answered.items) }
 {
-    Err(AllocError)
+    let shares = deal(alloc, service.share, service.settings.seats, calls)?;
+    let (directory, seats) = opened(alloc, service, blank, first, calls, &shares)?;
+    let (seats, logs) = serve_shares(rt, alloc, &directory, seats, shares, gate)?;
+    let closed = directory.close_in_place(seats);
+    let records = records_of(alloc, &logs)?;
+    let starts = Starts::new(closed.layout());
+    order_laws();
+    Ok(Batch {
+        outcomes: outcomes_of(alloc, service.share, service.settings.seats, calls, &logs)?,
+        answered: counts_of(alloc, &records)?,
+        order: order(alloc, &starts, &closed, &records, &[])?,
+        pairs: closed.pairs(alloc)?,
+        leaves: closed.leaves(alloc)?.len() as u64,
+        depth: closed.depth() as u32,
+    })
+}
+
+// The table of a batch, and its seats in order.
+fn opened(
+    alloc: Global,
+    service: &Service,
+    blank: &mut Blank,
+    first: &[Pair],
+    calls: &[(u32, Call)],
+    shares: &[Vec<(u32, Call)>],
+) -> Result<(Directory, Vec<Seat>), AllocError>
+    requires given { ForSome service.now.rows (AreBelow (2 ^ 32)) }
+    requires few { length calls.now < CALL_LIMIT }
+    requires opens { CanOpen (rules_of service.now) first.now }
+    requires shares { map (λ share. share.items) shares.now ≡ shares_of service.now calls.now }
+    ensures setup { IfOk result (λ made. made.0.setup ≡ setup_in service.now first.now calls.now) }
+    ensures seats { IfOk result (λ made. made.1.items ≡ new_seats made.0 0 service.now.settings.seats) }
+{
+    let rows = rows_for(
+        alloc,
+        &service.settings,
+        service.hashing,
+        service.rows,
+        first,
+        calls,
+        shares,
+    )?;
+    match Directory::open_in(
+        alloc,
+        blank,
+        &service.settings,
+        service.hashing,
+        &rows,
+        first,
+    ) {
+        Ok(made) => Ok(made),
+        Err(OpenFault::Memory) => Err(AllocError),
+        Err(OpenFault::NoRoom { .. }) => unreachable!(),
+    }
 }

@@ -1,6 +1,6 @@
 //! What the calls of all seats came to, put together.
 
-ghost use Rattle.std.specs.Prelude.{◌≡◌, ◌≤◌, IfOk, map};
+ghost use Rattle.std.specs.Prelude.{◌≡◌, ◌^◌, ◌<◌, ◌≤◌, All, IfOk, length, map, vec_len};
 ghost use Rattle.trace_share.specs.Deal.{dealt};
 ghost use Rattle.trace_share.specs.Outcomes.{asked_in, records_in};
 ghost use Rattle.batch_runner.specs.Served.{AreInPacketOrder};
@@ -61,4 +61,16 @@ fn answered_in(alloc: Global, log: &[Outcome]) -> Result<Vec<Record>, AllocError
         }
     }
     Ok(records)
+}
+
+/// How many of each log there are.
+pub(crate) fn counts_of(alloc: Global, logs: &[Vec<Record>]) -> Result<Vec<u32>, AllocError>
+    requires few { All (λ log. vec_len log < 2 ^ 32) logs.now }
+    ensures { IfOk result (λ counts. counts.items ≡ map (λ log. length log.items) logs.now) }
+{
+    let mut counts = Vec::with_capacity(alloc, logs.len())?;
+    for log in logs {
+        counts.push(log.len() as u32)?;
+    }
+    Ok(counts)
 }

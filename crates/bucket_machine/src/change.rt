@@ -26,6 +26,7 @@ use step_counts::{BUCKET_HEAD_WORDS, COUNT_PLACE, ITEM_WORDS, SEAT_WORDS, Settin
 use word_rows::row_laws;
 
 // Takes a new pair, or answers why not. `None` is for a bucket that has to be split first.
+#[inline(always)]
 fn insert(settings: &Settings, rules: &Rules, row: &mut [u64], pair: &Pair) -> Option<Reply>
     requires long { length row.old ≡ bucket_row_words settings.now }
     requires few { slice_index row.old COUNT_PLACE ≤ settings.now.items }
@@ -48,6 +49,7 @@ fn insert(settings: &Settings, rules: &Rules, row: &mut [u64], pair: &Pair) -> O
 }
 
 // Takes the key's pair out.
+#[inline(always)]
 fn remove(settings: &Settings, row: &mut [u64], key: &Key) -> Reply
     requires long { length row.old ≡ bucket_row_words settings.now }
     requires few { slice_index row.old COUNT_PLACE ≤ settings.now.items }
@@ -67,6 +69,7 @@ fn remove(settings: &Settings, row: &mut [u64], key: &Key) -> Reply
 }
 
 // The answer to a call, with the change that it makes.
+#[inline(always)]
 fn answer(settings: &Settings, rules: &Rules, row: &mut [u64], call: &Call) -> Option<Reply>
     requires long { length row.old ≡ bucket_row_words settings.now }
     requires few { slice_index row.old COUNT_PLACE ≤ settings.now.items }
@@ -93,6 +96,7 @@ fn answer(settings: &Settings, rules: &Rules, row: &mut [u64], call: &Call) -> O
 
 // The first bits of a key's hash.
 #[tactic(auto, unfolding(bucket_states::specs::Items::prefix_of))]
+#[inline(always)]
 fn prefix_of(rules: &Rules, own: &Hashed, depth: u32, key: &Key) -> u64
     requires depth { depth ≤ 64 }
     requires own { IsHashed rules.now.hashing own.now }
@@ -102,6 +106,7 @@ fn prefix_of(rules: &Rules, own: &Hashed, depth: u32, key: &Key) -> u64
 }
 
 // Whether the call is for this bucket, and not in it yet. Most calls are told by their number, without a hash.
+#[inline(always)]
 fn is_due(
     settings: &Settings,
     rules: &Rules,
@@ -123,6 +128,7 @@ fn is_due(
 }
 
 // Takes the call of one seat, in a bucket that is not frozen.
+#[inline(always)]
 fn apply(settings: &Settings, rules: &Rules, own: &Hashed, row: &mut [u64], seat: usize, op: &Op)
     requires long { length row.old ≡ bucket_row_words settings.now }
     requires few { slice_index row.old COUNT_PLACE ≤ settings.now.items }
@@ -147,6 +153,7 @@ fn apply(settings: &Settings, rules: &Rules, own: &Hashed, row: &mut [u64], seat
 
 // The words of the bucket after all announced calls, in place of those of the row with the number `base`. The walk ends
 // where the bucket freezes.
+#[inline(always)]
 fn change_words(
     settings: &Settings,
     rules: &Rules,
@@ -181,6 +188,7 @@ fn change_words(
 /// The row of the bucket after all announced calls, one place for each seat, over the row with the number `row`.
 ///
 /// `own` is a key whose hash is known. It takes no memory.
+#[inline(always)]
 pub fn change_row(
     settings: &Settings,
     rules: &Rules,

@@ -16,6 +16,7 @@ pub struct Hashed {
 
 impl Hashed {
     /// The key with its hash.
+    #[inline(always)]
     pub fn new(hashing: &Hashing, key: &Key) -> Hashed
         ensures hashed { IsHashed hashing.now result }
         ensures key { result.key ≡ key.now }
@@ -27,6 +28,7 @@ impl Hashed {
     }
 
     /// The hash of any key, which is made anew only where it is another one.
+    #[inline(always)]
     pub fn hash_of(&self, hashing: &Hashing, key: &Key) -> u64
         requires { IsHashed hashing.now self.now }
         ensures { result ≡ hash_of_key hashing.now key.now }

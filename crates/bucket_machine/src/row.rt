@@ -18,6 +18,7 @@ use step_counts::{BUCKET_HEAD_WORDS, COUNT_PLACE, ITEM_WORDS, SEAT_WORDS, Settin
 use word_rows::reply_word;
 
 /// Freezes the bucket.
+#[inline(always)]
 pub(crate) fn freeze(settings: &Settings, row: &mut [u64])
     requires long { length row.old ≡ bucket_row_words settings.now }
     ensures spelled { Turns settings.now with_frozen row.old row.new }
@@ -27,6 +28,7 @@ pub(crate) fn freeze(settings: &Settings, row: &mut [u64])
 }
 
 /// Says which row it is made from.
+#[inline(always)]
 pub(crate) fn set_base(settings: &Settings, row: &mut [u64], base: u64)
     requires long { length row.old ≡ bucket_row_words settings.now }
     requires base { base + 1 < 2 ^ 64 }
@@ -37,6 +39,7 @@ pub(crate) fn set_base(settings: &Settings, row: &mut [u64], base: u64)
 }
 
 /// Says which update of a seat is the last in here, and its reply.
+#[inline(always)]
 pub(crate) fn set_seat(settings: &Settings, row: &mut [u64], seat: usize, number: u32, reply: Reply)
     requires long { length row.old ≡ bucket_row_words settings.now }
     requires seat { seat < settings.now.seats }
@@ -50,6 +53,7 @@ pub(crate) fn set_seat(settings: &Settings, row: &mut [u64], seat: usize, number
 }
 
 /// A new item comes last.
+#[inline(always)]
 pub(crate) fn push_item(settings: &Settings, row: &mut [u64], pair: &Pair)
     requires long { length row.old ≡ bucket_row_words settings.now }
     requires few { slice_index row.old COUNT_PLACE < settings.now.items }
@@ -65,6 +69,7 @@ pub(crate) fn push_item(settings: &Settings, row: &mut [u64], pair: &Pair)
 }
 
 /// Takes an item out; those behind it move up.
+#[inline(always)]
 pub(crate) fn remove_item(settings: &Settings, row: &mut [u64], at: usize)
     requires long { length row.old ≡ bucket_row_words settings.now }
     requires few { slice_index row.old COUNT_PLACE ≤ settings.now.items }
@@ -83,6 +88,7 @@ pub(crate) fn remove_item(settings: &Settings, row: &mut [u64], at: usize)
 }
 
 /// The place of a key's item.
+#[inline(always)]
 pub(crate) fn find_item(settings: &Settings, row: &[u64], key: &Key) -> Option<usize>
     requires long { length row.now ≡ bucket_row_words settings.now }
     requires few { slice_index row.now COUNT_PLACE ≤ settings.now.items }
@@ -101,6 +107,7 @@ pub(crate) fn find_item(settings: &Settings, row: &[u64], key: &Key) -> Option<u
 }
 
 // Whether an item has the key.
+#[inline(always)]
 fn has_key(settings: &Settings, row: &[u64], i: usize, key: &Key) -> bool
     requires long { length row.now ≡ bucket_row_words settings.now }
     requires few { i < settings.now.items }
@@ -113,6 +120,7 @@ fn has_key(settings: &Settings, row: &[u64], i: usize, key: &Key) -> bool
 }
 
 /// The value of an item.
+#[inline(always)]
 pub(crate) fn value_in(settings: &Settings, row: &[u64], i: usize) -> u64
     requires long { length row.now ≡ bucket_row_words settings.now }
     requires few { i < settings.now.items }

@@ -297,7 +297,8 @@ asked_happens setup w event long may = go (nat_lt event.seat (seats_of setup)) r
             | inl at ↦ subst
                 (λ p. asked_by (seat_in (act setup w event.seat (seat_in w event.seat).account
                 (seat_in w event.seat).stand event.begin) p) ≡ asked_by (seat_in w p) ++ given_by q event)
-                at.1 (own ∙ ap (λ b. asked_by (seat_in w event.seat) ++ cond b (option_to_list event.begin) []) (sym at.0))
+                at.1 (own
+                ∙ ap (λ b. asked_by (seat_in w event.seat) ++ cond b (option_to_list event.begin) []) (sym at.0))
             | inr other ↦ ap asked_by (act_other setup w event.seat q (seat_in w event.seat).account
                 (seat_in w event.seat).stand event.begin (λ is. other.1 (sym is)))
                 ∙ sym (ap (λ b. asked_by (seat_in w q) ++ cond b (option_to_list event.begin) []) other.0

@@ -1,3 +1,3 @@
-mod CallLemmas
-mod OrderLemmas
-mod AnswerLemmas
+pub mod CallLemmas
+pub mod OrderLemmas
+pub mod AnswerLemmas

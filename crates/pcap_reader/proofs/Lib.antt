@@ -1,6 +1,8 @@
 pub mod CaptureFacts
 pub mod EveryCapture
+pub mod MadeCapture
 pub mod MadeLemmas
+pub mod MadePieces
 pub mod MakingLemmas
 pub mod OneCapture
 pub mod ReaderFacts

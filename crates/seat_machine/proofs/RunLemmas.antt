@@ -42,6 +42,30 @@ replicate_more i =
     let next : i + 1 ≡ suc i = omega arith in
     ap (λ (k : ℕ). replicate {A = ℕ} k 0) next ∙ more_zeros i
 
+-- one word more is loaded
+pub loaded_more : (first : Going) {now next : Going} (row : List ℕ) (i word : ℕ) → i < length row →
+    now ≡ goes_by first (take i row) → AllFit first (take i row) → next ≡ goes now word → Fits now word →
+    (next ≡ goes_by first (take (i + 1) (set row i word))) × AllFit first (take (i + 1) (set row i word))
+loaded_more first row i word inside was fits step fit =
+    let so_far : List ℕ = take i row in
+    let one = take_more row i (i + 1) word (omega arith) inside in (
+      step ∙ ap (λ (h : Going). goes h word) was ∙ sym (goes_by-more first so_far word) ∙ ap (goes_by first) (sym one),
+      subst (AllFit first) (sym one)
+          (AllFit-more first so_far word fits (subst (λ (h : Going). Fits h word) was fit)),
+    )
+
+-- one word more is stored
+pub stored_more : (first : Going) {now next : Going} (i : ℕ) → now ≡ goes_by first (replicate i 0) →
+    AllFit first (replicate i 0) → next ≡ goes now 0 → Fits now 0 →
+    (next ≡ goes_by first (replicate (i + 1) 0)) × AllFit first (replicate (i + 1) 0)
+stored_more first i was fits step fit =
+    let so_far : List ℕ = replicate i 0 in
+    let one = replicate_more i in (
+      step ∙ ap (λ (h : Going). goes h 0) was ∙ sym (goes_by-more first so_far 0) ∙ ap (goes_by first) (sym one),
+      subst (AllFit first) (sym one)
+          (AllFit-more first so_far 0 fits (subst (λ (h : Going). Fits h 0) was fit)),
+    )
+
 -- a list with one word more
 pub length-more : (words : List ℕ) (word : ℕ) → length (words ++ word ∷ []) ≡ length words + 1
 length-more words word = length-append words (word ∷ [])

@@ -18,6 +18,7 @@ use crate::steps::Steps;
 use step_counts::{OP_WORDS, SeatRows};
 
 /// Stores the words of the seat's own op.
+#[inline(always)]
 pub fn store_op<S: Steps>(steps: &mut S, start: u64, op: &[u64; OP_WORDS])
     requires phase { (S.now steps.old).phase ≡ StoreOp 0 }
     requires start { start ≡
@@ -33,6 +34,7 @@ pub fn store_op<S: Steps>(steps: &mut S, start: u64, op: &[u64; OP_WORDS])
 
 /// Stores the seat's own op, and its announcement.
 #[tactic(auto, unfolding(core_model::specs::Setup::next_number))]
+#[inline(always)]
 pub fn announce<S: Steps>(steps: &mut S, desk: &Desk, used: &mut SeatRows, op: &[u64; OP_WORDS])
     requires phase { (S.now steps.old).phase ≡ StoreOp 0 }
     requires desk { IsOf (S.now steps.old) desk.now }

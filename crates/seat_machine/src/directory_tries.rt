@@ -205,6 +205,8 @@ fn change_directory<S: Steps>(
 }
 
 /// A whole directory try, and how many steps it took.
+#[cold]
+#[inline(never)]
 pub fn try_directory<S: Steps>(
     steps: &mut S,
     desk: &Desk,

@@ -17,6 +17,7 @@ use step_counts::DIRECTORY_HEAD_WORDS;
 
 /// Finds the bucket of the key with this hash: the directory row, and the bucket.
 #[tactic(auto, unfolding(bucket_states::specs::Items::prefix_of))]
+#[inline(always)]
 pub fn find<S: Steps>(steps: &mut S, desk: &Desk, aim: Aim, hash: u64) -> (u64, u64)
     requires phase { (S.now steps.old).phase ≡ FindRoot aim }
     requires desk { IsOf (S.now steps.old) desk.now }
@@ -32,6 +33,7 @@ pub fn find<S: Steps>(steps: &mut S, desk: &Desk, aim: Aim, hash: u64) -> (u64, 
 }
 
 /// Loads the done words of all seats, one of `seen` each.
+#[inline(always)]
 pub fn see_done<S: Steps>(steps: &mut S, desk: &Desk, seen: &mut [u64])
     requires phase { (S.now steps.old).phase ≡ SeeDone }
     requires first { (S.now steps.old).flight.seen ≡ [] }

@@ -17,6 +17,8 @@ use crate::words::{applied_in, reply_in};
 use plain_map::Reply;
 
 /// Finds the reply in the bucket of the key: the reply, and the row.
+#[cold]
+#[inline(never)]
 pub fn last_look<S: Steps>(
     steps: &mut S,
     desk: &Desk,

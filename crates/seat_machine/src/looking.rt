@@ -18,6 +18,7 @@ use plain_map::{Key, Pair, Reply};
 use step_counts::{BUCKET_HEAD_WORDS, COUNT_PLACE, ITEM_WORDS};
 
 // What was found before, or the value of this pair.
+#[inline(always)]
 fn first_of(found: Option<u64>, key: &Key, pair: &Pair) -> Option<u64>
     ensures { result ≡ or_found found key.now pair.now }
 {
@@ -30,6 +31,7 @@ fn first_of(found: Option<u64>, key: &Key, pair: &Pair) -> Option<u64>
 
 /// Loads a row's items one by one: the value of the key among them. It needs no room.
 #[tactic(auto, unfolding(bucket_states::specs::Items::reply_in))]
+#[inline(always)]
 pub fn find_item<S: Steps>(
     steps: &mut S,
     start: u64,
@@ -62,6 +64,7 @@ pub fn find_item<S: Steps>(
 
 /// Looks a key up in the row of its bucket: the row, how many items it has, and the reply.
 #[tactic(auto, unfolding(bucket_states::specs::Items::reply_in))]
+#[inline(always)]
 pub fn look<S: Steps>(
     steps: &mut S,
     desk: &Desk,

@@ -16,6 +16,7 @@ use plain_map::{Call, Key, MOST_SEATS, Record, Seen};
 use step_counts::ITEM_WORDS;
 
 /// The seen counts as they stand in a record.
+#[inline(always)]
 pub fn counts(seen: &[u64]) -> Seen
     requires long { length seen.now ≤ MOST_SEATS }
     requires few { All (λ n. n < 2 ^ 32) seen.now }
@@ -29,6 +30,7 @@ pub fn counts(seen: &[u64]) -> Seen
 }
 
 /// Looks a key up.
+#[inline(always)]
 pub fn lookup<S: Steps>(steps: &mut S, desk: &Desk, packet: u32, number: u32, key: &Key) -> Record
     requires begins { Begins (S.now steps.old) packet number (Lookup key.now) }
     requires desk { IsOf (S.now steps.old) desk.now }
@@ -38,11 +40,13 @@ pub fn lookup<S: Steps>(steps: &mut S, desk: &Desk, packet: u32, number: u32, ke
     let mut room = [0; MOST_SEATS];
     let words = &mut room[..seats as usize];
     see_done(steps, desk, words);
-    let seen = counts(words);
     let hash = key.hash(&desk.rules.hashing);
     let (root, bucket) = find(steps, desk, Aim::ForLookup, hash);
     let (row, count, reply) = look(steps, desk, root, bucket, key);
-    let made = Record {
+    steps.finish(desk.layout.done(desk.seat), number as u64);
+    // The record is made last, since the store of the done word waits for all that is written before it.
+    let seen = counts(words);
+    Record {
         seat: desk.seat,
         number,
         packet,
@@ -51,7 +55,5 @@ pub fn lookup<S: Steps>(steps: &mut S, desk: &Desk, packet: u32, number: u32, ke
         steps: seats as u64 + 6 + ITEM_WORDS as u64 * count,
         seen,
         place: row,
-    };
-    steps.finish(desk.layout.done(desk.seat), number as u64);
-    made
+    }
 }

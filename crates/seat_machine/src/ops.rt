@@ -23,6 +23,7 @@ use step_counts::OP_WORDS;
 use word_rows::{read_op, row_laws};
 
 // The op that these words spell.
+#[inline(always)]
 fn read_found(words: &[u64; OP_WORDS], seat: usize) -> Op
     requires spelled { IsOpSoFar words.now }
     requires seats { seat < MOST_SEATS }
@@ -41,6 +42,7 @@ fn read_found(words: &[u64; OP_WORDS], seat: usize) -> Op
 }
 
 // Loads an op row.
+#[inline(always)]
 fn load_op<S: Steps, A: Trying>(
     steps: &mut S,
     start: u64,
@@ -67,6 +69,7 @@ fn load_op<S: Steps, A: Trying>(
 }
 
 // Finds what the next seat announces, and tells how many steps that took.
+#[inline(always)]
 fn find_op<S: Steps, A: Trying>(
     steps: &mut S,
     desk: &Desk,
@@ -97,6 +100,7 @@ fn find_op<S: Steps, A: Trying>(
 }
 
 /// Finds what all seats announce, and tells how many steps that took.
+#[inline(always)]
 pub fn find_ops<S: Steps, A: Trying>(
     steps: &mut S,
     desk: &Desk,

@@ -3,15 +3,27 @@
 ghost use Rattle.std.specs.Prelude.{IfOk};
 ghost use Rattle.seat_machine.specs.Rooms.{HasAllRoom};
 
-use bucket_states::Bucket;
+use crate::limits::MOST_WORDS;
+use bucket_states::{Bucket, Op};
 use dir_states::{Change, DirState, Loaded};
-use plain_map::BucketRow;
+use plain_map::{BucketRow, MOST_SEATS};
 use std::alloc::{AllocError, Global};
 use step_counts::Settings;
 
-/// Room for one directory try.
+/// What one bucket try reads: the words of a row, and the ops that are announced.
+///
+/// It is made once, since a function clears its own locals at each call.
+#[derive(Clone, Copy, Debug)]
+pub struct Buffers {
+    pub words: [u64; MOST_WORDS],
+    pub ops: [Option<Op>; MOST_SEATS],
+}
+
+/// Room for the tries of a call.
 #[derive(Debug, Drop)]
 pub struct Room {
+    /// For a bucket try.
+    pub buffers: Buffers,
     /// The directory that was loaded.
     pub directory: DirState,
     /// One bucket row, as it is read or written.
@@ -38,6 +50,10 @@ impl Room {
             });
         }
         Ok(Room {
+            buffers: Buffers {
+                words: [0; MOST_WORDS],
+                ops: [None; MOST_SEATS],
+            },
             directory: DirState::with_room(alloc, settings)?,
             row: BucketRow::with_room(alloc, settings)?,
             loaded,

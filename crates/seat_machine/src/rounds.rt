@@ -12,7 +12,7 @@ use crate::desk::Desk;
 use crate::directory_tries::{Changed, try_directory};
 use crate::limits::TRIES_STEPS;
 use crate::own::Own;
-use crate::room::Room;
+use crate::room::{Buffers, Room};
 use crate::steps::Steps;
 use crate::tries::{Tried, try_bucket};
 use core_model::Round;
@@ -21,9 +21,11 @@ use step_counts::SeatRows;
 
 // The bucket tries of a round, two and a look: the reply with its row, or none where a directory try is next; and how
 // many steps they took.
+#[inline(always)]
 fn try_buckets<S: Steps>(
     steps: &mut S,
     desk: &Desk,
+    buffers: &mut Buffers,
     own: &Own,
     used: &mut SeatRows,
     round: Round,
@@ -39,7 +41,17 @@ fn try_buckets<S: Steps>(
     let mut first = None;
     let mut spent = 0;
     'tries: loop {
-        let (tried, more) = try_bucket(steps, desk, own, used, round, turn, first);
+        let (tried, more) = try_bucket(
+            steps,
+            desk,
+            &mut buffers.words,
+            &mut buffers.ops,
+            own,
+            used,
+            round,
+            turn,
+            first,
+        );
         spent += more;
         match tried {
             Tried::Answered(reply, row) => return (Some((reply, row)), spent),
@@ -54,6 +66,8 @@ fn try_buckets<S: Steps>(
 
 // The directory tries of a round, two at most: the reply with its row, or none where the round is left; and how many
 // steps they took.
+#[cold]
+#[inline(never)]
 fn try_directories<S: Steps>(
     steps: &mut S,
     desk: &Desk,
@@ -96,6 +110,7 @@ fn try_directories<S: Steps>(
 }
 
 /// A whole round: the reply with its row, or none where the round is left; and how many steps it took.
+#[inline(always)]
 pub fn try_round<S: Steps>(
     steps: &mut S,
     desk: &Desk,
@@ -113,7 +128,7 @@ pub fn try_round<S: Steps>(
     ensures few { result.1 < 2 ^ 62 + TRIES_STEPS }
     ensures room { HasAllRoom (settings_at desk.now) room.new }
 {
-    let (answer, spent) = try_buckets(steps, desk, own, used, round);
+    let (answer, spent) = try_buckets(steps, desk, &mut room.buffers, own, used, round);
     if let Some((reply, row)) = answer {
         return (Some((reply, row)), spent);
     }

@@ -19,6 +19,7 @@ use crate::runs::{load_run, store_run};
 use crate::steps::Steps;
 
 /// Loads a bucket row: that of a bucket try, of a bucket of an op, or of the last look.
+#[inline(always)]
 pub fn load_row<S: Steps>(steps: &mut S, desk: &Desk, row: u64, words: &mut [u64])
     requires reading { IsReading (S.now steps.old).phase row }
     requires desk { IsOf (S.now steps.old) desk.now }
@@ -39,6 +40,7 @@ pub fn load_row<S: Steps>(steps: &mut S, desk: &Desk, row: u64, words: &mut [u64
 
 /// Stores the row of a bucket try, whose number is given.
 #[tactic(auto, unfolding(core_model::specs::Setup::next_number))]
+#[inline(always)]
 pub fn store_row<S: Steps>(steps: &mut S, desk: &Desk, row: u64, words: &[u64])
     requires storing { IsStoring (S.now steps.old) words.now }
     requires desk { IsOf (S.now steps.old) desk.now }

@@ -21,6 +21,7 @@ use crate::own::Own;
 use crate::rows::{load_row, store_row};
 use crate::steps::Steps;
 use crate::words::{applied_in, change, reply_in};
+use bucket_states::Op;
 use core_model::Round;
 use plain_map::{MOST_SEATS, Reply};
 use step_counts::SeatRows;
@@ -37,6 +38,7 @@ pub enum Tried {
 }
 
 /// Loads the bucket word and the row of a try: the row, and the first row of the round.
+#[inline(always)]
 pub fn look_at<S: Steps>(
     steps: &mut S,
     desk: &Desk,
@@ -67,6 +69,7 @@ pub fn look_at<S: Steps>(
 
 /// Makes the bucket after all ops the table's, and tells how many steps that took.
 #[tactic(auto, unfolding(core_model::specs::Setup::next_number))]
+#[inline(always)]
 pub fn change_bucket<S: Steps>(
     steps: &mut S,
     desk: &Desk,
@@ -77,6 +80,7 @@ pub fn change_bucket<S: Steps>(
     first: u64,
     row: u64,
     words: &mut [u64],
+    ops: &mut [Option<Op>; MOST_SEATS],
 ) -> (Tried, u64)
     requires phase { (S.now steps.old).phase ≡
         TryAnnouncement round (tried turn first row (bucket_in_words (S.now steps.old).setup words.old)) [] }
@@ -90,7 +94,6 @@ pub fn change_bucket<S: Steps>(
     ensures len { length words.new ≡ length words.old }
 {
     let seats = desk.layout.settings().seats as usize;
-    let mut ops = [None; MOST_SEATS];
     let found = &mut ops[..seats];
     let attempt = Attempt {
         round,
@@ -120,9 +123,12 @@ pub fn change_bucket<S: Steps>(
 }
 
 /// A whole bucket try, and how many steps it took.
+#[inline(always)]
 pub fn try_bucket<S: Steps>(
     steps: &mut S,
     desk: &Desk,
+    room: &mut [u64; MOST_WORDS],
+    ops: &mut [Option<Op>; MOST_SEATS],
     own: &Own,
     used: &mut SeatRows,
     round: Round,
@@ -138,8 +144,7 @@ pub fn try_bucket<S: Steps>(
     ensures few { result.1 ≤ TRY_STEPS }
 {
     let size = desk.row_length();
-    let mut buffer = [0; MOST_WORDS];
-    let words = &mut buffer[..size];
+    let words = &mut room[..size];
     let (row, first) = look_at(steps, desk, &round, turn, first, words);
     let spent = 1 + size as u64;
     if own.number as u64 <= applied_in(desk, words) {
@@ -151,6 +156,6 @@ pub fn try_bucket<S: Steps>(
     if words[3] == 1 {
         return (Tried::ToDirectory, spent);
     }
-    let (tried, more) = change_bucket(steps, desk, own, used, round, turn, first, row, words);
+    let (tried, more) = change_bucket(steps, desk, own, used, round, turn, first, row, words, ops);
     (tried, spent + more)
 }

@@ -25,6 +25,7 @@ use step_counts::{OP_WORDS, SeatRows};
 use word_rows::{OpRow, write_op};
 
 // The rounds of an update that is announced, and its last look: the reply, its row, and how many steps they took.
+#[inline(always)]
 fn settle<S: Steps>(
     steps: &mut S,
     desk: &Desk,
@@ -71,6 +72,7 @@ fn settle<S: Steps>(
 /// Makes an update: an insert of a value that can be kept, or a remove.
 ///
 /// **Steps:** those of the record, all through `steps`. It takes no memory and waits for nobody.
+#[inline(always)]
 pub fn update<S: Steps>(
     steps: &mut S,
     desk: &Desk,
@@ -93,7 +95,6 @@ pub fn update<S: Steps>(
     let mut done = [0; MOST_SEATS];
     let words = &mut done[..seats as usize];
     see_done(steps, desk, words);
-    let seen = counts(words);
     let mut op = [0; OP_WORDS];
     write_op(
         &OpRow {
@@ -108,7 +109,10 @@ pub fn update<S: Steps>(
         key: Hashed::new(&desk.rules.hashing, call.key()),
     };
     let (reply, place, spent) = settle(steps, desk, room, &own, used);
-    let made = Record {
+    steps.finish(desk.layout.done(desk.seat), number as u64);
+    // The record is made last, since the store of the done word waits for all that is written before it.
+    let seen = counts(words);
+    Record {
         seat: desk.seat,
         number,
         packet,
@@ -117,7 +121,5 @@ pub fn update<S: Steps>(
         steps: seats as u64 + OP_WORDS as u64 + 1 + spent + 1,
         seen,
         place,
-    };
-    steps.finish(desk.layout.done(desk.seat), number as u64);
-    made
+    }
 }

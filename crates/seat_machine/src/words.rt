@@ -17,6 +17,7 @@ use step_counts::{BUCKET_HEAD_WORDS, ITEM_WORDS, SEAT_WORDS};
 use word_rows::{reply_of, row_laws};
 
 /// The number of the seat's last update in the row.
+#[inline(always)]
 pub fn applied_in(desk: &Desk, words: &[u64]) -> u64
     requires words { length words.now ≡ row_words (settings_at desk.now) }
     ensures { result ≡ slice_index (state_at desk.now words.now).applied desk.now.seat }
@@ -27,6 +28,7 @@ pub fn applied_in(desk: &Desk, words: &[u64]) -> u64
 }
 
 /// The reply to that update.
+#[inline(always)]
 pub fn reply_in(desk: &Desk, words: &[u64]) -> Option<Reply>
     requires words { length words.now ≡ row_words (settings_at desk.now) }
     ensures { result ≡ slice_index_or (state_at desk.now words.now).replies desk.now.seat None }
@@ -39,6 +41,7 @@ pub fn reply_in(desk: &Desk, words: &[u64]) -> Option<Reply>
 }
 
 /// The row of the bucket after all ops, written over the row that it is made from.
+#[inline(always)]
 pub fn change(desk: &Desk, own: &Hashed, row: u64, ops: &[Option<Op>], words: &mut [u64])
     requires spelled { SpellSomeBucket (settings_at desk.now) words.old }
     requires words { length words.old ≡ row_words (settings_at desk.now) }

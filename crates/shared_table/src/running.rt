@@ -48,27 +48,32 @@ impl<'a, B: Asked> Steps for Running<'a, B> {
 
     ghost answered = { HasAnswered B.asked B.was };
 
+    #[inline(always)]
     fn stands(&self) {
         let _still = self.done;
     }
 
+    #[inline(always)]
     fn load(&mut self, at: u64) -> u64 {
         place_laws();
         self.words.load::<Acts<B>>(&mut self.token, at as usize)
     }
 
+    #[inline(always)]
     fn store(&mut self, at: u64, word: u64) {
         place_laws();
         self.words
             .store::<Acts<B>>(&mut self.token, at as usize, word);
     }
 
+    #[inline(always)]
     fn exchange(&mut self, at: u64, old: u64, new: u64) -> u64 {
         place_laws();
         self.words
             .compare_exchange::<Acts<B>>(&mut self.token, at as usize, old, new)
     }
 
+    #[inline(always)]
     fn finish(&mut self, at: u64, word: u64) {
         place_laws();
         self.words
@@ -78,6 +83,7 @@ impl<'a, B: Asked> Steps for Running<'a, B> {
 }
 
 impl<'a, B: Asked> Running<'a, B> {
+    #[inline(always)]
     fn into_token(self) -> Token
         ensures me { result.me ≡ alone self.entry.holding }
         ensures table { result.table_id ≡ self.entry.table_id }
@@ -87,6 +93,7 @@ impl<'a, B: Asked> Running<'a, B> {
 }
 
 /// A whole lookup on the table's words.
+#[inline(always)]
 pub(crate) fn run_lookup<B: Asked>(
     words: &Words,
     token: Token,
@@ -119,6 +126,7 @@ pub(crate) fn run_lookup<B: Asked>(
 }
 
 /// A whole update on the table's words.
+#[inline(always)]
 pub(crate) fn run_update<B: Asked>(
     words: &Words,
     token: Token,

@@ -128,6 +128,7 @@ impl Seat {
     }
 
     // Answers any call, or refuses it.
+    #[inline(always)]
     pub(crate) fn answer(
         &mut self,
         directory: &Directory,
@@ -152,6 +153,7 @@ impl Seat {
     }
 
     // What it has too little of for one more update.
+    #[inline(always)]
     fn shortage(&self) -> Option<Full>
         ensures { result ≡ shortage_of self.now }
     {
@@ -171,6 +173,7 @@ impl Seat {
     }
 
     // An update for which it has enough.
+    #[inline(always)]
     fn update(&mut self, directory: &Directory, packet: u32, call: &Call) -> Record
         requires seat { IsOf directory.now self.old }
         requires update { IsUpdate call.now }

@@ -1,4 +1,4 @@
-use Rattle.std.proofs.Common.{◌≡◌, ℕ, ◌<◌, ◌+◌, List, [], Vec, Global, vec_len, length, map, get_or, set, refl, sym, ap, ◌∙◌, subst, arith}
+use Rattle.std.proofs.Common.{◌≡◌, ℕ, ◌<◌, ◌+◌, List, [], Vec, Global, length, map, get_or, set, refl, sym, ap, ◌∙◌, subst, arith}
 use Rattle.std.proofs.lemmas.List.{get_or_default, length-map, length-set}
 use Rattle.trace_share.specs.declared.outcome.Outcome.{Outcome}
 use Rattle.batch_runner.proofs.Merges.{Until, held_log, many, one_left, until_end, until_next, until_start, zero_at, zeros}

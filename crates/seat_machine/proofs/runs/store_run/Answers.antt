@@ -1,18 +1,17 @@
-use Rattle.std.proofs.Common.{◌∙◌, List, ℕ, subst, sym, ap}
-use Rattle.std.specs.Prelude.{replicate}
-use Rattle.seat_machine.specs.Going.{AllFit, Fits, Going, goes, goes_by}
-use Rattle.seat_machine.proofs.RunLemmas.{goes_by-more, AllFit-more, replicate_more}
+use Rattle.std.proofs.Common.{arith}
+use Rattle.seat_machine.proofs.RunLemmas.{stored_more}
 use Rattle.seat_machine.proofs.runs.store_run.Goals as goal
 
-pub loop-i-preserved : goal.loop-i-preserved
-loop-i-preserved g c =
-    let first : Going = g.S.Steps.now c.args.steps.now in
-    let v = c.loop-i.invariant in
-    let was : List ℕ = replicate c.loop-i.i 0 in
-    let one = replicate_more c.loop-i.i in
-    record {
-      goes = c.store.ensures.goes ∙ ap (λ (h : Going). goes h 0) v.goes ∙ sym (goes_by-more first was 0)
-          ∙ ap (goes_by first) (sym one);
-      fits = subst (AllFit first) (sym one) (AllFit-more first was 0 v.fits
-          (subst (λ (h : Going). Fits h 0) v.goes c.store.ensures.fits));
-    }
+pub loop-one-preserved : goal.loop-one-preserved
+loop-one-preserved g c =
+    let v = c.loop-one.invariant in
+    let next = stored_more (g.S.Steps.now c.args.steps.now) c.loop-one.i v.goes v.fits c.store.ensures.goes
+    c.store.ensures.fits in
+    record { at = omega (arith, v.at); room = v.room; goes = next.0; fits = next.1 }
+
+pub loop-rest-preserved : goal.loop-rest-preserved
+loop-rest-preserved g c =
+    let v = c.loop-rest.invariant in
+    let next = stored_more (g.S.Steps.now c.args.steps.now) c.loop-rest.i v.goes v.fits c.store-in-loop-rest.ensures.goes
+    c.store-in-loop-rest.ensures.fits in
+    record { at = omega (arith, v.at); goes = next.0; fits = next.1 }

@@ -1,4 +1,4 @@
-use Rattle.std.proofs.Common.{◌≡◌, ◌<◌, ap, arith}
+use Rattle.std.proofs.Common.{ap, arith}
 use Rattle.batch_runner.specs.declared.totals.Totals.{Totals}
 use Rattle.batch_runner.proofs.TotalLemmas.{replies_fit}
 use Rattle.batch_runner.proofs.totals.Totals.put.Goals as goal

@@ -1,0 +1,53 @@
+-- What is told of a batch that was served.
+use Rattle.std.proofs.Common.{◌≡◌, ℕ, ◌<◌, ◌≤◌, List, length, map, sym, ap, ◌∙◌, subst, vec_len, arith}
+use Rattle.std.specs.Prelude.{All}
+use Rattle.std.proofs.lemmas.List.{length-map}
+use Rattle.std.proofs.lemmas.List.Elements.{All-map}
+use Rattle.trace_share.specs.declared.outcome.Outcome.{Outcome}
+use Rattle.trace_share.specs.Outcomes.{asked_in, records_in}
+use Rattle.batch_orders.specs.Batches.{answered_then, with_counts}
+use Rattle.std.proofs.lemmas.Simd.{map-map}
+use Rattle.plain_map.specs.declared.records.Record.{Record}
+use Rattle.batch_runner.specs.declared.service.Service.{Service}
+use Rattle.batch_runner.specs.declared.batch.Batch.{Batch}
+use Rattle.batch_runner.specs.Served.{CanOpen, Served, IsServed, history_in, rules_of}
+use Rattle.batch_runner.specs.Told.{HasCounts, IsToldBy}
+use Rattle.batch_runner.proofs.Deals.{long_dealt}
+use Rattle.batch_runner.proofs.Rights.{can_open}
+use Rattle.batch_runner.proofs.Counted.{counted, short_asked}
+
+module _ (service : Service) (served : Served) (batch : Batch) (is : IsServed service served)
+    (told : IsToldBy service served batch) where
+  -- its pairs can open the next
+  pub told_open : CanOpen (rules_of service) batch.pairs.items
+  told_open = subst (CanOpen (rules_of service)) (sym told.pairs) (can_open service served is)
+
+  -- its counts are small
+  pub told_counted : (limit : ℕ) → length served.calls < limit →
+      All (λ (o : ℕ × Outcome). HasCounts limit o.1) batch.outcomes.items
+  told_counted limit few = subst (All (λ (o : ℕ × Outcome). HasCounts limit o.1)) (sym told.outcomes)
+      (counted service served limit is few)
+
+  -- there is a count for each seat
+  pub told_seats : vec_len batch.answered ≡ service.settings.seats
+  told_seats = omega (
+    arith,
+    batch.answered.ok.0,
+    ap length told.answered,
+    length-map served.logs (λ (log : List Outcome). length (records_in log)),
+    ap length is.of_run.asked,
+    length-map served.logs (λ (log : List Outcome). map asked_in log),
+    long_dealt service.share service.settings.seats served.calls,
+  )
+
+  -- of no more calls than there are
+  pub told_answered : All (λ count. count ≤ length served.calls) batch.answered.items
+  told_answered = subst (All (λ count. count ≤ length served.calls)) (sym told.answered)
+      (All-map (λ count. count ≤ length served.calls) (λ (log : List Outcome). length (records_in log)) served.logs
+      (short_asked service served.calls served.logs is.of_run.asked))
+
+  -- which is how many calls the seats have answered then
+  pub told_then : (before : List ℕ) →
+      with_counts before batch.answered.items ≡ answered_then before (history_in service served)
+  told_then before = ap (with_counts before)
+      (told.answered ∙ sym (map-map (λ (log : List Record). length log) records_in served.logs))

@@ -1,0 +1,5 @@
+use Rattle.std.proofs.Common.{◌≡◌, length, map, take}
+use Rattle.batch_runner.proofs.outcomes.counts_of.Given as goal
+
+abbrev pub invariant-loop-log : goal.invariant-loop-log
+invariant-loop-log l = l.counts.items ≡ map (λ log. length log.items) (take l.log-index l.logs)

@@ -1,0 +1,5 @@
+pub mod Lines
+pub mod Threads
+pub mod Shares
+pub mod Room
+pub mod OneSeat
