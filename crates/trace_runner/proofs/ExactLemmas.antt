@@ -5,7 +5,7 @@ use Rattle.pcap_reader.specs.declared.fault.CaptureFault.{CaptureFault}
 use Rattle.pcap_reader.specs.Capture.{Saved, Capture}
 use Rattle.pcap_reader.specs.Laws.{HasOneCapture}
 use Rattle.trace_runner.specs.declared.intake.TheConstants.{PACKET_LIMIT}
-use Rattle.trace_runner.specs.declared.plan.Plan.{Plan}
+use Rattle.command_line.specs.declared.plan.Plan.{Plan}
 use Rattle.trace_runner.specs.declared.status.Status.{Status}
 use Rattle.trace_runner.specs.declared.status.Status.TheVariants as status
 use Rattle.trace_runner.specs.Headline.{Leaves, status_for}

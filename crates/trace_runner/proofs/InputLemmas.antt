@@ -51,6 +51,7 @@ HasRead-next bytes old new before after records read given same =
           (flat_map bytes_of records) + length (bytes_of given.saved) =
           ap length (sym further) ∙ length-append (flat_map bytes_of records) (bytes_of given.saved) in
           omega (arith, longer, read.offset, given.offset);
+      room = omega (arith, length-append (bytes_of given.saved) new.pending, given.room);
     }
 
 -- an input of which no more than a remainder is still to come is the capture of the records that were given out

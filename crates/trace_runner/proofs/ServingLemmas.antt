@@ -18,7 +18,7 @@ use Rattle.trace_runner.proofs.InputLemmas.{HasRead-next, HasRead-ends, lose_fro
 use Rattle.trace_runner.proofs.TakenLemmas.{HasFileHead-front, TakesFew-held, TakesFew-none, taken_of, drop-taken_of, taken_of-whole}
 
 -- where bytes are told to come, the source tells those that are left
-left_is_told : (reading : Reading) (left : Option (List ℕ)) (more : List ℕ) → to_come reading left ≡ Some more →
+pub left_is_told : (reading : Reading) (left : Option (List ℕ)) (more : List ℕ) → to_come reading left ≡ Some more →
     (others : List ℕ) × (left ≡ Some others) × (more ≡ reading.pending ++ others)
 left_is_told reading None more told = absurd (cc)
 left_is_told reading (Some others) more told =

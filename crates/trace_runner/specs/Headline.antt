@@ -1,98 +1,53 @@
 -- What a run prints, and so what its user may rely on.
-use Rattle.std.specs.Prelude.{◌≡◌, ℕ, ◌-◌, List, [], ◌∷◌, ◌++◌, length, map, false, nat_lt, if◌then◌else◌, is_ok, Option, Result, All}
-use Rattle.std.specs.FinMap.{empty}
+use Rattle.std.specs.Prelude.{◌≡◌, ◌*◌, ◌⊎◌, ℕ, List, [], length, Some, nat_lt, if◌then◌else◌, is_ok, Option, Result}
 use Rattle.std.specs.Io.KnownBytes.{Appends, Keeps}
-use Rattle.plain_map.specs.declared.records.Record.{Record}
-use Rattle.plain_map.specs.declared.rules.Rules.{Rules}
-use Rattle.plain_map.specs.History.{Placed, Legal, After, Whole, InTurn, ids_of, sessions_after}
-use Rattle.plain_map.specs.PlainObject.{Sessions, pairs_of}
-use Rattle.trace_share.specs.declared.outcome.Outcome.{Outcome}
-use Rattle.trace_share.specs.declared.outcome.Outcome.TheVariants.{Answered}
+use Rattle.edge_traits.specs.Edge.{AppendsFront}
+use Rattle.plain_map.specs.declared.calls.Call.{Call}
 use Rattle.pcap_reader.specs.declared.fault.CaptureFault.{CaptureFault}
 use Rattle.pcap_reader.specs.Capture.{Saved}
-use Rattle.report_text.specs.declared.parts.Head.{Head}
-use Rattle.report_text.specs.declared.parts.Tail.{Tail}
+use Rattle.pcap_reader.specs.Made.{made_capture}
+use Rattle.pcap_reader.specs.Reading.{Took}
 use Rattle.report_text.specs.declared.parts.Ending.{Ending}
 use Rattle.report_text.specs.declared.parts.Ending.TheVariants.{Done, ReadFault, Limit, Fault}
-use Rattle.report_text.specs.Report.{Report, report_of}
-use Rattle.trace_runner.specs.declared.plan.Plan.{Plan}
+use Rattle.report_text.specs.Report.{report_of}
+use Rattle.batch_runner.specs.declared.service.Service.{Service}
+use Rattle.batch_runner.specs.Served.{Served}
+use Rattle.command_line.specs.declared.plan.Plan.{Plan}
 use Rattle.trace_runner.specs.declared.status.Status.{Status}
 use Rattle.trace_runner.specs.declared.status.Status.TheVariants as status
+use Rattle.trace_runner.specs.Batches.{batch_count, batch_length}
 use Rattle.trace_runner.specs.PacketCalls.{MakeCalls}
-use Rattle.trace_runner.specs.Answering.{calls_in}
-use Rattle.trace_runner.specs.Input.{Serves, packet_limit}
+use Rattle.trace_runner.specs.Input.{Begins, IsFirst, Serves, packet_limit}
+use Rattle.trace_runner.specs.Served.{AreDone, lines_so_far, run_report}
 
--- the rules of the plain map that the plan asks for
-abbrev pub rules_of : Plan → Rules
-rules_of plan = record { items = plan.items; depth = plan.depth; hashing = plan.hashing }
+-- ---- what is printed of packets
 
--- Each packet's call is answered once, and in one order of all calls each has the plain map's reply, from the empty
--- map on.
-pub record IsServed (rules : Rules) (packets : List (List ℕ)) (records : List Record)
-    (order : List Placed) : Type 0 where
-  pub calls : MakeCalls 1 packets (calls_in records)
-  pub turns : InTurn 1 records
-  pub legal : Legal rules empty order
-  pub after : After order
-  pub whole : Whole records [] order
-  pub no_steps : All (λ r. r.steps ≡ 0) records
+-- The text is the report of so many packets, whose calls are these, served as the plan says, with this ending.
+abbrev pub IsReportOf : Plan → ℕ → List (ℕ × Call) → Ending → List ℕ → Type 0
+IsReportOf plan packets calls ending text =
+    (service : Service) × (batches : List Served) × AreDone plan service calls batches
+    × (length batches ≡ batch_count packets) × (text ≡ report_of (run_report plan service packets batches ending))
 
--- what the head line tells; a table starts at its greatest depth
-abbrev pub head_of : Plan → Head
-head_of plan =
-    record {
-      play = false;
-      seats = plan.seats;
-      items = plan.items;
-      depth = plan.depth;
-      start = plan.depth;
-      hashing = plan.hashing;
-      share = plan.share;
-    }
+-- the text is the head line and the lines of the whole batches of so many packets, whose calls are these
+abbrev pub IsFrontOf : Plan → ℕ → List (ℕ × Call) → List ℕ → Type 0
+IsFrontOf plan packets calls text =
+    (service : Service) × (batches : List Served) × AreDone plan service calls batches
+    × (batch_length * length batches ≡ packets) × (text ≡ lines_so_far plan service batches)
 
--- what the last lines tell of so many packets and calls; on the plain map there are no leaves and no steps
-abbrev pub tail_of : ℕ → ℕ → Ending → Tail
-tail_of packets calls ending =
-    record {
-      leaves = 0;
-      depth = 0;
-      ending = ending;
-      packets = packets;
-      calls = calls;
-      passed = packets - calls;
-      full = 0;
-      pending = 0;
-      unbegun = 0;
-      update = 0;
-      bound = 0;
-      lookup = 0;
-    }
-
--- answered calls as the report has them, each with its seat
-abbrev pub outcomes_of : List Record → List (ℕ × Outcome)
-outcomes_of records = map (λ r. (r.seat, Answered r)) records
-
--- the report of a run with so many packets, whose calls are one batch
-abbrev pub run_report : Plan → ℕ → List Record → List Placed → Sessions → Ending → Report
-run_report plan packets records order sessions ending =
-    record {
-      head = head_of plan;
-      batches = (record { outcomes = outcomes_of records; pending = []; order = ids_of order }) ∷ [];
-      pairs = pairs_of sessions;
-      tail = tail_of packets (length records) ending;
-    }
-
--- The text is the report of these packets, served as the plan says, with this ending.
 abbrev pub IsReport : Plan → List (List ℕ) → Ending → List ℕ → Type 0
 IsReport plan packets ending text =
-    (records : List Record) × (order : List Placed) × IsServed (rules_of plan) packets records order
-    × (text ≡ report_of (run_report plan (length packets) records order
-    (sessions_after (rules_of plan) empty order) ending))
+    (calls : List (ℕ × Call)) × MakeCalls 1 packets calls × IsReportOf plan (length packets) calls ending text
+
+abbrev pub IsFront : Plan → List (List ℕ) → List ℕ → Type 0
+IsFront plan packets text =
+    (calls : List (ℕ × Call)) × MakeCalls 1 packets calls × IsFrontOf plan (length packets) calls text
 
 -- of an input with these bytes, of which these are left, the text is the report, with this ending
 abbrev pub Reports : Plan → List ℕ → Option (List ℕ) → Ending → List ℕ → Type 0
-Reports plan bytes left ending text = (packets : List (List ℕ)) × Serves bytes left packets ending
-    × IsReport plan packets ending text
+Reports plan bytes left ending text =
+    (packets : List (List ℕ)) × Serves bytes left packets ending × IsReport plan packets ending text
+
+-- ---- the status
 
 -- the status of a run whose report was put whole
 abbrev pub status_of : Ending → Status
@@ -111,18 +66,35 @@ code_of status.WriteFault = 4
 code_of status.BadCapture = 5
 code_of status.Limit = 6
 
+-- the status that a capture of these records with this ending is answered with, where nothing fails
+abbrev pub status_for : List Saved → Result ℕ CaptureFault → Status
+status_for records ending = if nat_lt packet_limit (length records) then status.Limit
+    else (if is_ok ending then status.Done else status.BadCapture)
+
+-- ---- what a run leaves
+
+-- a front of a text was put
+abbrev pub PutsFront : (before after : Option (List ℕ)) → (List ℕ → Type 0) → Type 0
+PutsFront before after IsText = (text : List ℕ) × IsText text × AppendsFront before after text
+
 -- The whole report was put, with this ending.
 abbrev pub PutsReport : Plan → List ℕ → Option (List ℕ) → Option (List ℕ) → Option (List ℕ) → Ending → Type 0
 PutsReport plan bytes left before after ending =
     (text : List ℕ) × Reports plan bytes left ending text × Appends before after text
 
--- A front of the report was put, whatever the ending.
-abbrev pub PutsFront : Plan → List ℕ → Option (List ℕ) → Option (List ℕ) → Option (List ℕ) → Type 0
-PutsFront plan bytes left before after =
-    (ending : Ending) × (front : List ℕ) × (rest : List ℕ) × Reports plan bytes left ending (front ++ rest)
-    × Appends before after front
+-- A front of the report was put, where the ending is known, and otherwise of the lines of the batches so far.
+abbrev pub PutsSome : Plan → List ℕ → Option (List ℕ) → Option (List ℕ) → Option (List ℕ) → Type 0
+PutsSome plan bytes left before after =
+    ((ending : Ending) × PutsFront before after (Reports plan bytes left ending))
+    ⊎ ((packets : List (List ℕ)) × Begins bytes left packets × PutsFront before after (IsFront plan packets))
 
--- What a run leaves that ended so: of the input's bytes these are left, and the sink had taken `before` and has taken
+-- The same where memory ran out, or nothing was put. More of the input may have been read.
+abbrev pub PutsLess : Plan → List ℕ → Option (List ℕ) → Option (List ℕ) → Option (List ℕ) → Type 0
+PutsLess plan bytes left before after =
+    Keeps before after ⊎ (((ending : Ending) × PutsFront before after (Reports plan bytes left ending))
+    ⊎ ((packets : List (List ℕ)) × IsFirst bytes packets × PutsFront before after (IsFront plan packets)))
+
+-- What `serve` leaves that ended so: of the input's bytes these are left, and the sink had taken `before` and has taken
 -- `after`.
 abbrev pub Leaves : Plan → List ℕ → Option (List ℕ) → Option (List ℕ) → Option (List ℕ) → Status → Type 0
 Leaves plan bytes left before after status.Done = (rest : ℕ) × PutsReport plan bytes left before after (Done rest)
@@ -130,11 +102,32 @@ Leaves plan bytes left before after status.BadCapture =
     (fault : CaptureFault) × PutsReport plan bytes left before after (Fault fault)
 Leaves plan bytes left before after status.Limit = (limit : ℕ) × PutsReport plan bytes left before after (Limit limit)
 Leaves plan bytes left before after status.ReadFault = PutsReport plan bytes left before after ReadFault
-Leaves plan bytes left before after status.WriteFault = PutsFront plan bytes left before after
-Leaves plan bytes left before after status.Memory = Keeps before after
+Leaves plan bytes left before after status.WriteFault = PutsSome plan bytes left before after
+Leaves plan bytes left before after status.Memory = PutsLess plan bytes left before after
 Leaves plan bytes left before after status.Usage = ⊥
 
--- the status that a capture of these records with this ending is answered with, where nothing fails
-abbrev pub status_for : List Saved → Result ℕ CaptureFault → Status
-status_for records ending = if nat_lt packet_limit (length records) then status.Limit
-    else (if is_ok ending then status.Done else status.BadCapture)
+-- a fact of what was taken of a source; where memory ran out, of what had been taken at some moment of the run
+abbrev pub TookFor : Status → (first left : Option (List ℕ)) → (List ℕ → Type 0) → Type 0
+TookFor status.Done first left P = Took first left P
+TookFor status.BadCapture first left P = Took first left P
+TookFor status.Limit first left P = Took first left P
+TookFor status.ReadFault first left P = Took first left P
+TookFor status.WriteFault first left P = Took first left P
+TookFor status.Memory first left P = (between : Option (List ℕ)) × Took first between P
+TookFor status.Usage first left P = Took first left P
+
+-- So it is for the bytes of a source, where they are told, and for those that were taken of it, as of a source that told
+-- just these: so these decide which answer it is.
+pub record LeavesAll (plan : Plan) (first left before after : Option (List ℕ)) (answer : Status) : Type 0 where
+  pub told : (bytes : List ℕ) → first ≡ Some bytes → Leaves plan bytes left before after answer
+  pub took : TookFor answer first left (λ taken. Leaves plan taken (Some []) before after answer)
+
+-- what `make` leaves
+abbrev pub LeavesMade : Plan → Option (List ℕ) → Option (List ℕ) → Status → Type 0
+LeavesMade plan before after status.Done = Appends before after (made_capture plan.number plan.packets)
+LeavesMade plan before after status.WriteFault = AppendsFront before after (made_capture plan.number plan.packets)
+LeavesMade plan before after status.Memory = AppendsFront before after (made_capture plan.number plan.packets)
+LeavesMade plan before after status.Usage = ⊥
+LeavesMade plan before after status.ReadFault = ⊥
+LeavesMade plan before after status.BadCapture = ⊥
+LeavesMade plan before after status.Limit = ⊥

@@ -1,15 +1,16 @@
 -- What a run serves of its input.
 -- Source: pcap-savefile(5), by the definition of a capture.
-use Rattle.std.specs.Prelude.{◌≡◌, ℕ, ◌<◌, ◌≤◌, ◌+◌, List, [], ◌++◌, length, map, sum_by, take, Option, Some, Result, Ok, Err}
+use Rattle.std.specs.Prelude.{◌≡◌, ℕ, ◌<◌, ◌≤◌, ◌+◌, ◌⊎◌, List, [], ◌++◌, length, map, sum_by, take, Option, Some, Result, Ok, Err}
 use Rattle.pcap_reader.specs.declared.fault.CaptureFault.{CaptureFault}
 use Rattle.pcap_reader.specs.Capture.{Saved, Capture, file_head_length, record_head_length}
+use Rattle.pcap_reader.specs.Laws.{BeginsWith}
 use Rattle.pcap_reader.specs.Reading.{buffer_length}
 use Rattle.report_text.specs.declared.parts.Ending.{Ending}
 use Rattle.report_text.specs.declared.parts.Ending.TheVariants.{Done, ReadFault, Limit, Fault}
 
 -- how many packets a run serves at most
 abbrev pub packet_limit : ℕ
-packet_limit = 20000
+packet_limit = 4000000
 
 -- the captured bytes of each record
 abbrev pub packets_of : List Saved → List (List ℕ)
@@ -58,4 +59,15 @@ HoldsUntil bytes left packets ReadFault = HoldsTaken bytes left packets
 -- Of an input with these bytes, of which these are left, these packets are served, and so it ended.
 pub record Serves (bytes : List ℕ) (left : Option (List ℕ)) (packets : List (List ℕ)) (ending : Ending) : Type 0 where
   pub holds : HoldsUntil bytes left packets ending
+  pub takes : TakesFew bytes left packets
+
+-- these are the first packets of an input with these bytes
+abbrev pub IsFirst : List ℕ → List (List ℕ) → Type 0
+IsFirst bytes packets =
+    (packets ≡ []) ⊎ ((records : List Saved) × (more : List ℕ) × BeginsWith bytes records more
+    × (packets ≡ packets_of records))
+
+-- Of an input with these bytes, of which these are left, these packets have been read; how it ends is not known yet.
+pub record Begins (bytes : List ℕ) (left : Option (List ℕ)) (packets : List (List ℕ)) : Type 0 where
+  pub first : IsFirst bytes packets
   pub takes : TakesFew bytes left packets

@@ -1,10 +1,8 @@
-pub mod Command
-pub mod Words
-pub mod CommandLines
 pub mod PacketCalls
 pub mod Input
+pub mod Batches
 pub mod Endings
 pub mod Reading
-pub mod Answering
+pub mod Served
 pub mod Headline
-pub mod Printing
+pub mod Progress

@@ -1,17 +1,17 @@
 -- How far the reading of an input has come.
-use Rattle.std.specs.Prelude.{◌≡◌, ℕ, ◌+◌, List, [], ◌++◌, length, drop, flat_map, All, Option, Some, IfSome, IsSome, Result, Ok, Err}
+use Rattle.std.specs.Prelude.{◌≡◌, ◌≤◌, ◌<◌, ℕ, ◌+◌, List, [], ◌∷◌, ◌++◌, length, drop, flat_map, All, Option, Some, IfSome, IsSome, Result, Ok, Err}
 use Rattle.pcap_reader.specs.declared.head.TheConstants.{FILE_HEAD}
 use Rattle.pcap_reader.specs.Capture.{Saved, bytes_of, HasFileHead, IsSaved, IsCut, IsRemainder}
-use Rattle.pcap_reader.specs.Reading.{GivesNone, Reading, to_come}
+use Rattle.pcap_reader.specs.Reading.{GivesNone, Reading, Took, buffer_length, to_come}
 use Rattle.plain_map.specs.declared.calls.Call.{Call}
 use Rattle.report_text.specs.declared.parts.Ending.{Ending}
 use Rattle.report_text.specs.declared.parts.Ending.TheVariants.{Done, ReadFault, Limit, Fault}
-use Rattle.trace_runner.specs.declared.intake.Intake.{Intake}
 use Rattle.plain_map.specs.Calls.{key_in}
+use Rattle.plain_map.specs.Serving.{IsAskable}
 use Rattle.flow_keys.specs.FlowText.{HasText}
 use Rattle.pcap_reader.specs.declared.fault.CaptureFault.{CaptureFault}
 use Rattle.trace_runner.specs.PacketCalls.{MakeCalls, MakesCall, numbered}
-use Rattle.trace_runner.specs.Input.{Serves}
+use Rattle.trace_runner.specs.Input.{Serves, packets_of}
 
 -- the bytes still to come are a remainder with this ending
 abbrev pub EndsWith : Reading → Option (List ℕ) → Result ℕ CaptureFault → Type 0
@@ -38,18 +38,49 @@ pub record HasRead (bytes : List ℕ) (reading : Reading) (left : Option (List �
   pub told : to_come reading left ≡ Some more
   pub whole : drop FILE_HEAD bytes ≡ flat_map bytes_of records ++ more
   pub offset : reading.offset ≡ FILE_HEAD + length (flat_map bytes_of records)
-
--- what was read of an input with these bytes, of which these are left
-abbrev pub IsIntake : List ℕ → Option (List ℕ) → Intake → Type 0
-IsIntake bytes left intake =
-    (packets : List (List ℕ)) × Serves bytes left packets intake.ending × MakeCalls 1 packets intake.calls.items
-    × (length packets ≡ intake.packets)
-
--- each call's key has a text
-abbrev pub HasTexts : List (ℕ × Call) → Type 0
-HasTexts calls = All (λ call. HasText (key_in call.1)) calls
+  pub room : length reading.pending ≤ buffer_length
 
 -- the call that the packet with this number makes stands behind the others, where it makes one
 abbrev pub TakesCall : ℕ → List ℕ → List (ℕ × Call) → List (ℕ × Call) → Type 0
 TakesCall number packet old new = (made : Option Call) × MakesCall number packet made
     × (new ≡ old ++ numbered number made)
+
+-- so many records have been given out of an input with these bytes, and their packets make these calls
+abbrev pub HasCalls : List ℕ → Reading → Option (List ℕ) → ℕ → List (ℕ × Call) → Type 0
+HasCalls bytes reading left many calls =
+    (records : List Saved) × HasRead bytes reading left records × MakeCalls 1 (packets_of records) calls
+    × (length records ≡ many)
+
+-- an input with these bytes, of which these are left, ended so behind so many packets, which make these calls
+abbrev pub EndsCalls : List ℕ → Option (List ℕ) → ℕ → List (ℕ × Call) → Ending → Type 0
+EndsCalls bytes left many calls ending =
+    (packets : List (List ℕ)) × Serves bytes left packets ending × MakeCalls 1 packets calls × (length packets ≡ many)
+
+-- So far has an input been read, of which these bytes were left at first, and these are now: where they are told, and by
+-- what was taken of them.
+pub record HaveCome (first now : Option (List ℕ)) (reading : Reading) (many : ℕ) (calls : List (ℕ × Call)) : Type 0 where
+  pub told : (bytes : List ℕ) → first ≡ Some bytes → HasCalls bytes reading now many calls
+  pub took : Took first now (λ taken. HasCalls taken reading (Some []) many calls)
+
+-- and so it ended
+pub record HaveEnded (first now : Option (List ℕ)) (many : ℕ) (calls : List (ℕ × Call)) (ending : Ending) : Type 0 where
+  pub told : (bytes : List ℕ) → first ≡ Some bytes → EndsCalls bytes now many calls ending
+  pub took : Took first now (λ taken. EndsCalls taken (Some []) many calls ending)
+
+-- a call of a packet behind the one number and up to the other, which can be asked and printed
+pub record IsBetween (first last : ℕ) (call : ℕ × Call) : Type 0 where
+  pub above : first < call.0
+  pub upto : call.0 ≤ last
+  pub askable : IsAskable call.1
+  pub text : HasText (key_in call.1)
+
+-- each call is of a later packet than those before it
+abbrev pub Ascending : List (ℕ × Call) → Type 0
+Ascending [] = Unit {0}
+Ascending (call ∷ calls) = All (λ other. call.0 < other.0) calls × Ascending calls
+
+-- these calls are of the packets behind the one number and up to the other, in their order
+pub record AreBetween (first last : ℕ) (calls : List (ℕ × Call)) : Type 0 where
+  pub ascend : Ascending calls
+  pub each : All (IsBetween first last) calls
+  pub few : first + length calls ≤ last

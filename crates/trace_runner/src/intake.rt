@@ -1,119 +1,110 @@
-//! The input of a run: its packets' calls, and how it ended.
+//! The input of a run: its packets' calls, batch by batch, and how it ended.
 
-ghost use Rattle.std.specs.Prelude.{◌≡◌, ◌≤◌, ℕ, List, [], ◌++◌, Some, IfOk, IfSome, vec_len};
+ghost use Rattle.std.specs.Prelude.{◌≡◌, ◌<◌, ◌≤◌, ◌+◌, ℕ, List, [], ◌++◌, false, Option, Some, MatchOption, Err, IfOk, IfErr, IfSome, IfNone, OnOk};
 ghost use Rattle.edge_traits.specs.Edge.{Rose};
-ghost use Rattle.pcap_reader.specs.Reading.{IsAtStart, Took};
+ghost use Rattle.pcap_reader.specs.Reading.{IsAtStart};
+ghost use Rattle.plain_map.specs.declared.calls.Call.{Call};
 ghost use Rattle.report_text.specs.Report.{IsEnding};
-ghost use Rattle.trace_runner.specs.Endings.{ending_at};
+ghost use Rattle.trace_runner.specs.Endings.{ending_at, OnEnds};
+ghost use Rattle.trace_runner.specs.Reading.{AreBetween, HaveCome, HaveEnded};
 
-use crate::steps::{keep_call, read_on};
+use crate::steps::{keep_call, read_on, read_past};
 use edge_traits::Source;
-use pcap_reader::{CaptureFault, Reader, capture_front, every_capture};
+use pcap_reader::{CaptureFault, Reader};
 use plain_map::Call;
 use report_text::Ending;
 use std::alloc::{AllocError, Global};
 
 /// How many packets a run serves at most.
-pub const PACKET_LIMIT: u32 = 20_000;
+pub const PACKET_LIMIT: u32 = 4_000_000;
 
-/// What was read of the input.
-#[derive(Drop)]
-pub(crate) struct Intake {
-    /// Each call with its packet's number, from 1, in packet order.
-    pub calls: Vec<(u32, Call)>,
-    /// How many packets were read whole and are served, at most `PACKET_LIMIT`.
-    pub packets: u32,
-    pub ending: Ending,
+/// How many packets a batch has; the last one may have fewer.
+pub const BATCH: u32 = 2_048;
+
+/// Why an input could not be opened.
+#[derive(Clone, Copy)]
+pub(crate) enum Unopened {
+    Memory,
+    /// It ends before its first record.
+    Ends(Ending),
 }
 
-impl Intake {
-    ghost use Rattle.trace_runner.specs.Reading.{HasRead, HasTexts, IsIntake};
+/// What was read of a batch.
+#[derive(Clone, Copy)]
+pub(crate) struct Part {
+    /// How many packets were read whole.
+    pub packets: u32,
+    /// How the input ended, where it did.
+    pub ending: Option<Ending>,
+}
 
-    /// Reads the input's packets, up to the limit.
-    ///
-    /// Want of memory comes from the reader's buffer or from the list of calls.
-    pub fn read<S: Source>(alloc: Global, source: &mut S) -> Result<Intake, AllocError>
-        ensures served { IfOk result (λ intake. IfSome (S.left source.old)
-            (λ bytes. IsIntake bytes (S.left source.new) intake)) }
-        ensures took { IfOk result (λ intake. Took (S.left source.old) (S.left source.new) (λ taken.
-            IsIntake taken (Some []) intake)) }
-        ensures within { IfOk result (λ intake. (vec_len intake.calls ≤ intake.packets)
-            × (intake.packets ≤ PACKET_LIMIT)) }
-        ensures texts { IfOk result (λ intake. HasTexts intake.calls.items) }
-        ensures ending { IfOk result (λ intake. IsEnding intake.ending) }
-        ensures read_fault { IfOk result (λ intake. intake.ending ≡ Ending.ReadFault →
-            Rose (S.faults source.old) (S.faults source.new)) }
-        ensures counted { S.faults source.old ≤ S.faults source.new }
-    {
-        match Reader::open(alloc, source) {
-            Ok(mut reader) => Intake::read_packets(alloc, &mut reader, source),
-            Err(fault) => match ending_at(fault) {
-                Some(ending) => Ok(Intake::empty(alloc, ending)),
-                None => Err(AllocError),
-            },
-        }
+/// Reads the file head. Memory runs out before anything is read.
+pub(crate) fn open<S: Source>(alloc: Global, source: &mut S) -> Result<Reader, Unopened>
+    ensures start { IfOk result IsAtStart }
+    ensures come { IfOk result (λ reader. HaveCome (S.left source.old) (S.left source.new) reader 0 []) }
+    ensures ending { IfErr result (λ fault. OnEnds fault IsEnding) }
+    ensures ended { IfErr result (λ fault. OnEnds fault (HaveEnded (S.left source.old) (S.left source.new) 0 [])) }
+    ensures read_fault { result ≡ Err (Unopened.Ends Ending.ReadFault) →
+        Rose (S.faults source.old) (S.faults source.new) }
+    ensures counted { S.faults source.old ≤ S.faults source.new }
+{
+    match Reader::open(alloc, source) {
+        Ok(reader) => Ok(reader),
+        Err(fault) => match ending_at(fault) {
+            Some(ending) => Err(Unopened::Ends(ending)),
+            None => Err(Unopened::Memory),
+        },
     }
+}
 
-    /// An input without packets.
-    fn empty(alloc: Global, ending: Ending) -> Intake
-        ensures calls { result.calls.items ≡ [] }
-        ensures packets { result.packets ≡ 0 }
-        ensures ending { result.ending ≡ ending }
-    {
-        Intake {
-            calls: Vec::new(alloc),
-            packets: 0,
-            ending,
+/// Reads the packets of a batch, behind so many that were read before.
+///
+/// The calls are put into a list that is empty. Want of memory comes from it.
+pub(crate) fn read_batch<S: Source>(
+    reader: &mut Reader,
+    source: &mut S,
+    before: u32,
+    calls: &mut Vec<(u32, Call)>,
+) -> Result<Part, AllocError>
+    requires going { reader.old.ended ≡ false }
+    requires given { reader.old.given ≡ before }
+    requires few { before < PACKET_LIMIT }
+    requires none { calls.old.items ≡ [] }
+    ensures read { IfOk result (λ part. (first : Option (List ℕ)) (all : List (ℕ × Call)) →
+        HaveCome first (S.left source.old) reader.old before all →
+        MatchOption part.ending
+        (HaveCome first (S.left source.new) reader.new (before + part.packets) (all ++ calls.new.items))
+        (HaveEnded first (S.left source.new) (before + part.packets) (all ++ calls.new.items))) }
+    ensures between { IfOk result (λ part. AreBetween before (before + part.packets) calls.new.items) }
+    ensures goes_on { IfOk result (λ part. IfNone part.ending ((reader.new.ended ≡ false)
+        × (reader.new.given ≡ before + part.packets) × (part.packets ≡ BATCH)
+        × (before + part.packets < PACKET_LIMIT))) }
+    ensures few_packets { IfOk result (λ part. (part.packets ≤ BATCH) × (before + part.packets ≤ PACKET_LIMIT)) }
+    ensures ending { IfOk result (λ part. IfSome part.ending IsEnding) }
+    ensures read_fault { IfOk result (λ part. part.ending ≡ Some Ending.ReadFault →
+        Rose (S.faults source.old) (S.faults source.new)) }
+    ensures counted { S.faults source.old ≤ S.faults source.new }
+{
+    let most = BATCH.min(PACKET_LIMIT - before);
+    for packets in 0..most {
+        if let Some(ending) = read_on(reader, source) {
+            return Ok(Part {
+                packets,
+                ending: Some(ending),
+            });
         }
+        keep_call(reader, before + packets + 1, calls)?;
     }
-
-    /// Reads the packets behind the file head, up to the limit.
-    fn read_packets<S: Source>(
-        alloc: Global,
-        reader: &mut Reader,
-        source: &mut S,
-    ) -> Result<Intake, AllocError>
-        requires start { IsAtStart reader.old }
-        ensures served { IfOk result (λ intake. (bytes : List ℕ) → HasRead bytes reader.old (S.left source.old) [] →
-            IsIntake bytes (S.left source.new) intake) }
-        ensures took { IfOk result (λ intake. (front : List ℕ) → HasRead front reader.old (Some []) [] →
-            Took (S.left source.old) (S.left source.new) (λ taken. IsIntake (front ++ taken) (Some []) intake)) }
-        ensures within { IfOk result (λ intake. (vec_len intake.calls ≤ intake.packets)
-            × (intake.packets ≤ PACKET_LIMIT)) }
-        ensures texts { IfOk result (λ intake. HasTexts intake.calls.items) }
-        ensures ending { IfOk result (λ intake. IsEnding intake.ending) }
-        ensures read_fault { IfOk result (λ intake. intake.ending ≡ Ending.ReadFault →
-            Rose (S.faults source.old) (S.faults source.new)) }
-        ensures counted { S.faults source.old ≤ S.faults source.new }
-    {
-        every_capture();
-        capture_front();
-        let mut calls = Vec::new(alloc);
-        for packets in 0..PACKET_LIMIT {
-            if let Some(ending) = read_on(reader, source) {
-                return Ok(Intake {
-                    calls,
-                    packets,
-                    ending,
-                });
-            }
-            keep_call(reader, packets + 1, &mut calls)?;
-        }
-        match read_on(reader, source) {
-            Some(ending) => Ok(Intake {
-                calls,
-                packets: PACKET_LIMIT,
-                ending,
-            }),
-            None => Ok(Intake {
-                calls,
-                packets: PACKET_LIMIT,
-                ending: Ending::Limit {
-                    limit: u64::from(PACKET_LIMIT),
-                },
-            }),
-        }
+    if before + most < PACKET_LIMIT {
+        return Ok(Part {
+            packets: most,
+            ending: None,
+        });
     }
+    Ok(Part {
+        packets: most,
+        ending: Some(read_past(reader, source)),
+    })
 }
 
 /// How an input ends of which the file head could not be read; `None` for want of memory.

@@ -1,20 +1,16 @@
-//! The program behind its words: what they ask for, what is read, what is answered, what is printed.
+//! The program behind its words: what is read, what is answered, what is printed.
 #![tactic(auto)]
 
-mod answers;
 mod intake;
-mod plan;
-mod print;
+mod making;
+mod printing;
+mod progress;
+mod running;
 mod serving;
 mod status;
 mod steps;
-mod words;
+mod stop;
 
-pub use intake::PACKET_LIMIT;
-pub use plan::{Mode, Plan};
-pub use serving::run;
+pub use intake::{BATCH, PACKET_LIMIT};
+pub use running::run;
 pub use status::Status;
-pub use words::{WordsFault, command_line_laws, read_words};
-
-#[cfg(test)]
-mod tests;

@@ -5,15 +5,15 @@ use report_text::Ending;
 /// How a run ended, and so the program's exit status.
 #[derive(Clone, Copy, Debug, PartialEq, Eq)]
 pub enum Status {
-    /// The input was read to its end, and the whole report was put.
+    /// The input was read to its end, and all that the mode writes was put.
     Done,
-    /// Memory ran out. Nothing was put.
+    /// Memory ran out. What was put is a front of what the mode writes.
     Memory,
     /// The words are not those of the command. Nothing was read or put.
     Usage,
     /// A read failed. The packets that were read whole before are served.
     ReadFault,
-    /// A write failed. What was put is the report's front.
+    /// A write failed. What was put is a front of what the mode writes.
     WriteFault,
     /// The capture has a fault. The packets before it are served.
     BadCapture,
@@ -44,7 +44,7 @@ impl Status {
     pub fn complaint(self) -> Option<&'static str> {
         match self {
             Status::Memory => Some("flowdir: out of memory"),
-            Status::Usage => Some("flowdir: usage: flowdir serve [options]"),
+            Status::Usage => Some("flowdir: usage: flowdir serve|make|trial [options]"),
             Status::ReadFault => Some("flowdir: read fault"),
             Status::WriteFault => Some("flowdir: write fault"),
             Status::Done | Status::BadCapture | Status::Limit => None,

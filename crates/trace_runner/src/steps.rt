@@ -1,16 +1,21 @@
 //! One step of reading the input: the next packet and its call, or how the input ended.
 
-ghost use Rattle.std.specs.Prelude.{◌≡◌, ◌≤◌, ◌<◌, ◌-◌, ◌+◌, ◌^◌, [], ◌∷◌, false, Some, IfSome, IfNone, OnOk, vec_len};
+ghost use Rattle.std.specs.Prelude.{◌≡◌, ◌≤◌, ◌<◌, ◌-◌, ◌+◌, ◌^◌, ℕ, List, [], false, Option, Some, IfSome, IfNone, OnOk};
 ghost use Rattle.edge_traits.specs.Edge.{Rose};
+ghost use Rattle.flow_keys.specs.FlowText.{HasText};
+ghost use Rattle.plain_map.specs.declared.calls.Call.{Call};
+ghost use Rattle.plain_map.specs.Calls.{key_in};
+ghost use Rattle.plain_map.specs.Serving.{IsAskable};
 ghost use Rattle.pcap_reader.specs.Reading.{GivesRecord, Took, to_come};
 ghost use Rattle.report_text.specs.Report.{IsEnding};
 ghost use Rattle.trace_runner.specs.PacketCalls.{MakesCall};
-ghost use Rattle.trace_runner.specs.Reading.{MeetsEnding, HasTexts, TakesCall};
+ghost use Rattle.trace_runner.specs.Reading.{AreBetween, HaveCome, HaveEnded, MeetsEnding, TakesCall};
 
+use crate::intake::PACKET_LIMIT;
 use edge_traits::Source;
 use flow_keys::call_of;
 use packet_heads::heads;
-use pcap_reader::{CaptureFault, Item, Reader};
+use pcap_reader::{CaptureFault, Item, Reader, capture_front, every_capture};
 use plain_map::Call;
 use report_text::Ending;
 use std::alloc::AllocError;
@@ -41,10 +46,31 @@ pub(crate) fn read_on<S: Source>(reader: &mut Reader, source: &mut S) -> Option<
     }
 }
 
+/// Reads on behind the last packet that is served, which is how the input ends.
+pub(crate) fn read_past<S: Source>(reader: &mut Reader, source: &mut S) -> Ending
+    requires going { reader.old.ended ≡ false }
+    requires few { reader.old.given < 2 ^ 32 - 1 }
+    ensures ended { (first : Option (List ℕ)) (calls : List (ℕ × Call)) →
+        HaveCome first (S.left source.old) reader.old PACKET_LIMIT calls →
+        HaveEnded first (S.left source.new) PACKET_LIMIT calls result }
+    ensures ending { IsEnding result }
+    ensures read_fault { result ≡ Ending.ReadFault → Rose (S.faults source.old) (S.faults source.new) }
+    ensures counted { S.faults source.old ≤ S.faults source.new }
+{
+    every_capture();
+    capture_front();
+    match read_on(reader, source) {
+        Some(ending) => ending,
+        None => Ending::Limit {
+            limit: u64::from(PACKET_LIMIT),
+        },
+    }
+}
+
 /// The call of the packet with this number, or `None` where it makes none.
 fn call_in(packet: &[u8], number: u32) -> Option<Call>
     ensures made { MakesCall number packet.now result }
-    ensures text { IfSome result (λ call. HasTexts ((number, call) ∷ [])) }
+    ensures fits { IfSome result (λ call. IsAskable call × HasText (key_in call)) }
 {
     match heads(packet) {
         Some(heads) => Some(call_of(&heads, number)),
@@ -59,8 +85,8 @@ pub(crate) fn keep_call(
     calls: &mut Vec<(u32, Call)>,
 ) -> Result<(), AllocError>
     ensures kept { OnOk result (TakesCall number reader.now.packet calls.old.items calls.new.items) }
-    ensures texts { OnOk result (HasTexts calls.old.items → HasTexts calls.new.items) }
-    ensures few { OnOk result (vec_len calls.new ≤ vec_len calls.old + 1) }
+    ensures between { OnOk result ((first last : ℕ) → AreBetween first last calls.old.items → number ≡ last + 1
+        → AreBetween first number calls.new.items) }
 {
     if let Some(call) = call_in(reader.packet(), number) {
         calls.push((number, call))?;

@@ -1,0 +1,38 @@
+use Rattle.std.proofs.Common.{◌≡◌, Some, ap, sym, subst, ◌∙◌}
+use Rattle.command_line.specs.declared.plan.Plan.{Plan}
+use Rattle.trace_runner.specs.Headline.{LeavesAll, LeavesMade}
+use Rattle.trace_runner.proofs.EndLemmas.{Keeps-same, LeavesBy-nothing}
+use Rattle.trace_runner.proofs.ExactLemmas.{Leaves-exact}
+use Rattle.trace_runner.proofs.running.run.Goals as goal
+
+-- the words ask for one plan
+same_plan : {p q : Plan} → Some p ≡ Some q → p ≡ q
+same_plan is = cc
+
+pub returns-in-Ok-clause-headline : goal.returns-in-Ok-clause-headline
+returns-in-Ok-clause-headline g c = λ plan asked serves.
+    let same : c.in-Ok.plan ≡ plan = same_plan (sym c.in-Ok.ensures.answers ∙ asked) in
+    subst (λ (p : Plan). LeavesAll p (g.S.Source.left c.args.source.now) (g.S.Source.left c.run_plan.new.source)
+    (g.K.Sink.put c.args.sink.now) (g.K.Sink.put c.run_plan.new.sink) c.run_plan.result) same
+    (c.run_plan.ensures.headline (ap (λ (p : Plan). p.mode) same ∙ serves))
+
+pub returns-in-Ok-clause-exact : goal.returns-in-Ok-clause-exact
+returns-in-Ok-clause-exact g c = λ plan bytes records ending asked serves told capture no_read no_write.
+    let same : c.in-Ok.plan ≡ plan = same_plan (sym c.in-Ok.ensures.answers ∙ asked) in
+    Leaves-exact c.in-Ok.plan bytes _ _ _ c.run_plan.result records ending (c.one_capture.ensures bytes) capture
+    (λ is. no_read (c.run_plan.ensures.read_fault is)) (λ is. no_write (c.run_plan.ensures.write_fault is))
+    ((c.run_plan.ensures.headline (ap (λ (p : Plan). p.mode) same ∙ serves)).told bytes told)
+
+pub returns-in-Ok-clause-made : goal.returns-in-Ok-clause-made
+returns-in-Ok-clause-made g c = λ plan asked makes.
+    let same : c.in-Ok.plan ≡ plan = same_plan (sym c.in-Ok.ensures.answers ∙ asked) in
+    let made = c.run_plan.ensures.made (ap (λ (p : Plan). p.mode) same ∙ makes) in (
+      subst (λ (p : Plan). LeavesMade p (g.K.Sink.put c.args.sink.now) (g.K.Sink.put c.run_plan.new.sink)
+          c.run_plan.result) same made.0,
+      made.1,
+    )
+
+pub returns-in-Err-Memory-clause-headline : goal.returns-in-Err-Memory-clause-headline
+returns-in-Err-Memory-clause-headline g c = λ plan asked serves.
+    LeavesBy-nothing plan (g.S.Source.left c.args.source.now) (g.S.Source.left c.args.source.now)
+    (g.K.Sink.put c.args.sink.now) (g.K.Sink.put c.args.sink.now) (Keeps-same (g.K.Sink.put c.args.sink.now))

@@ -1,0 +1,102 @@
+//! What is kept of the batches that were served.
+
+ghost use Rattle.std.specs.Prelude.{◌≡◌, ◌≤◌, ◌<◌, ◌^◌, ◌+◌, ℕ, List, [], ◌∷◌, ◌++◌, length, vec_len, All, OnOk};
+ghost use Rattle.std.specs.Option.{ForSome};
+ghost use Rattle.plain_map.specs.Serving.{IsAskable};
+ghost use Rattle.word_rows.specs.Shape.{AreBelow};
+ghost use Rattle.report_text.specs.Report.{batch_lines};
+ghost use Rattle.batch_runner.specs.declared.service.Service.{Service};
+ghost use Rattle.batch_runner.specs.Served.{CanOpen, IsServed, Served, rules_of};
+ghost use Rattle.batch_runner.specs.Printed.{lines_of};
+ghost use Rattle.batch_runner.specs.Told.{IsToldBy};
+ghost use Rattle.trace_runner.specs.declared.intake.TheConstants.{BATCH, PACKET_LIMIT};
+
+use batch_runner::{Batch, Service, Totals, batch_text, go_on, serve_batch};
+use edge_traits::Gate;
+use plain_map::{Call, MOST_SEATS, Pair};
+use shared_table::Blank;
+use std::alloc::{AllocError, Global};
+use std::thread::Threads;
+
+/// What the batches so far came to.
+#[derive(Drop)]
+pub(crate) struct Progress {
+    /// How many calls each seat has answered.
+    pub before: [u32; MOST_SEATS],
+    /// The pairs that are left, in the order of their keys.
+    pub pairs: Vec<Pair>,
+    pub totals: Totals,
+    /// Of the last table, how many leaves it has, and how deep its directory is.
+    pub leaves: u64,
+    pub depth: u32,
+}
+
+impl Progress {
+    ghost use Rattle.trace_runner.specs.Progress.{HasServed, HasTexts, IsGoing};
+
+    /// None yet.
+    pub fn new(alloc: Global) -> Progress
+        ensures served { (service : Service) → HasServed service result [] }
+        ensures going { (service : Service) → IsGoing service result }
+        ensures calls { result.totals.calls ≡ 0 }
+    {
+        Progress {
+            before: [0; MOST_SEATS],
+            pairs: Vec::new(alloc),
+            totals: Totals::new(),
+            leaves: 0,
+            depth: 0,
+        }
+    }
+
+    /// Serves the calls of one batch more, and appends its lines to the text.
+    pub fn serve<R: Threads + Sync, G: Gate + Sync>(
+        &mut self,
+        rt: &R,
+        alloc: Global,
+        service: &Service,
+        blank: &mut Blank,
+        calls: &[(u32, Call)],
+        gate: &G,
+        text: &mut Vec<u8>,
+    ) -> Result<(), AllocError>
+        requires given { ForSome service.now.rows (AreBelow (2 ^ 32)) }
+        requires few { length calls.now ≤ BATCH }
+        requires askable { All (λ call. IsAskable call.1) calls.now }
+        requires texts { HasTexts calls.now }
+        requires going { IsGoing service.now self.old }
+        requires all { self.old.totals.calls ≤ PACKET_LIMIT }
+        ensures served { OnOk result ((batches : List Served) → HasServed service.now self.old batches →
+            (served : Served) × (served.calls ≡ calls.now) × HasServed service.now self.new (batches ++ served ∷ [])
+            × (text.new.items ≡ text.old.items ++ batch_lines service.now.settings.seats
+            (lines_of service.now self.old.before served))) }
+        ensures counted { OnOk result (self.new.totals.calls ≡ self.old.totals.calls + length calls.now) }
+    {
+        let batch = serve_batch(rt, alloc, service, blank, &self.pairs, calls, gate)?;
+        batch_text(alloc, text, service.settings.seats, &self.before, &batch)?;
+        self.keep(service, calls, batch);
+        Ok(())
+    }
+
+    /// Keeps what a batch of these calls came to.
+    fn keep(&mut self, service: &Service, calls: &[(u32, Call)], batch: Batch)
+        requires few { length calls.now ≤ BATCH }
+        requires texts { HasTexts calls.now }
+        requires going { IsGoing service.now self.old }
+        requires all { self.old.totals.calls ≤ PACKET_LIMIT }
+        requires asked { length batch.outcomes.items ≡ length calls.now }
+        requires seats { vec_len batch.answered ≤ 8 }
+        requires answered { All (λ count. count ≤ length calls.now) batch.answered.items }
+        requires reopens { CanOpen (rules_of service.now) batch.pairs.items }
+        ensures served { (batches : List Served) (served : Served) → HasServed service.now self.old batches →
+            served.first ≡ self.old.pairs.items → served.calls ≡ calls.now → IsServed service.now served →
+            IsToldBy service.now served batch → HasServed service.now self.new (batches ++ served ∷ []) }
+        ensures counted { self.new.totals.calls ≡ self.old.totals.calls + length calls.now }
+    {
+        go_on(&mut self.before, &batch);
+        self.totals.add(&batch.outcomes);
+        self.leaves = batch.leaves;
+        self.depth = batch.depth;
+        self.pairs = batch.pairs;
+    }
+}

@@ -1,0 +1,95 @@
+//! The top call, which does all that the program does.
+
+ghost use Rattle.std.specs.Prelude.{◌≡◌, ◌≤◌, ◌⊎◌, ℕ, List, map, string_bytes, Some, None, Result};
+ghost use Rattle.edge_traits.specs.Edge.{Rose};
+ghost use Rattle.pcap_reader.specs.Capture.{Capture, Saved};
+ghost use Rattle.pcap_reader.specs.declared.fault.CaptureFault.{CaptureFault};
+ghost use Rattle.command_line.specs.declared.plan.Plan.{Plan as APlan};
+ghost use Rattle.command_line.specs.declared.plan.Mode.TheVariants.{Make, Serve};
+ghost use Rattle.command_line.specs.Words.{IsInRange, reads};
+ghost use Rattle.trace_runner.specs.Headline.{LeavesAll, LeavesMade, status_for};
+
+use crate::making::make;
+use crate::serving::serve;
+use crate::status::Status;
+use command_line::{Mode, Plan, WordsFault, read_words};
+use edge_traits::{Gate, Sink, Source};
+use pcap_reader::one_capture;
+use std::alloc::Global;
+use std::thread::Threads;
+
+/// Does what the words ask for. `words` are those after the program's name; they are judged before anything is read.
+///
+/// `serve` reads a capture from the source, up to its fault or to one packet more than `PACKET_LIMIT`, 2,048 packets at a
+/// time. The calls of these are served by seats in threads of their own, and their lines are put into the sink before
+/// the next are read. `make` puts a made capture. The gate is passed before each call, and told of each answer.
+pub fn run<R: Threads + Sync, S: Source, K: Sink, G: Gate + Sync>(
+    rt: &R,
+    alloc: Global,
+    words: &[String],
+    source: &mut S,
+    sink: &mut K,
+    gate: &G,
+) -> Status
+    // `serve`: what is put is the report of the packets that the input is a capture of, in one order of all calls with
+    // the plain map's replies. So it is for the bytes that the source tells, and told or not for those that were taken
+    // of it.
+    ensures headline { (plan : APlan) → reads (map string_bytes words.now) ≡ Some plan → plan.mode ≡ Serve →
+        LeavesAll plan (S.left source.old) (S.left source.new) (K.put sink.old) (K.put sink.new) result }
+
+    // Where nothing fails, the capture that the bytes are decides which answer it is, want of memory apart.
+    ensures exact { (plan : APlan) (bytes : List ℕ) (records : List Saved) (ending : Result ℕ CaptureFault) →
+        reads (map string_bytes words.now) ≡ Some plan → plan.mode ≡ Serve →
+        S.left source.old ≡ Some bytes → Capture bytes records ending →
+        ¬ Rose (S.faults source.old) (S.faults source.new) →
+        ¬ Rose (K.faults sink.old) (K.faults sink.new) →
+        (result ≡ status_for records ending) ⊎ (result ≡ Status.Memory) }
+
+    // `make`: what is put is the made capture, and nothing is read.
+    ensures made { (plan : APlan) → reads (map string_bytes words.now) ≡ Some plan → plan.mode ≡ Make →
+        LeavesMade plan (K.put sink.old) (K.put sink.new) result × (source.new ≡ source.old) }
+
+    // The words ask for none.
+    ensures usage { result ≡ Status.Usage → reads (map string_bytes words.now) ≡ None }
+    ensures refused { reads (map string_bytes words.now) ≡ None → (result ≡ Status.Usage) ⊎ (result ≡ Status.Memory) }
+    ensures unread { result ≡ Status.Usage → source.new ≡ source.old }
+    ensures unwritten { result ≡ Status.Usage → sink.new ≡ sink.old }
+
+    // A device failed.
+    ensures read_fault { result ≡ Status.ReadFault → Rose (S.faults source.old) (S.faults source.new) }
+    ensures write_fault { result ≡ Status.WriteFault → Rose (K.faults sink.old) (K.faults sink.new) }
+    ensures counted { (S.faults source.old ≤ S.faults source.new) × (K.faults sink.old ≤ K.faults sink.new) }
+{
+    one_capture();
+    match read_words(alloc, words) {
+        Ok(plan) => run_plan(rt, alloc, &plan, source, sink, gate),
+        Err(WordsFault::Usage) => Status::Usage,
+        Err(WordsFault::Memory) => Status::Memory,
+    }
+}
+
+/// Does what the plan says.
+fn run_plan<R: Threads + Sync, S: Source, K: Sink, G: Gate + Sync>(
+    rt: &R,
+    alloc: Global,
+    plan: &Plan,
+    source: &mut S,
+    sink: &mut K,
+    gate: &G,
+) -> Status
+    requires { IsInRange plan.now }
+    ensures headline { plan.now.mode ≡ Serve →
+        LeavesAll plan.now (S.left source.old) (S.left source.new) (K.put sink.old) (K.put sink.new) result }
+    ensures made { plan.now.mode ≡ Make →
+        LeavesMade plan.now (K.put sink.old) (K.put sink.new) result × (source.new ≡ source.old) }
+    ensures no_usage { result ≡ Status.Usage → ⊥ }
+    ensures read_fault { result ≡ Status.ReadFault → Rose (S.faults source.old) (S.faults source.new) }
+    ensures write_fault { result ≡ Status.WriteFault → Rose (K.faults sink.old) (K.faults sink.new) }
+    ensures counted { (S.faults source.old ≤ S.faults source.new) × (K.faults sink.old ≤ K.faults sink.new) }
+{
+    match plan.mode {
+        Mode::Serve => serve(rt, alloc, plan, source, sink, gate),
+        Mode::Make => make(alloc, plan, sink),
+        Mode::Trial => Status::Memory,
+    }
+}
