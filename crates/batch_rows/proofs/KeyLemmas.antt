@@ -1,16 +1,20 @@
 -- Keys, each once: what a sort and a dedup leave, and what depends on the keys alone and not on their order.
-use Rattle.std.proofs.Common.{◌≡◌, ℕ, ◌-◌, ◌^◌, ◌≤◌, Bool, true, false, cond, ◌||◌, List, [], ◌∷◌, ◌++◌, refl, sym, ap, subst, ◌∙◌, arith}
-use Rattle.std.specs.Prelude.{filter, count_by, sum_by, nat_lt, ◌&&◌, ◌==◌}
-use Rattle.std.specs.List.{IsDistinct, range_with_len, dedup, AllByRecursion as Each}
-use Rattle.std.specs.List.Sorted.{IsSorted, IsPermutation}
-use Rattle.std.specs.Ordering.{eq_by_cmp}
-use Rattle.std.proofs.lemmas.List.Folds.{list_any-append}
+use Rattle.std.proofs.Common.{◌≡◌, ℕ, ◌-◌, ◌^◌, ◌≤◌, Bool, true, false, cond, ◌||◌, List, [], ◌∷◌, ◌++◌, ◌+◌, ◌<◌, length, take, get_or, Result, Ok, Err, Equal, append_assoc, refl, sym, ap, subst, ◌∙◌, arith}
+use Rattle.std.specs.Prelude.{IfOk, filter, count_by, sum_by, nat_lt, ◌&&◌, ◌==◌}
+use Rattle.std.specs.List.{HoldsAt, IsDistinct, range_with_len, dedup, AllByRecursion as Each}
+use Rattle.std.specs.List.Sorted.{IsPermutation, IsSearchInRange, IsSorted}
+use Rattle.std.specs.Ordering.{eq_by_cmp, is_eq}
+use Rattle.std.specs.Result.{is_ok}
+use Rattle.std.proofs.lemmas.List.{append-nil, take_more}
+use Rattle.std.proofs.lemmas.List.Concat.{flat_map-append}
+use Rattle.std.proofs.lemmas.List.Folds.{list_any-append, list_any_at}
 use Rattle.std.proofs.lemmas.List.Kept.{Contains-dedup, Contains-from_dedup, IsStrictlySortedBy-dedup}
 use Rattle.std.proofs.lemmas.List.Sorted.{list_any-IsPermutation}
 use Rattle.std.proofs.lemmas.List.Sums.{length-filter}
 use Rattle.std.proofs.lemmas.Map.Keys.{IsDistinct-from_sorted}
 use Rattle.std.proofs.lemmas.Map.Views.{Contains-from_any, list_any-from_Contains}
 use Rattle.plain_map.specs.declared.calls.Call.{Call}
+use Rattle.plain_map.specs.declared.calls.Call.TheVariants.{Insert, Lookup, Remove}
 use Rattle.plain_map.specs.declared.keys.Key.{Key}
 use Rattle.plain_map.specs.declared.keys.Pair.{Pair}
 use Rattle.plain_map.specs.declared.rules.Rules.{Rules}
@@ -19,7 +23,7 @@ use Rattle.plain_map.proofs.KeyLemmas.{keys_total}
 use Rattle.bucket_states.specs.Items.{prefix_of, same_key}
 use Rattle.bucket_states.proofs.KeyTests.{Decides-same_key, eq_by_cmp-same_key, same_key-equiv}
 use Rattle.bucket_states.specs.Parts.{keys_of}
-use Rattle.core_model.specs.Needs.{distinct_keys, crowded}
+use Rattle.core_model.specs.Needs.{crowded, distinct_keys, inserted_by}
 use Rattle.core_bounds.proofs.KeyCounts.{has, has_passing, distinct_has, no_more}
 use Rattle.batch_rows.specs.BatchRows.{inserted_in_calls, splits_in_calls}
 use Rattle.batch_rows.specs.Counts.{HaveSameKeys}
@@ -104,14 +108,91 @@ once_distinct sorted once rising is =
 -- what the pairs and the inserts crowd, less what the pairs crowd, is how many splits there are at most
 pub splits_are : (rules : Rules) (start : ℕ) (first : List Pair) (calls : List (ℕ × Call))
     (begun once added all : List Key) (before after : ℕ) → begun ≡ keys_of first → HaveSameKeys once begun →
-    added ≡ once ++ inserted_in_calls calls → HaveSameKeys all added → before ≡ crowded rules start once →
-    after ≡ crowded rules start all → after - before ≡ splits_in_calls rules start first calls
+    HaveSameKeys added (once ++ inserted_in_calls calls) → HaveSameKeys all added →
+    before ≡ crowded rules start once → after ≡ crowded rules start all →
+    after - before ≡ splits_in_calls rules start first calls
 splits_are rules start first calls begun once added all before after begun_is same added_is both before_is after_is =
     let named : HaveSameKeys once (keys_of first) = λ q. same q ∙ ap (λ keys. has keys q) begun_is in
     let one : before ≡ crowded rules start (keys_of first) =
     before_is ∙ crowded_alike rules start once (keys_of first) named in
     let two : after ≡ crowded rules start (keys_of first ++ inserted_in_calls calls) =
-    after_is ∙ crowded_alike rules start all added both ∙ ap (crowded rules start) added_is
+    after_is ∙ crowded_alike rules start all added both
+    ∙ crowded_alike rules start added (once ++ inserted_in_calls calls) added_is
     ∙ crowded_alike rules start (once ++ inserted_in_calls calls) (keys_of first ++ inserted_in_calls calls)
     (same_with once (keys_of first) (inserted_in_calls calls) named) in
     λ i. two i - one i
+
+-- there are none where no key was added
+pub no_splits : (rules : Rules) (start : ℕ) (first : List Pair) (calls : List (ℕ × Call))
+    (begun once added : List Key) → begun ≡ keys_of first → HaveSameKeys once begun → added ≡ [] →
+    HaveSameKeys (once ++ added) (once ++ inserted_in_calls calls) → 0 ≡ splits_in_calls rules start first calls
+no_splits rules start first calls begun once added begun_is same none added_is =
+    let kept : HaveSameKeys once (once ++ added) =
+    λ q. ap (λ keys. has keys q) (sym (append-nil once) ∙ ap (λ more. once ++ more) (sym none)) in
+    let count : ℕ = crowded rules start once in
+    let less : count - count ≡ 0 = omega arith in
+    sym less
+    ∙ splits_are rules start first calls begun once (once ++ added) once count count begun_is same added_is kept refl
+    refl
+
+-- ---- the keys of one call more
+
+-- one call more brings its own key, if any
+pub inserted_more : (calls : List (ℕ × Call)) (place : ℕ) (nobody : ℕ × Call) → place < length calls →
+    inserted_in_calls (take (place + 1) calls)
+    ≡ inserted_in_calls (take place calls) ++ inserted_by (get_or calls place nobody).1
+inserted_more calls place nobody inside =
+    ap inserted_in_calls (take_more calls place nobody inside)
+    ∙ flat_map-append (λ asked. inserted_by asked.1) (take place calls) (get_or calls place nobody ∷ [])
+    ∙ ap (λ more. inserted_in_calls (take place calls) ++ more) (append-nil (inserted_by (get_or calls place nobody).1))
+
+-- what is added to both keeps the same keys
+pub same_pushed : (keys added inserted more : List Key) → HaveSameKeys (keys ++ added) (keys ++ inserted) →
+    HaveSameKeys (keys ++ (added ++ more)) (keys ++ (inserted ++ more))
+same_pushed keys added inserted more same q =
+    ap (λ all. has all q) (sym (append_assoc keys added more))
+    ∙ same_with (keys ++ added) (keys ++ inserted) more same q
+    ∙ ap (λ all. has all q) (append_assoc keys inserted more)
+
+-- or with what is not so changes nothing
+or_false : (b : Bool) → (b || false) ≡ b
+or_false true = refl
+or_false false = refl
+
+-- a key that is among the first need not be added
+pub same_found : (keys added inserted : List Key) (key : Key) → has keys key ≡ true →
+    HaveSameKeys (keys ++ added) (keys ++ inserted) → HaveSameKeys (keys ++ added) (keys ++ (inserted ++ key ∷ []))
+same_found keys added inserted key there same q =
+    same q ∙ sym (ap (λ all. has all q) (sym (append_assoc keys inserted (key ∷ [])))
+    ∙ list_any-append (same_key q) (keys ++ inserted) (key ∷ []) ∙ by (same_key q key) refl)
+  where
+    by : (b : Bool) → same_key q key ≡ b → (has (keys ++ inserted) q || (b || false)) ≡ has (keys ++ inserted) q
+    by false e = or_false (has (keys ++ inserted) q)
+    by true e =
+        let equal : q ≡ key = (Decides-same_key q key).0 e in
+        let yes : has (keys ++ inserted) q ≡ true =
+        list_any-append (same_key q) keys inserted ∙ ap (λ b. b || has inserted q) (ap (has keys) equal ∙ there) in
+        ap (λ b. b || true) yes ∙ sym yes
+
+-- equal lists have the same keys
+pub same_moved : (keys added grown inserted more : List Key) → grown ≡ added → more ≡ inserted →
+    HaveSameKeys (keys ++ added) (keys ++ inserted) → HaveSameKeys (keys ++ grown) (keys ++ more)
+same_moved keys added grown inserted more grown_is more_is same q =
+    ap (λ (l : List Key). has (keys ++ l) q) grown_is ∙ same q
+    ∙ sym (ap (λ (l : List Key). has (keys ++ l) q) more_is)
+
+-- a call that inserts nothing brings no key
+pub none_inserted : (call : Call) → ((key : Key) (value : ℕ) → ¬ (call ≡ Insert key value)) → inserted_by call ≡ []
+none_inserted (Insert key value) other = absurd (other key value refl)
+none_inserted (Remove key) other = refl
+none_inserted (Lookup key) other = refl
+
+-- what a search has found is there
+pub found_there : (keys : List Key) (key : Key) (found : Result ℕ ℕ) → IsSearchInRange found (length keys) →
+    IfOk found (HoldsAt (λ other. key_cmp other key ≡ Equal) keys) → is_ok found ≡ true → has keys key ≡ true
+found_there keys key (Err place) inside holds is = absurd (cc)
+found_there keys key (Ok place) inside holds is =
+    let same : same_key (get_or keys place key) key ≡ true =
+    sym (eq_by_cmp-same_key (get_or keys place key) key) ∙ ap is_eq (holds key) in
+    let equal : get_or keys place key ≡ key = (Decides-same_key (get_or keys place key) key).0 same in
+    list_any_at (same_key key) keys place key inside ((Decides-same_key key (get_or keys place key)).1 (sym equal))

@@ -1,8 +1,7 @@
 //! How often a bucket can be split in a batch, from the batch's own keys.
 
-ghost use Rattle.std.specs.Prelude.{◌≡◌, ◌++◌, ◌^◌, ◌<◌, ◌≤◌, IfOk};
-ghost use Rattle.std.specs.Result.{OnOk};
-ghost use Rattle.std.specs.List.{IsDistinct};
+ghost use Rattle.std.specs.Prelude.{◌≡◌, ◌++◌, ◌^◌, ◌<◌, ◌≤◌, IfOk, true};
+ghost use Rattle.std.specs.List.{IsDistinct, list_any};
 ghost use Rattle.plain_map.specs.PlainObject.{InRange};
 ghost use Rattle.bucket_states.specs.Items.{same_key};
 ghost use Rattle.bucket_states.specs.Parts.{keys_of};
@@ -17,7 +16,8 @@ use std::alloc::{AllocError, Global};
 /// pairs and is asked these calls.
 ///
 /// It is how many prefixes get more keys than a bucket has room for: of the pairs and the inserts together, less those
-/// of the pairs alone. It takes memory for the keys, and a word for each place of the greatest directory.
+/// of the pairs alone. It takes memory for the keys, and a word for each place of the greatest directory. It is quick
+/// where the keys of the inserts are among those of the pairs, which come sorted.
 pub fn splits_of(
     alloc: Global,
     rules: &Rules,
@@ -32,8 +32,12 @@ pub fn splits_of(
 {
     let mut keys = first_keys(alloc, first)?;
     keep_once(&mut keys);
+    let added = new_keys(alloc, &keys, calls)?;
+    if added.is_empty() {
+        return Ok(0);
+    }
     let before = crowded(alloc, rules, start, &keys)?;
-    add_inserted(&mut keys, calls)?;
+    keys.extend_from_slice(&added)?;
     keep_once(&mut keys);
     let after = crowded(alloc, rules, start, &keys)?;
     Ok(after.saturating_sub(before))
@@ -50,16 +54,27 @@ fn first_keys(alloc: Global, first: &[Pair]) -> Result<Vec<Key>, AllocError>
     Ok(keys)
 }
 
-// Adds the keys of the inserts among these calls.
-fn add_inserted(keys: &mut Vec<Key>, calls: &[(u32, Call)]) -> Result<(), AllocError>
-    ensures { OnOk result (keys.new.items ≡ keys.old.items ++ inserted_in_calls calls.now) }
+// The keys of the inserts among these calls, but for those that are found among the first ones.
+fn new_keys(alloc: Global, keys: &[Key], calls: &[(u32, Call)]) -> Result<Vec<Key>, AllocError>
+    ensures { IfOk result (λ added.
+        HaveSameKeys (keys.now ++ added.items) (keys.now ++ inserted_in_calls calls.now)) }
 {
+    let mut added = Vec::new(alloc);
     for asked in calls {
         if let Call::Insert(key, _) = asked.1 {
-            keys.push(key)?;
+            if !is_among(keys, &key) {
+                added.push(key)?;
+            }
         }
     }
-    Ok(())
+    Ok(added)
+}
+
+// Whether the key is found among these, which is so where it is there and they are sorted.
+fn is_among(keys: &[Key], key: &Key) -> bool
+    ensures { result ≡ true → list_any (same_key key.now) keys.now ≡ true }
+{
+    keys.binary_search(key).is_ok()
 }
 
 // Keeps each key once.
