@@ -47,8 +47,8 @@ setup_in service first calls =
     setup_of service.settings service.hashing
     (rows_of service.settings service.hashing service.rows first calls (shares_of service calls)) first
 
--- a batch: the pairs that its table begins with, its calls in packet order; what each seat's calls came to, the words of
--- the closed table; all outcomes in packet order, each with its seat; and the pairs that are left
+-- a batch: the pairs that its table begins with, its calls in packet order; what each seat's calls came to, the words
+-- of the closed table; all outcomes in packet order, each with its seat; and the pairs that are left
 pub record Served : Type 0 where
   pub first : List Pair
   pub calls : List (ℕ × Call)

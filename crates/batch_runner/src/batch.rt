@@ -39,8 +39,8 @@ pub struct Batch {
     pub depth: u32,
 }
 
-/// Opens a table with these pairs, lets the seats make the calls that are dealt to them, in threads of their own, closes
-/// it, and tells what it came to.
+/// Opens a table with these pairs, lets the seats make the calls that are dealt to them, in threads of their own,
+/// closes it, and tells what it came to.
 ///
 /// The gate is passed before each call and told of each answer. The only error is want of memory. What is left can open
 /// the next batch.

@@ -9,8 +9,8 @@ use plain_map::{Call, Record};
 use std::alloc::{AllocError, Global};
 use trace_share::{Outcome, Share, seat_for};
 
-/// All outcomes in the order of the calls, each with its seat: that of a call is the next one of the seat that it is dealt
-/// to.
+/// All outcomes in the order of the calls, each with its seat: that of a call is the next one of the seat that it is
+/// dealt to.
 pub(crate) fn outcomes_of(
     alloc: Global,
     share: Share,

@@ -18,8 +18,8 @@ use report_text::{order_text, outcome_text};
 use std::alloc::{AllocError, Global};
 use trace_share::Outcome;
 
-/// Appends the lines of a batch, before which the seats had answered so many calls. After want of memory the text is what
-/// it was.
+/// Appends the lines of a batch, before which the seats had answered so many calls. After want of memory the text is
+/// what it was.
 pub fn batch_text(
     alloc: Global,
     out: &mut Vec<u8>,

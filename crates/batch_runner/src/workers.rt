@@ -13,8 +13,8 @@ use std::alloc::{AllocError, Global};
 use std::thread::Threads;
 use trace_share::{Outcome, Worker, serve_all};
 
-/// Each seat makes its share of the calls, in a thread of its own. Then the seats come back, in the order of their numbers,
-/// with what each one's calls came to.
+/// Each seat makes its share of the calls, in a thread of its own. Then the seats come back, in the order of their
+/// numbers, with what each one's calls came to.
 pub(crate) fn serve_shares<R: Threads + Sync, G: Gate + Sync>(
     rt: &R,
     alloc: Global,
