@@ -18,7 +18,6 @@ use Rattle.report_text.specs.declared.parts.Ending.TheVariants.{Done, ReadFault,
 use Rattle.report_text.specs.Report.{report_of}
 use Rattle.batch_runner.specs.declared.service.Service.{Service}
 use Rattle.batch_runner.specs.Served.{Served}
-use Rattle.batch_runner.specs.Promises.{ServedAreRight}
 use Rattle.command_line.specs.declared.plan.Plan.{Plan}
 use Rattle.trace_runner.specs.declared.progress.Progress.{Progress}
 use Rattle.trace_runner.specs.declared.stop.Stop.{Stop}
@@ -26,7 +25,7 @@ use Rattle.trace_runner.specs.declared.stop.Stop.TheVariants.{Memory, NotPut}
 use Rattle.trace_runner.specs.Batches.{AreOfBatches, IsOfBatch, batch_count, batch_length}
 use Rattle.trace_runner.specs.Input.{Begins, packets_of}
 use Rattle.trace_runner.specs.Reading.{AreBetween, EndsCalls, HasCalls, HaveCome, HaveEnded, IsBetween}
-use Rattle.trace_runner.specs.Served.{IsServiceOf, lines_so_far, run_report}
+use Rattle.trace_runner.specs.Served.{ServedArePromised, IsServiceOf, lines_so_far, run_report}
 use Rattle.trace_runner.specs.Headline.{IsFront, IsFrontOf, IsReportOf, Leaves, Reports, TookFor, status_of}
 use Rattle.trace_runner.specs.Progress.{FirstCalls, HasServed, HaveFirst, LeavesBy, OnNoMemory, OnNotPut, Stands}
 use Rattle.trace_runner.proofs.ServingLemmas.{left_is_told}
@@ -237,14 +236,14 @@ Keeps-same (Some bytes) = refl
 -- what was served to the end is reported so
 pub IsReportOf-done :
     (plan : Plan) (service : Service) (progress : Progress) (many : ℕ) (calls : List (ℕ × Call))
-    (batches : List Served) (ending : Ending) → ServedAreRight → IsServiceOf plan service →
+    (batches : List Served) (ending : Ending) → ServedArePromised → IsServiceOf plan service →
     HasServed service progress batches → AreOfBatches calls (map (λ (batch : Served). batch.calls) batches) →
     length batches ≡ batch_count many →
     IsReportOf plan many calls ending (report_of (run_report plan service many batches ending))
 IsReportOf-done plan service progress many calls batches ending law asks has cut count = (
   service,
   batches,
-  record { asks = asks; cut = cut; served = has.served; right = law service batches has.served },
+  record { asks = asks; cut = cut; served = has.served; promised = law service batches has.served },
   count,
   refl,
 )
@@ -276,7 +275,7 @@ LeavesBy-nothing plan first left before after kept =
 pub LeavesBy-before :
     (plan : Plan) (service : Service) (progress : Progress) (first left : Option (List ℕ)) (many : ℕ)
     (calls : List (ℕ × Call)) (before after : Option (List ℕ)) (held : List ℕ) →
-    ServedAreRight → Stands plan service progress first many calls before after held →
+    ServedArePromised → Stands plan service progress first many calls before after held →
     LeavesBy plan first left before after (Err Memory)
 LeavesBy-before plan service progress first left many calls before after held law stands =
     let text : List ℕ = lines_so_far plan service stands.batches in
@@ -287,7 +286,7 @@ LeavesBy-before plan service progress first left many calls before after held la
         asks = stands.asks;
         cut = stands.cut;
         served = stands.served.served;
-        right = law service stands.batches stands.served.served;
+        promised = law service stands.batches stands.served.served;
       },
       stands.whole,
       refl,
@@ -328,7 +327,7 @@ Begins-read bytes reading left many calls has =
 pub LeavesBy-some :
     (plan : Plan) (service : Service) (progress : Progress) (batches : List Served) (first left : Option (List ℕ))
     (reading : Reading) (many : ℕ) (calls : List (ℕ × Call)) (before after : Option (List ℕ)) →
-    ServedAreRight → IsServiceOf plan service → HasServed service progress batches →
+    ServedArePromised → IsServiceOf plan service → HasServed service progress batches →
     AreOfBatches calls (map (λ (batch : Served). batch.calls) batches) → batch_length * length batches ≡ many →
     HaveCome first left reading many calls → AppendsFront before after (lines_so_far plan service batches) →
     LeavesBy plan first left before after (Err NotPut)
@@ -337,7 +336,7 @@ LeavesBy-some plan service progress batches first left reading many calls before
     let is : IsFrontOf plan many calls text = (
       service,
       batches,
-      record { asks = asks; cut = cut; served = has.served; right = law service batches has.served },
+      record { asks = asks; cut = cut; served = has.served; promised = law service batches has.served },
       whole,
       refl,
     ) in

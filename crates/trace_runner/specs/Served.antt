@@ -9,7 +9,11 @@ use Rattle.report_text.specs.declared.parts.Ending.{Ending}
 use Rattle.report_text.specs.Report.{Report, batch_lines, head_line}
 use Rattle.batch_runner.specs.declared.service.Service.{Service}
 use Rattle.batch_runner.specs.declared.totals.Totals.{Totals}
-use Rattle.batch_runner.specs.Served.{Served, AreServed, depth_in, leaves_in, pairs_left}
+use Rattle.batch_orders.specs.Batches.{all_calls}
+use Rattle.core_bounds.specs.Moments.{asked_of}
+use Rattle.plain_map.specs.History.{Whole}
+use Rattle.batch_answers.specs.Answers.{AreAsOneThread, HasOwnRows, IsLikeOneThread, all_answers, calls_in, printed_in}
+use Rattle.batch_runner.specs.Served.{Served, AreServed, history_in, depth_in, leaves_in, pairs_left}
 use Rattle.batch_runner.specs.Printed.{all_lines, outcomes_in}
 use Rattle.batch_runner.specs.Promises.{AreRight}
 use Rattle.batch_runner.specs.Totals.{totals_of}
@@ -23,14 +27,29 @@ pub record IsServiceOf (plan : Plan) (service : Service) : Type 0 where
   pub share : service.share ≡ plan.share
   pub rows : service.rows ≡ plan.rows
 
--- These calls are served in batches, one after the other, each in a run of a table of its own. Whatever the interleaving,
--- one order of all calls is right: each that was not refused stands once, after all that its caller had seen, with the
--- plain map's reply.
+-- What holds of batches that were served, whatever the interleaving.
+pub record IsPromised (service : Service) (batches : List Served) : Type 0 where
+  -- One order of all calls is right: each stands after all that its caller had seen, with the plain map's reply. Steps are
+  -- within the bound, and the leaves of each closed table cover all hashes and have their cause.
+  pub right : AreRight service batches
+  -- each answered call, as it is printed, stands once in it, and nothing else does
+  pub once : Whole (printed_in service [] batches) [] (all_calls [] (map (history_in service) batches))
+  -- where no rows are given each call has its answer
+  pub answered : HasOwnRows service → map asked_of (all_answers batches) ≡ calls_in batches
+  -- Where no two seats share a key and no class has more keys than it has room for, or where there is one seat, replies
+  -- and pairs are those of one thread.
+  pub one_thread : IsLikeOneThread service (calls_in batches) → AreAsOneThread service batches
+
+abbrev pub ServedArePromised : Type 0
+ServedArePromised =
+    (service : Service) (batches : List Served) → AreServed service [] batches → IsPromised service batches
+
+-- These calls are served in batches, one after the other, each in a run of a table of its own, and so all of that holds.
 pub record AreDone (plan : Plan) (service : Service) (calls : List (ℕ × Call)) (batches : List Served) : Type 0 where
   pub asks : IsServiceOf plan service
   pub cut : AreOfBatches calls (map (λ (batch : Served). batch.calls) batches)
   pub served : AreServed service [] batches
-  pub right : AreRight service batches
+  pub promised : IsPromised service batches
 
 -- ---- the report
 

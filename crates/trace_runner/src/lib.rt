@@ -2,6 +2,7 @@
 #![tactic(auto)]
 
 mod intake;
+mod laws;
 mod making;
 mod printing;
 mod progress;
@@ -12,5 +13,6 @@ mod steps;
 mod stop;
 
 pub use intake::{BATCH, PACKET_LIMIT};
+pub use laws::serving_laws;
 pub use running::run;
 pub use status::Status;

@@ -18,11 +18,12 @@ ghost use Rattle.trace_runner.specs.Headline.{LeavesAll};
 ghost use Rattle.trace_runner.specs.Progress.{HasPut, HasServed, IsGoing, LeavesBy, OnNotPut, Stands};
 
 use crate::intake::{BATCH, PACKET_LIMIT, Unopened, open, read_batch};
+use crate::laws::serving_laws;
 use crate::printing::{finish, head_of, serve_part};
 use crate::progress::Progress;
 use crate::status::Status;
 use crate::stop::Stop;
-use batch_runner::{Service, served_laws};
+use batch_runner::Service;
 use command_line::Plan;
 use edge_traits::{Gate, Sink, Source};
 use pcap_reader::Reader;
@@ -159,7 +160,7 @@ fn serve_packets<R: Threads + Sync, S: Source, K: Sink, G: Gate + Sync>(
     ensures write_fault { OnNotPut result (Rose (K.faults sink.old) (K.faults sink.new)) }
     ensures counted { (S.faults source.old ≤ S.faults source.new) × (K.faults sink.old ≤ K.faults sink.new) }
 {
-    served_laws();
+    serving_laws();
     let mut progress = Progress::new(alloc);
     let mut blank = Blank::new(alloc);
     let mut calls = Vec::with_capacity(alloc, BATCH as usize)?;
@@ -242,7 +243,7 @@ fn serve_last<R: Threads + Sync, K: Sink, G: Gate + Sync>(
     ensures write_fault { OnNotPut result (Rose (K.faults sink.old) (K.faults sink.new)) }
     ensures counted { K.faults sink.old ≤ K.faults sink.new }
 {
-    served_laws();
+    serving_laws();
     let packets = last.before + last.packets;
     if last.packets == 0 && last.before > 0 {
         return end_run(alloc, service, progress, packets, last.ending, text, sink);
@@ -275,7 +276,7 @@ fn end_run<K: Sink>(
     ensures write_fault { OnNotPut result (Rose (K.faults sink.old) (K.faults sink.new)) }
     ensures counted { K.faults sink.old ≤ K.faults sink.new }
 {
-    served_laws();
+    serving_laws();
     match finish(alloc, service, progress, packets, &ending, text, sink) {
         Ok(()) => Ok(ending),
         Err(stop) => Err(stop),

@@ -14,7 +14,7 @@ returns-in-Err-clause-leaves g c = λ plan first left before all batches asks ha
     let now = g.K.Sink.put c.finish.new.sink in
     let text : List ℕ = report_of (run_report plan service many batches c.args.ending) in
     let is = IsReportOf-done plan service c.args.progress.now many all batches c.args.ending
-    c.served_laws.ensures.right asks has cut count in
+    c.serving_laws.ensures asks has cut count in
     LeavesBy-stop plan first left before now c.in-Err.stop _ _ c.in-Err.ensures.front
     c.in-Err.ensures.memory
     (λ front. LeavesBy-front plan first left before now many all c.args.ending ended text is
@@ -30,6 +30,6 @@ returns-in-Ok-clause-leaves g c = λ plan first left before all batches asks has
     let many = c.args.packets in
     LeavesBy-whole plan first left before (g.K.Sink.put c.finish.new.sink) many all c.args.ending ended
     (report_of (run_report plan service many batches c.args.ending))
-    (IsReportOf-done plan service c.args.progress.now many all batches c.args.ending c.served_laws.ensures.right asks has
+    (IsReportOf-done plan service c.args.progress.now many all batches c.args.ending c.serving_laws.ensures asks has
     cut count)
     (c.in-Ok.ensures.whole plan batches before has put)

@@ -42,12 +42,12 @@ returns-in-Err-clause-leaves g c = λ plan first left before all stands ended.
     LeavesBy-front plan first left before now many (all ++ c.args.calls.now) c.args.last.ending ended
     (report_of (run_report plan service many batches c.args.last.ending))
     (IsReportOf-done plan service c.serve_part.new.progress many (all ++ c.args.calls.now) batches c.args.last.ending
-    c.served_laws.ensures.right stands.asks next.2 cut
+    c.serving_laws.ensures stands.asks next.2 cut
     (length-append stands.batches (next.0 ∷ []) ∙ add-one (length stands.batches)
     ∙ last_count c.args.last.before c.args.last.packets (length stands.batches) stands.whole c.requires.few.0 begun))
     (AppendsFront-report plan service many batches c.args.last.ending before now next.3))
     (λ same. LeavesBy-before plan service c.args.progress.now first left c.args.last.before all before now
-    c.args.text.now.items c.served_laws.ensures.right
+    c.args.text.now.items c.serving_laws.ensures
     (subst (λ sink. Stands plan service c.args.progress.now first c.args.last.before all before (g.K.Sink.put sink)
     c.args.text.now.items) (sym same) stands))
 

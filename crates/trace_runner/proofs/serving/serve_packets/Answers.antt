@@ -20,7 +20,7 @@ returns-in_err-calls-clause-leaves g c = λ plan first before asks put come.
     } in
     LeavesBy-memory plan first _ before _ c.from_residual.result c.from_residual.ensures
     (LeavesBy-before plan c.args.service.now c.new-progress.result first (g.S.Source.left c.args.source.now) 0 [] before
-    (g.K.Sink.put c.args.sink.now) c.args.text.now.items c.served_laws.ensures.right start)
+    (g.K.Sink.put c.args.sink.now) c.args.text.now.items c.serving_laws.ensures start)
 
 pub batches-init : goal.batches-init
 batches-init g c =
@@ -52,7 +52,7 @@ returns-in_err-part-clause-leaves g c = λ plan first before asks put come.
     let s = c.batches.invariant.stands plan first before asks put come in
     LeavesBy-memory plan first _ before _ c.from_residual-in_err-part.result c.from_residual-in_err-part.ensures
     (LeavesBy-before plan c.args.service.now c.batches.progress first (g.S.Source.left c.read_batch.new.source)
-    c.batches.packets s.0 before (g.K.Sink.put c.batches.sink) c.batches.text.items c.served_laws.ensures.right s.2)
+    c.batches.packets s.0 before (g.K.Sink.put c.batches.sink) c.batches.text.items c.serving_laws.ensures s.2)
 
 pub returns-in-Some-clause-leaves : goal.returns-in-Some-clause-leaves
 returns-in-Some-clause-leaves g c = λ plan first before asks put come.
@@ -88,10 +88,10 @@ returns-in-Err-clause-leaves g c = λ plan first before asks put come.
     (between_is_batch (length stands.batches) c.batches.packets c.in_ok-part.part.packets calls stands.whole
     c.in_ok-part.ensures.few_packets.0 c.in_ok-part.ensures.between) in
     LeavesBy-some plan service c.serve_part.new.progress (stands.batches ++ next.0 ∷ []) first left
-    c.read_batch.new.reader many (s.0 ++ calls) before now c.served_laws.ensures.right stands.asks next.2 cut
+    c.read_batch.new.reader many (s.0 ++ calls) before now c.serving_laws.ensures stands.asks next.2 cut
     (whole-more c.batches.packets c.in_ok-part.part.packets stands.batches next.0 stands.whole goes.2) next_come next.3)
     (λ same. LeavesBy-before plan service c.batches.progress first left c.batches.packets s.0 before now
-    c.batches.text.items c.served_laws.ensures.right
+    c.batches.text.items c.serving_laws.ensures
     (subst (λ sink. Stands plan service c.batches.progress first c.batches.packets s.0 before (g.K.Sink.put sink)
     c.batches.text.items) (sym same) stands))
 
