@@ -14,3 +14,6 @@ mod stop;
 pub use intake::{BATCH, PACKET_LIMIT};
 pub use running::run;
 pub use status::Status;
+
+#[cfg(test)]
+mod tests;
