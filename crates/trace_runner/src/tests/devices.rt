@@ -80,7 +80,7 @@ fn each_read_fails_in_turn(rt: HostRuntime) -> Result<(), Fail> {
 
 /// A sink with room for less than the report takes the front that it has room for, and one with room
 /// for all of it takes all. That the run says so with a status, and that no byte is lost on the way to
-/// a full sink, is shown for each length.
+/// a full sink, is shown for every twentieth length.
 #[test]
 fn full_sink_holds_a_front(rt: HostRuntime) -> Result<(), Fail> {
     let text = TWO_SYNS.as_bytes();
