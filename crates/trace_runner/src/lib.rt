@@ -16,3 +16,6 @@ pub use intake::{BATCH, PACKET_LIMIT};
 pub use laws::serving_laws;
 pub use running::run;
 pub use status::Status;
+
+#[cfg(test)]
+mod tests;

@@ -1,0 +1,264 @@
+//! What a gate sees of a run.
+
+use super::captures::{DNS_AND_WEB, HEAD, Part, file_of};
+use super::words_of;
+use crate::{Status, run};
+use edge_traits::{Gate, MemorySink, MemorySource};
+use std::process::Abort;
+use std::sync::atomic::{AtomicU64, Ordering};
+use std::test::Fail;
+use std::thread::Threads;
+
+/// Keeps the sum of the seats; and the numbers and answers as decimal digits, in the order in which they came.
+#[derive(Drop)]
+struct Witness {
+    seats: AtomicU64,
+    digits: AtomicU64,
+}
+
+impl Witness {
+    fn note(&self, seat: u32, digit: u64) {
+        self.seats.fetch_add(u64::from(seat), Ordering::SeqCst);
+        let before = self.digits.load(Ordering::SeqCst);
+        let after = before.wrapping_mul(10).wrapping_add(digit);
+        self.digits.store(after, Ordering::SeqCst);
+    }
+}
+
+impl Gate for Witness {
+    fn pass(&self, seat: u32, number: u32) {
+        self.note(seat, u64::from(number));
+    }
+
+    fn told(&self, seat: u32, _number: u32, answer: u64) {
+        self.note(seat, answer);
+    }
+}
+
+/// Each call passes the gate with its number. Before the next call the value that its reply carries is
+/// told, or 0 where it carries none. A gate promises nothing, so no clause says what it sees.
+#[test]
+fn gate_sees_each_call_and_its_answer(rt: HostRuntime) -> Result<(), Fail> {
+    let witness = Witness {
+        seats: AtomicU64::new(0),
+        digits: AtomicU64::new(0),
+    };
+    let file = file_of(rt.alloc(), &DNS_AND_WEB)?;
+    let mut source = MemorySource::new(rt.alloc(), &file, 1000, &[])?;
+    let mut sink = MemorySink::new(rt.alloc(), 2000, &[])?;
+    let words = words_of(rt.alloc(), "serve --seats 1")?;
+    let status = run(&rt, rt.alloc(), &words, &mut source, &mut sink, &witness);
+    assert_eq!(rt; status, Status::Done);
+    assert_eq!(rt; witness.seats.load(Ordering::SeqCst), 0);
+    let digits = witness.digits.load(Ordering::SeqCst);
+    assert_eq!(rt; digits, 10_21_30_43_53_63_73_80_90);
+    Ok(())
+}
+
+/// How often a call looks for what it waits for.
+const TURNS: u32 = 200_000_000;
+
+/// A flag for each of two seats. At its first call each raises its own and looks for the other's.
+#[derive(Drop)]
+struct Meeting {
+    first: AtomicU64,
+    second: AtomicU64,
+    met: AtomicU64,
+}
+
+impl Gate for Meeting {
+    fn pass(&self, seat: u32, number: u32) {
+        if number != 1 {
+            return;
+        }
+        let (own, other) = if seat == 0 {
+            (&self.first, &self.second)
+        } else {
+            (&self.second, &self.first)
+        };
+        own.store(1, Ordering::SeqCst);
+        for _ in 0..TURNS {
+            if other.load(Ordering::SeqCst) == 1 {
+                self.met.fetch_add(1, Ordering::SeqCst);
+                return;
+            }
+        }
+    }
+
+    fn told(&self, _seat: u32, _number: u32, _answer: u64) {}
+}
+
+/// Two callers are in their first calls at once. A body that makes one call after the other reaches its limit of turns.
+/// No clause says that callers run in threads.
+#[test]
+fn two_callers_meet(rt: HostRuntime) -> Result<(), Fail> {
+    let meeting = Meeting {
+        first: AtomicU64::new(0),
+        second: AtomicU64::new(0),
+        met: AtomicU64::new(0),
+    };
+    let file = file_of(
+        rt.alloc(),
+        &[Part::Bytes(&HEAD), Part::Syn(1), Part::Syn(2)],
+    )?;
+    let mut source = MemorySource::new(rt.alloc(), &file, 1000, &[])?;
+    let mut sink = MemorySink::new(rt.alloc(), 2000, &[])?;
+    let words = words_of(rt.alloc(), "serve --seats 2")?;
+    let status = run(&rt, rt.alloc(), &words, &mut source, &mut sink, &meeting);
+    assert_eq!(rt; status, Status::Done);
+    assert_eq!(rt; meeting.met.load(Ordering::SeqCst), 2);
+    Ok(())
+}
+
+/// Lets six calls of two seats pass in this order of their packets, each when the one before it was told. Keeps the
+/// answers as decimal digits, and how many calls reached their limit of turns.
+#[derive(Drop)]
+struct Follower {
+    order: [u32; 6],
+    told: AtomicU64,
+    digits: AtomicU64,
+    missed: AtomicU64,
+}
+
+impl Gate for Follower {
+    fn pass(&self, seat: u32, number: u32) {
+        let packet = number.wrapping_mul(2).wrapping_add(seat).wrapping_sub(1);
+        let mut place = 0;
+        for before in self.order {
+            if before == packet {
+                break;
+            }
+            place += 1;
+        }
+        for _ in 0..TURNS {
+            if self.told.load(Ordering::SeqCst) == place {
+                return;
+            }
+        }
+        self.missed.fetch_add(1, Ordering::SeqCst);
+    }
+
+    fn told(&self, _seat: u32, _number: u32, answer: u64) {
+        let before = self.digits.load(Ordering::SeqCst);
+        let after = before.wrapping_mul(10).wrapping_add(answer);
+        self.digits.store(after, Ordering::SeqCst);
+        self.told.fetch_add(1, Ordering::SeqCst);
+    }
+}
+
+/// What a line of the report begins and ends with, around its steps.
+type Around = (&'static str, &'static str);
+
+/// Every line that is wanted stands in the text.
+fn expect_lines<R: Threads + Abort + Sync>(
+    rt: &R,
+    text: &[u8],
+    wanted: &[Around],
+) -> Result<(), Fail> {
+    let Ok(text) = str::from_utf8(text) else {
+        return Err(Fail::from("no text"));
+    };
+    for (front, back) in wanted {
+        let mut found = false;
+        for line in text.lines() {
+            if line.starts_with(*front) && line.ends_with(*back) {
+                found = true;
+            }
+        }
+        assert!(rt; found, "{front} .. {back}");
+    }
+    Ok(())
+}
+
+/// Two callers make six calls in an order that the gate holds them to, each told before the next begins. That order is
+/// printed, with the replies of one caller who makes them so.
+#[test]
+fn callers_follow_gate(rt: HostRuntime) -> Result<(), Fail> {
+    let parts = [
+        Part::Bytes(&HEAD),
+        Part::Ack(1),
+        Part::Syn(1),
+        Part::Fin(1),
+        Part::Ack(1),
+        Part::Syn(1),
+        Part::Ack(1),
+    ];
+    let one_way: [Around; 8] = [
+        (
+            "call 1 seat 0 lookup 10.0.0.1:1-10.0.0.2:80/tcp found 2 steps ",
+            " after 0,1",
+        ),
+        (
+            "call 2 seat 1 insert 10.0.0.1:1-10.0.0.2:80/tcp new 2 steps ",
+            " after 0,0",
+        ),
+        (
+            "call 3 seat 0 remove 10.0.0.1:1-10.0.0.2:80/tcp gone 2 steps ",
+            " after 1,2",
+        ),
+        (
+            "call 4 seat 1 lookup 10.0.0.1:1-10.0.0.2:80/tcp found 2 steps ",
+            " after 1,1",
+        ),
+        (
+            "call 5 seat 0 insert 10.0.0.1:1-10.0.0.2:80/tcp new 5 steps ",
+            " after 2,3",
+        ),
+        (
+            "call 6 seat 1 lookup 10.0.0.1:1-10.0.0.2:80/tcp absent steps ",
+            " after 2,2",
+        ),
+        ("order 2 1 4 3 6 5", ""),
+        ("session 10.0.0.1:1-10.0.0.2:80/tcp 5", ""),
+    ];
+    let other_way: [Around; 8] = [
+        (
+            "call 1 seat 0 lookup 10.0.0.1:1-10.0.0.2:80/tcp absent steps ",
+            " after 0,0",
+        ),
+        (
+            "call 2 seat 1 insert 10.0.0.1:1-10.0.0.2:80/tcp new 2 steps ",
+            " after 1,0",
+        ),
+        (
+            "call 3 seat 0 remove 10.0.0.1:1-10.0.0.2:80/tcp gone 2 steps ",
+            " after 1,1",
+        ),
+        (
+            "call 4 seat 1 lookup 10.0.0.1:1-10.0.0.2:80/tcp absent steps ",
+            " after 2,1",
+        ),
+        (
+            "call 5 seat 0 insert 10.0.0.1:1-10.0.0.2:80/tcp new 5 steps ",
+            " after 2,2",
+        ),
+        (
+            "call 6 seat 1 lookup 10.0.0.1:1-10.0.0.2:80/tcp found 5 steps ",
+            " after 3,2",
+        ),
+        ("order 1 2 3 4 5 6", ""),
+        ("session 10.0.0.1:1-10.0.0.2:80/tcp 5", ""),
+    ];
+    let rows = [
+        ([2, 1, 4, 3, 6, 5], 22_200, one_way),
+        ([1, 2, 3, 4, 5, 6], 2_005, other_way),
+    ];
+    let file = file_of(rt.alloc(), &parts)?;
+    for (order, digits, wanted) in rows {
+        let follower = Follower {
+            order,
+            told: AtomicU64::new(0),
+            digits: AtomicU64::new(0),
+            missed: AtomicU64::new(0),
+        };
+        let mut source = MemorySource::new(rt.alloc(), &file, 1000, &[])?;
+        let mut sink = MemorySink::new(rt.alloc(), 2000, &[])?;
+        let words = words_of(rt.alloc(), "serve --seats 2 --hash ports")?;
+        let status = run(&rt, rt.alloc(), &words, &mut source, &mut sink, &follower);
+        assert_eq!(rt; status, Status::Done);
+        assert_eq!(rt; follower.missed.load(Ordering::SeqCst), 0);
+        assert_eq!(rt; follower.digits.load(Ordering::SeqCst), digits);
+        expect_lines(&rt, sink.bytes(), &wanted)?;
+    }
+    Ok(())
+}
