@@ -1,13 +1,12 @@
 -- The text of a trial is that of the made capture.
-use Rattle.std.proofs.Common.{◌≡◌, ◌≤◌, ◌<◌, ℕ, List, [], length, map, Option, Some, Result, Ok, Err, sym, ◌∙◌, ap, subst, refl, arith, inl, inr}
+use Rattle.std.proofs.Common.{◌≡◌, ◌≤◌, ℕ, List, length, map, Option, Some, Result, Ok, Err, sym, ◌∙◌, ap, subst, refl, arith, inl, inr}
 use Rattle.std.specs.List.{range_with_len}
 use Rattle.std.proofs.lemmas.List.{length-map}
 use Rattle.std.proofs.lemmas.List.FromFn.{length-range_with_len}
 use Rattle.edge_traits.specs.Edge.{Rose}
-use Rattle.plain_map.specs.declared.calls.Call.{Call}
 use Rattle.plain_map.specs.declared.keys.Pair.{Pair}
 use Rattle.pcap_reader.specs.declared.fault.CaptureFault.{CaptureFault}
-use Rattle.pcap_reader.specs.Capture.{Capture, Saved}
+use Rattle.pcap_reader.specs.Capture.{Saved}
 use Rattle.pcap_reader.specs.Laws.{HasOneCapture}
 use Rattle.pcap_reader.specs.Made.{HoldsMade, made_capture, made_saved}
 use Rattle.report_text.specs.declared.parts.Ending.{Ending}
@@ -17,7 +16,6 @@ use Rattle.batch_runner.specs.declared.service.Service.{Service}
 use Rattle.batch_runner.specs.declared.totals.Totals.{Totals}
 use Rattle.batch_runner.specs.Totals.{totals_of}
 use Rattle.batch_runner.specs.Printed.{outcomes_in}
-use Rattle.batch_runner.specs.Served.{pairs_left}
 use Rattle.command_line.specs.declared.plan.Plan.{Plan}
 use Rattle.trace_runner.specs.declared.progress.Progress.{Progress}
 use Rattle.trace_runner.specs.Batches.{batch_count}

@@ -1,4 +1,4 @@
-use Rattle.std.proofs.Common.{◌≡◌, ◌+◌, ◌++◌, ◌∷◌, [], List, ℕ, length, map, ap, subst, sym, ◌∙◌, add-one, append-nil, length-append, arith}
+use Rattle.std.proofs.Common.{◌≡◌, ◌+◌, ◌++◌, ◌∷◌, [], length, map, ap, subst, sym, ◌∙◌, add-one, append-nil, length-append, arith}
 use Rattle.batch_runner.specs.Served.{Served}
 use Rattle.trace_runner.specs.Batches.{AreOfBatches, batch_count}
 use Rattle.trace_runner.proofs.EndLemmas.{between_is_batch, cut-more, last_count, no_calls}

@@ -1,8 +1,7 @@
 -- A loop of whole batches: each is read and served before the next.
-use Rattle.std.proofs.Common.{◌≡◌, ◌≤◌, ◌<◌, ◌+◌, IfNone, false, ◌++◌, ◌∷◌, [], List, ℕ, Option, None, Some, length, refl, ap, subst, sym, ◌∙◌, arith}
+use Rattle.std.proofs.Common.{◌≡◌, ◌<◌, ◌+◌, IfNone, false, ◌++◌, ◌∷◌, [], List, ℕ, length, refl, ap, subst, sym, ◌∙◌, arith}
 use Rattle.plain_map.specs.declared.calls.Call.{Call}
 use Rattle.trace_runner.specs.Reading.{HaveCome, HaveEnded}
-use Rattle.trace_runner.specs.Progress.{HasTried}
 use Rattle.trace_runner.proofs.EndLemmas.{AreOfBatches-none, at_none, at_some, between_is_batch, cut-more, if_none, whole-more}
 use Rattle.trace_runner.proofs.trying.try_packets.Goals as goal
 
