@@ -8,3 +8,4 @@ pub mod TextLemmas
 pub mod PrintLemmas
 pub mod EndLemmas
 pub mod ExactLemmas
+pub mod TrialLemmas

@@ -1,7 +1,9 @@
 -- What a run prints, and so what its user may rely on.
-use Rattle.std.specs.Prelude.{◌≡◌, ◌*◌, ◌⊎◌, ℕ, List, [], length, Some, nat_lt, if◌then◌else◌, is_ok, Option, Result}
+use Rattle.std.specs.Prelude.{◌≡◌, ◌*◌, ◌⊎◌, ℕ, List, [], length, Some, nat_lt, if◌then◌else◌, is_ok, Option, Result, Ok}
 use Rattle.std.specs.Io.KnownBytes.{Appends, Keeps}
 use Rattle.edge_traits.specs.Edge.{AppendsFront}
+use Rattle.hash_bits.specs.declared.hashing.Hashing.{Hashing}
+use Rattle.hash_bits.specs.declared.hashing.Hashing.TheVariants.{Mix, Ports}
 use Rattle.plain_map.specs.declared.calls.Call.{Call}
 use Rattle.pcap_reader.specs.declared.fault.CaptureFault.{CaptureFault}
 use Rattle.pcap_reader.specs.Capture.{Saved}
@@ -10,14 +12,19 @@ use Rattle.pcap_reader.specs.Reading.{Took}
 use Rattle.report_text.specs.declared.parts.Ending.{Ending}
 use Rattle.report_text.specs.declared.parts.Ending.TheVariants.{Done, ReadFault, Limit, Fault}
 use Rattle.report_text.specs.Report.{report_of}
+use Rattle.report_text.specs.declared.trial.Trial.{Trial}
+use Rattle.report_text.specs.Trials.{trial_lines}
 use Rattle.batch_runner.specs.declared.service.Service.{Service}
-use Rattle.batch_runner.specs.Served.{Served}
+use Rattle.batch_runner.specs.declared.totals.Totals.{Totals}
+use Rattle.batch_runner.specs.Served.{Served, pairs_left}
+use Rattle.batch_runner.specs.Printed.{outcomes_in}
+use Rattle.batch_runner.specs.Totals.{totals_of}
 use Rattle.command_line.specs.declared.plan.Plan.{Plan}
 use Rattle.trace_runner.specs.declared.status.Status.{Status}
 use Rattle.trace_runner.specs.declared.status.Status.TheVariants as status
 use Rattle.trace_runner.specs.Batches.{batch_count, batch_length}
 use Rattle.trace_runner.specs.PacketCalls.{MakeCalls}
-use Rattle.trace_runner.specs.Input.{Begins, IsFirst, Serves, packet_limit}
+use Rattle.trace_runner.specs.Input.{Begins, HoldsPackets, IsFirst, Serves, packet_limit}
 use Rattle.trace_runner.specs.Served.{AreDone, lines_so_far, run_report}
 
 -- ---- what is printed of packets
@@ -131,3 +138,50 @@ LeavesMade plan before after status.Usage = ⊥
 LeavesMade plan before after status.ReadFault = ⊥
 LeavesMade plan before after status.BadCapture = ⊥
 LeavesMade plan before after status.Limit = ⊥
+
+-- ---- `trial`
+
+-- the seed of a hash
+abbrev pub seed_of : Hashing → ℕ
+seed_of (Mix seed) = seed
+seed_of (Ports seed) = seed
+
+-- what `trial` tells of these totals, where so many sessions are left
+abbrev pub trial_of : Plan → Totals → (sessions : ℕ) → Trial
+trial_of plan totals sessions =
+    record {
+      number = plan.number;
+      packets = plan.packets;
+      seats = plan.seats;
+      items = plan.items;
+      depth = plan.depth;
+      start = plan.start;
+      seed = seed_of plan.hashing;
+      calls = totals.calls;
+      new = totals.replies.new;
+      old = totals.replies.old;
+      noroom = totals.replies.noroom;
+      gone = totals.replies.gone;
+      found = totals.replies.found;
+      absent = totals.replies.absent;
+      full = totals.refused;
+      sessions = sessions;
+    }
+
+-- The text is that of the made capture, whose calls are served as the plan says.
+abbrev pub IsTrial : Plan → List ℕ → Type 0
+IsTrial plan text =
+    (packets : List (List ℕ)) × (calls : List (ℕ × Call)) × (service : Service) × (batches : List Served)
+    × HoldsPackets (made_capture plan.number plan.packets) packets (Ok 0) × MakeCalls 1 packets calls
+    × AreDone plan service calls batches × (length batches ≡ batch_count (length packets))
+    × (text ≡ trial_lines (trial_of plan (totals_of (outcomes_in batches)) (length (pairs_left [] batches))))
+
+-- what `trial` leaves
+abbrev pub LeavesTried : Plan → Option (List ℕ) → Option (List ℕ) → Status → Type 0
+LeavesTried plan before after status.Done = (text : List ℕ) × IsTrial plan text × Appends before after text
+LeavesTried plan before after status.WriteFault = PutsFront before after (IsTrial plan)
+LeavesTried plan before after status.Memory = Keeps before after
+LeavesTried plan before after status.Usage = ⊥
+LeavesTried plan before after status.ReadFault = ⊥
+LeavesTried plan before after status.BadCapture = ⊥
+LeavesTried plan before after status.Limit = ⊥

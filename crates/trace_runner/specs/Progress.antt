@@ -15,9 +15,10 @@ use Rattle.trace_runner.specs.declared.progress.Progress.{Progress}
 use Rattle.trace_runner.specs.declared.stop.Stop.{Stop}
 use Rattle.trace_runner.specs.declared.stop.Stop.TheVariants.{Memory, NotPut}
 use Rattle.trace_runner.specs.declared.status.Status.TheVariants as status
-use Rattle.trace_runner.specs.Batches.{AreOfBatches, batch_length}
+use Rattle.trace_runner.specs.Batches.{AreOfBatches, batch_count, batch_length}
 use Rattle.trace_runner.specs.Input.{IsFirst}
 use Rattle.trace_runner.specs.PacketCalls.{MakeCalls}
+use Rattle.trace_runner.specs.Reading.{HaveEnded}
 use Rattle.trace_runner.specs.Served.{IsServiceOf, depth_left, leaves_left, lines_so_far, no_counts}
 use Rattle.trace_runner.specs.Headline.{LeavesAll, status_of}
 
@@ -86,3 +87,14 @@ pub record Stands (plan : Plan) (service : Service) (progress : Progress) (first
   pub whole : batch_length * length batches ≡ many
   pub put : HasPut plan service batches before now held
   pub firsts : HaveFirst first many calls
+
+-- all packets of an input were served in batches, and so it ended
+pub record HasTried (service : Service) (progress : Progress) (first left : Option (List ℕ)) (ending : Ending) :
+    Type 0 where
+  pub many : ℕ
+  pub calls : List (ℕ × Call)
+  pub batches : List Served
+  pub served : HasServed service progress batches
+  pub cut : AreOfBatches calls (map (λ (batch : Served). batch.calls) batches)
+  pub count : length batches ≡ batch_count many
+  pub ended : HaveEnded first left many calls ending

@@ -11,6 +11,7 @@ mod serving;
 mod status;
 mod steps;
 mod stop;
+mod trying;
 
 pub use intake::{BATCH, PACKET_LIMIT};
 pub use laws::serving_laws;

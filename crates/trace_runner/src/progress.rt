@@ -78,6 +78,33 @@ impl Progress {
         Ok(())
     }
 
+    /// Serves the calls of one batch more, and prints nothing.
+    pub fn try_calls<R: Threads + Sync, G: Gate + Sync>(
+        &mut self,
+        rt: &R,
+        alloc: Global,
+        service: &Service,
+        blank: &mut Blank,
+        calls: &[(u32, Call)],
+        gate: &G,
+    ) -> Result<(), AllocError>
+        requires given { ForSome service.now.rows (AreBelow (2 ^ 32)) }
+        requires few { length calls.now ≤ BATCH }
+        requires askable { All (λ call. IsAskable call.1) calls.now }
+        requires texts { HasTexts calls.now }
+        requires going { IsGoing service.now self.old }
+        requires all { self.old.totals.calls ≤ PACKET_LIMIT }
+        ensures served { OnOk result ((batches : List Served) → HasServed service.now self.old batches →
+            (served : Served) × (served.calls ≡ calls.now)
+            × HasServed service.now self.new (batches ++ served ∷ [])) }
+        ensures going { OnOk result (IsGoing service.now self.new) }
+        ensures counted { OnOk result (self.new.totals.calls ≡ self.old.totals.calls + length calls.now) }
+    {
+        let batch = serve_batch(rt, alloc, service, blank, &self.pairs, calls, gate)?;
+        self.keep(service, calls, batch);
+        Ok(())
+    }
+
     /// Keeps what a batch of these calls came to.
     fn keep(&mut self, service: &Service, calls: &[(u32, Call)], batch: Batch)
         requires few { length calls.now ≤ BATCH }

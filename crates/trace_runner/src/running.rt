@@ -5,13 +5,14 @@ ghost use Rattle.edge_traits.specs.Edge.{Rose};
 ghost use Rattle.pcap_reader.specs.Capture.{Capture, Saved};
 ghost use Rattle.pcap_reader.specs.declared.fault.CaptureFault.{CaptureFault};
 ghost use Rattle.command_line.specs.declared.plan.Plan.{Plan as APlan};
-ghost use Rattle.command_line.specs.declared.plan.Mode.TheVariants.{Make, Serve};
+ghost use Rattle.command_line.specs.declared.plan.Mode.TheVariants.{Make, Serve, Trial};
 ghost use Rattle.command_line.specs.Words.{IsInRange, reads};
-ghost use Rattle.trace_runner.specs.Headline.{LeavesAll, LeavesMade, status_for};
+ghost use Rattle.trace_runner.specs.Headline.{LeavesAll, LeavesMade, LeavesTried, status_for};
 
 use crate::making::make;
 use crate::serving::serve;
 use crate::status::Status;
+use crate::trying::try_plan;
 use command_line::{Mode, Plan, WordsFault, read_words};
 use edge_traits::{Gate, Sink, Source};
 use pcap_reader::one_capture;
@@ -22,7 +23,8 @@ use std::thread::Threads;
 ///
 /// `serve` reads a capture from the source, up to its fault or to one packet more than `PACKET_LIMIT`, 2,048 packets at a
 /// time. The calls of these are served by seats in threads of their own, and their lines are put into the sink before
-/// the next are read. `make` puts a made capture. The gate is passed before each call, and told of each answer.
+/// the next are read. `make` puts a made capture, and `trial` serves it and puts how many
+/// calls had each reply. The gate is passed before each call, and told of each answer.
 pub fn run<R: Threads + Sync, S: Source, K: Sink, G: Gate + Sync>(
     rt: &R,
     alloc: Global,
@@ -48,6 +50,10 @@ pub fn run<R: Threads + Sync, S: Source, K: Sink, G: Gate + Sync>(
     // `make`: what is put is the made capture, and nothing is read.
     ensures made { (plan : APlan) → reads (map string_bytes words.now) ≡ Some plan → plan.mode ≡ Make →
         LeavesMade plan (K.put sink.old) (K.put sink.new) result × (source.new ≡ source.old) }
+
+    // `trial`: what is put tells how many calls of the made capture had each reply, and nothing is read.
+    ensures tried { (plan : APlan) → reads (map string_bytes words.now) ≡ Some plan → plan.mode ≡ Trial →
+        LeavesTried plan (K.put sink.old) (K.put sink.new) result × (source.new ≡ source.old) }
 
     // The words ask for none.
     ensures usage { result ≡ Status.Usage → reads (map string_bytes words.now) ≡ None }
@@ -82,6 +88,8 @@ fn run_plan<R: Threads + Sync, S: Source, K: Sink, G: Gate + Sync>(
         LeavesAll plan.now (S.left source.old) (S.left source.new) (K.put sink.old) (K.put sink.new) result }
     ensures made { plan.now.mode ≡ Make →
         LeavesMade plan.now (K.put sink.old) (K.put sink.new) result × (source.new ≡ source.old) }
+    ensures tried { plan.now.mode ≡ Trial →
+        LeavesTried plan.now (K.put sink.old) (K.put sink.new) result × (source.new ≡ source.old) }
     ensures no_usage { result ≡ Status.Usage → ⊥ }
     ensures read_fault { result ≡ Status.ReadFault → Rose (S.faults source.old) (S.faults source.new) }
     ensures write_fault { result ≡ Status.WriteFault → Rose (K.faults sink.old) (K.faults sink.new) }
@@ -90,6 +98,6 @@ fn run_plan<R: Threads + Sync, S: Source, K: Sink, G: Gate + Sync>(
     match plan.mode {
         Mode::Serve => serve(rt, alloc, plan, source, sink, gate),
         Mode::Make => make(alloc, plan, sink),
-        Mode::Trial => Status::Memory,
+        Mode::Trial => try_plan(rt, alloc, plan, sink, gate),
     }
 }

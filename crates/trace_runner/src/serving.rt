@@ -284,7 +284,7 @@ fn end_run<K: Sink>(
 }
 
 /// How the plan's calls are served.
-fn service_of(plan: &Plan) -> Service
+pub(crate) fn service_of(plan: &Plan) -> Service
     requires { IsInRange plan.now }
     ensures asks { IsServiceOf plan.now result }
     ensures given { ForSome result.rows (AreBelow (2 ^ 32)) }

@@ -1,6 +1,6 @@
 use Rattle.std.proofs.Common.{◌≡◌, Some, ap, sym, subst, ◌∙◌}
 use Rattle.command_line.specs.declared.plan.Plan.{Plan}
-use Rattle.trace_runner.specs.Headline.{LeavesAll, LeavesMade}
+use Rattle.trace_runner.specs.Headline.{LeavesAll, LeavesMade, LeavesTried}
 use Rattle.trace_runner.proofs.EndLemmas.{Keeps-same, LeavesBy-nothing}
 use Rattle.trace_runner.proofs.ExactLemmas.{Leaves-exact}
 use Rattle.trace_runner.proofs.running.run.Goals as goal
@@ -36,3 +36,12 @@ pub returns-in-Err-Memory-clause-headline : goal.returns-in-Err-Memory-clause-he
 returns-in-Err-Memory-clause-headline g c = λ plan asked serves.
     LeavesBy-nothing plan (g.S.Source.left c.args.source.now) (g.S.Source.left c.args.source.now)
     (g.K.Sink.put c.args.sink.now) (g.K.Sink.put c.args.sink.now) (Keeps-same (g.K.Sink.put c.args.sink.now))
+
+pub returns-in-Ok-clause-tried : goal.returns-in-Ok-clause-tried
+returns-in-Ok-clause-tried g c = λ plan asked tries.
+    let same : c.in-Ok.plan ≡ plan = same_plan (sym c.in-Ok.ensures.answers ∙ asked) in
+    let tried = c.run_plan.ensures.tried (ap (λ (p : Plan). p.mode) same ∙ tries) in (
+      subst (λ (p : Plan). LeavesTried p (g.K.Sink.put c.args.sink.now) (g.K.Sink.put c.run_plan.new.sink)
+          c.run_plan.result) same tried.0,
+      tried.1,
+    )

@@ -1,0 +1,195 @@
+//! Mode `trial`: the made capture is served, and its counts are put.
+
+ghost use Rattle.std.specs.Prelude.{◌≡◌, ◌≤◌, ◌<◌, ◌^◌, ◌+◌, ◌*◌, ℕ, List, [], ◌++◌, length, map, Option, IfOk};
+ghost use Rattle.std.specs.Option.{ForSome};
+ghost use Rattle.edge_traits.specs.Edge.{Rose};
+ghost use Rattle.pcap_reader.specs.Reading.{IsAtStart};
+ghost use Rattle.plain_map.specs.declared.calls.Call.{Call as ACall};
+ghost use Rattle.word_rows.specs.Shape.{AreBelow};
+ghost use Rattle.batch_runner.specs.Served.{Served};
+ghost use Rattle.command_line.specs.Words.{IsInRange};
+ghost use Rattle.trace_runner.specs.Batches.{AreOfBatches, batch_count, batch_length};
+ghost use Rattle.trace_runner.specs.Reading.{AreBetween, HaveCome, HaveEnded};
+ghost use Rattle.trace_runner.specs.Headline.{IsTrial, LeavesTried, seed_of, trial_of};
+ghost use Rattle.trace_runner.specs.Progress.{HasServed, HasTried, IsGoing};
+
+use crate::intake::{BATCH, PACKET_LIMIT, open, read_batch};
+use crate::laws::serving_laws;
+use crate::progress::Progress;
+use crate::serving::service_of;
+use crate::status::Status;
+use batch_runner::Service;
+use command_line::Plan;
+use edge_traits::{Failed, Gate, Sink, Source, write_all};
+use hash_bits::Hashing;
+use pcap_reader::{MadeSource, Reader, made_capture_law, one_capture};
+use plain_map::Call;
+use report_text::{Ending, Trial, trial_text};
+use shared_table::Blank;
+use std::alloc::{AllocError, Global};
+use std::thread::Threads;
+
+/// Serves the made capture of the plan, and puts how many calls had each reply.
+pub(crate) fn try_plan<R: Threads + Sync, K: Sink, G: Gate + Sync>(
+    rt: &R,
+    alloc: Global,
+    plan: &Plan,
+    sink: &mut K,
+    gate: &G,
+) -> Status
+    requires { IsInRange plan.now }
+    ensures leaves { LeavesTried plan.now (K.put sink.old) (K.put sink.new) result }
+    ensures write_fault { result ≡ Status.WriteFault → Rose (K.faults sink.old) (K.faults sink.new) }
+    ensures counted { K.faults sink.old ≤ K.faults sink.new }
+{
+    match text_of(rt, alloc, plan, gate) {
+        Ok(text) => match write_all(sink, &text) {
+            Ok(()) => Status::Done,
+            Err(Failed) => Status::WriteFault,
+        },
+        Err(_memory) => Status::Memory,
+    }
+}
+
+/// The text of a trial.
+fn text_of<R: Threads + Sync, G: Gate + Sync>(
+    rt: &R,
+    alloc: Global,
+    plan: &Plan,
+    gate: &G,
+) -> Result<Vec<u8>, AllocError>
+    requires { IsInRange plan.now }
+    ensures { IfOk result (λ text. IsTrial plan.now text.items) }
+{
+    one_capture();
+    made_capture_law();
+    serving_laws();
+    let service = service_of(plan);
+    let mut source = MadeSource::new(plan.number, plan.packets);
+    match open(alloc, &mut source) {
+        Ok(mut reader) => {
+            let tried = try_packets(rt, alloc, &service, &mut reader, &mut source, gate)?;
+            let mut text = Vec::new(alloc);
+            trial_text(alloc, &mut text, &trial_of(plan, &tried.progress))?;
+            Ok(text)
+        }
+        Err(_unopened) => Err(AllocError),
+    }
+}
+
+/// What the packets of a whole input came to.
+#[derive(Drop)]
+struct Tried {
+    progress: Progress,
+    ending: Ending,
+}
+
+/// Serves the packets behind a file head.
+fn try_packets<R: Threads + Sync, S: Source, G: Gate + Sync>(
+    rt: &R,
+    alloc: Global,
+    service: &Service,
+    reader: &mut Reader,
+    source: &mut S,
+    gate: &G,
+) -> Result<Tried, AllocError>
+    requires given { ForSome service.now.rows (AreBelow (2 ^ 32)) }
+    requires start { IsAtStart reader.old }
+    ensures tried { IfOk result (λ tried. (first : Option (List ℕ)) →
+        HaveCome first (S.left source.old) reader.old 0 [] →
+        HasTried service.now tried.progress first (S.left source.new) tried.ending) }
+    ensures read_fault { IfOk result (λ tried. tried.ending ≡ Ending.ReadFault →
+        Rose (S.faults source.old) (S.faults source.new)) }
+{
+    let mut progress = Progress::new(alloc);
+    let mut blank = Blank::new(alloc);
+    let mut calls = Vec::with_capacity(alloc, BATCH as usize)?;
+    let mut packets = 0;
+    'batches: loop {
+        calls.clear();
+        let part = read_batch(reader, source, packets, &mut calls)?;
+        match part.ending {
+            Some(ending) => {
+                let numbers = (packets, part.packets);
+                match try_last(
+                    rt, alloc, service, progress, &mut blank, numbers, &calls, gate,
+                ) {
+                    Ok(progress) => return Ok(Tried { progress, ending }),
+                    Err(memory) => return Err(memory),
+                }
+            }
+            None => {
+                progress.try_calls(rt, alloc, service, &mut blank, &calls, gate)?;
+                packets += part.packets;
+            }
+        }
+    }
+}
+
+/// Serves the last batch, where one is begun. The numbers are those of the packets before it, and of its own.
+fn try_last<R: Threads + Sync, G: Gate + Sync>(
+    rt: &R,
+    alloc: Global,
+    service: &Service,
+    progress: Progress,
+    blank: &mut Blank,
+    numbers: (u32, u32),
+    calls: &[(u32, Call)],
+    gate: &G,
+) -> Result<Progress, AllocError>
+    requires given { ForSome service.now.rows (AreBelow (2 ^ 32)) }
+    requires going { IsGoing service.now progress }
+    requires all { progress.totals.calls ≤ numbers.0 }
+    requires few { (numbers.1 ≤ BATCH) × (numbers.0 + numbers.1 ≤ PACKET_LIMIT) }
+    requires between { AreBetween numbers.0 (numbers.0 + numbers.1) calls.now }
+    ensures { IfOk result (λ last. (batches : List Served) (all : List (ℕ × ACall)) →
+        HasServed service.now progress batches →
+        AreOfBatches all (map (λ (batch : Served). batch.calls) batches) → batch_length * length batches ≡ numbers.0 →
+        (more : List Served) × HasServed service.now last more
+        × AreOfBatches (all ++ calls.now) (map (λ (batch : Served). batch.calls) more)
+        × (length more ≡ batch_count (numbers.0 + numbers.1))) }
+{
+    let mut progress = progress;
+    if numbers.1 == 0 && numbers.0 > 0 {
+        return Ok(progress);
+    }
+    match progress.try_calls(rt, alloc, service, blank, calls, gate) {
+        Ok(()) => Ok(progress),
+        Err(memory) => Err(memory),
+    }
+}
+
+/// What a trial tells.
+fn trial_of(plan: &Plan, progress: &Progress) -> Trial
+    ensures { result ≡ trial_of plan.now progress.now.totals (length progress.now.pairs.items) }
+{
+    let totals = &progress.totals;
+    let replies = &totals.replies;
+    Trial {
+        number: plan.number,
+        packets: u64::from(plan.packets),
+        seats: plan.seats,
+        items: plan.items,
+        depth: plan.depth,
+        start: plan.start,
+        seed: seed_of(plan.hashing),
+        calls: totals.calls,
+        new: replies.new,
+        old: replies.old,
+        noroom: replies.noroom,
+        gone: replies.gone,
+        found: replies.found,
+        absent: replies.absent,
+        full: totals.refused,
+        sessions: progress.pairs.len() as u64,
+    }
+}
+
+/// The seed of a hash.
+fn seed_of(hashing: Hashing) -> u64
+    ensures { result ≡ seed_of hashing }
+{
+    match hashing {
+        Hashing::Mix(seed) | Hashing::Ports(seed) => seed,
+    }
+}
