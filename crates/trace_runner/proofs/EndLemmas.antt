@@ -46,7 +46,8 @@ AreOfBatches-more all calls cuts are here =
   where
     at_end : (k : ℕ) → k ≡ length cuts → slice_index_or (cuts ++ calls ∷ []) k [] ≡ calls
     at_end k is =
-        subst (λ (n : ℕ). slice_index_or (cuts ++ calls ∷ []) n [] ≡ calls) (sym is) (get_or-append_seam cuts calls [] [])
+        subst (λ (n : ℕ). slice_index_or (cuts ++ calls ∷ []) n [] ≡ calls) (sym is)
+        (get_or-append_seam cuts calls [] [])
 
     by_place : (k : ℕ) → k ≤ length cuts → All (IsOfBatch k) (slice_index_or (cuts ++ calls ∷ []) k [])
     by_place k within = elim (eq-or-lt_of_le within) [
@@ -93,7 +94,8 @@ no_calls many more (call ∷ calls) none between = absurd (omega (arith, between
 -- ---- what was read
 
 -- the packets that were read are the first of the input
-abbrev FirstCalls-read : (bytes : List ℕ) (reading : Reading) (left : Option (List ℕ)) (many : ℕ) (calls : List (ℕ × Call)) →
+abbrev FirstCalls-read :
+    (bytes : List ℕ) (reading : Reading) (left : Option (List ℕ)) (many : ℕ) (calls : List (ℕ × Call)) →
     HasCalls bytes reading left many calls → FirstCalls bytes many calls
 FirstCalls-read bytes reading left many calls has =
     let read = has.1 in (
@@ -214,7 +216,8 @@ module _ (plan : Plan) (first left before after : Option (List ℕ)) (many : ℕ
 -- a run that stops leaves what it leaves where a write failed, and where memory ran out
 pub LeavesBy-stop :
     (plan : Plan) (first left before after : Option (List ℕ)) (stop : Stop) (A B : Type 0) →
-    OnNotPut {T = Unit {0}} (Err stop) A → OnNoMemory {T = Unit {0}} (Err stop) B → (A → LeavesBy plan first left before after (Err NotPut)) →
+    OnNotPut {T = Unit {0}} (Err stop) A → OnNoMemory {T = Unit {0}} (Err stop) B →
+    (A → LeavesBy plan first left before after (Err NotPut)) →
     (B → LeavesBy plan first left before after (Err Memory)) → LeavesBy plan first left before after (Err stop)
 LeavesBy-stop plan first left before after Memory A B a b on_a on_b = on_b b
 LeavesBy-stop plan first left before after NotPut A B a b on_a on_b = on_a a
@@ -222,7 +225,8 @@ LeavesBy-stop plan first left before after NotPut A B a b on_a on_b = on_a a
 -- a run that stops for want of memory
 pub LeavesBy-memory :
     (plan : Plan) (first left before after : Option (List ℕ)) (result : Result Ending Stop) →
-    IsErr result × IsErrAnd result (λ (stop : Stop). stop ≡ Memory) → LeavesBy plan first left before after (Err Memory) →
+    IsErr result × IsErrAnd result (λ (stop : Stop). stop ≡ Memory) →
+    LeavesBy plan first left before after (Err Memory) →
     LeavesBy plan first left before after result
 LeavesBy-memory plan first left before after (Ok ending) is leaves = absurd (cc)
 LeavesBy-memory plan first left before after (Err stop) is leaves =
@@ -313,7 +317,8 @@ LeavesBy-before plan service progress first left many calls before after held la
 
 -- these packets have been read, and little more was taken
 Begins-read : (bytes : List ℕ) (reading : Reading) (left : Option (List ℕ)) (many : ℕ) (calls : List (ℕ × Call)) →
-    (has : HasCalls bytes reading left many calls) → Begins bytes left (FirstCalls-read bytes reading left many calls has).0
+    (has : HasCalls bytes reading left many calls) →
+    Begins bytes left (FirstCalls-read bytes reading left many calls has).0
 Begins-read bytes reading left many calls has =
     let read = has.1 in
     let others = left_is_told reading left read.more read.told in

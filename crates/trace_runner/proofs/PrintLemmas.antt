@@ -146,7 +146,8 @@ last_text plan service progress packets batches ending done held text has lines 
     let same : tail ≡ tail_lines (tail_of service packets batches ending) =
     ap (λ (t : Totals). tail_lines (tail_with service packets t progress.leaves progress.depth ending)) has.totals
     ∙ ap (λ (n : ℕ). tail_lines (tail_with service packets totals n progress.depth ending)) has.leaves
-    ∙ ap (λ (n : ℕ). tail_lines (tail_with service packets totals (leaves_left service 0 batches) n ending)) has.depth in
+    ∙ ap (λ (n : ℕ). tail_lines (tail_with service packets totals (leaves_left service 0 batches) n ending))
+    has.depth in
     ap (λ (t : List ℕ). done ++ t) (is ∙ append_assoc held sessions tail)
     ∙ sym (append_assoc done held (sessions ++ tail))
     ∙ ap (λ (t : List ℕ). t ++ (sessions ++ tail)) lines

@@ -87,6 +87,7 @@ IsTrial-tried plan service progress left ending text one law few no_fault promis
       tried.count ∙ ap batch_count (sym ended.3),
       is
           ∙ ap (λ (t : Totals). trial_lines (trial_of plan t (length progress.pairs.items))) tried.served.totals
-          ∙ ap (λ (pairs : List Pair). trial_lines (trial_of plan (totals_of (outcomes_in tried.batches)) (length pairs)))
+          ∙ ap (λ (pairs : List Pair).
+          trial_lines (trial_of plan (totals_of (outcomes_in tried.batches)) (length pairs)))
           tried.served.pairs,
     )

@@ -123,8 +123,8 @@ TookFor status.WriteFault first left P = Took first left P
 TookFor status.Memory first left P = (between : Option (List ℕ)) × Took first between P
 TookFor status.Usage first left P = Took first left P
 
--- So it is for the bytes of a source, where they are told, and for those that were taken of it, as of a source that told
--- just these: so these decide which answer it is.
+-- So it is for the bytes of a source, where they are told, and for those that were taken of it, as of a source that
+-- told just these: so these decide which answer it is.
 pub record LeavesAll (plan : Plan) (first left before after : Option (List ℕ)) (answer : Status) : Type 0 where
   pub told : (bytes : List ℕ) → first ≡ Some bytes → Leaves plan bytes left before after answer
   pub took : TookFor answer first left (λ taken. Leaves plan taken (Some []) before after answer)

@@ -56,9 +56,10 @@ abbrev pub EndsCalls : List ℕ → Option (List ℕ) → ℕ → List (ℕ × C
 EndsCalls bytes left many calls ending =
     (packets : List (List ℕ)) × Serves bytes left packets ending × MakeCalls 1 packets calls × (length packets ≡ many)
 
--- So far has an input been read, of which these bytes were left at first, and these are now: where they are told, and by
--- what was taken of them.
-pub record HaveCome (first now : Option (List ℕ)) (reading : Reading) (many : ℕ) (calls : List (ℕ × Call)) : Type 0 where
+-- So far has an input been read, of which these bytes were left at first, and these are now: where they are told, and
+-- by what was taken of them.
+pub record HaveCome (first now : Option (List ℕ)) (reading : Reading) (many : ℕ) (calls : List (ℕ × Call)) :
+    Type 0 where
   pub told : (bytes : List ℕ) → first ≡ Some bytes → HasCalls bytes reading now many calls
   pub took : Took first now (λ taken. HasCalls taken reading (Some []) many calls)
 

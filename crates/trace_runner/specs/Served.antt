@@ -29,8 +29,8 @@ pub record IsServiceOf (plan : Plan) (service : Service) : Type 0 where
 
 -- What holds of batches that were served, whatever the interleaving.
 pub record IsPromised (service : Service) (batches : List Served) : Type 0 where
-  -- One order of all calls is right: each stands after all that its caller had seen, with the plain map's reply. Steps are
-  -- within the bound, and the leaves of each closed table cover all hashes and have their cause.
+  -- One order of all calls is right: each stands after all that its caller had seen, with the plain map's reply. Steps
+  -- are within the bound, and the leaves of each closed table cover all hashes and have their cause.
   pub right : AreRight service batches
   -- each answered call, as it is printed, stands once in it, and nothing else does
   pub once : Whole (printed_in service [] batches) [] (all_calls [] (map (history_in service) batches))
@@ -44,7 +44,8 @@ abbrev pub ServedArePromised : Type 0
 ServedArePromised =
     (service : Service) (batches : List Served) → AreServed service [] batches → IsPromised service batches
 
--- These calls are served in batches, one after the other, each in a run of a table of its own, and so all of that holds.
+-- These calls are served in batches, one after the other, each in a run of a table of its own, and so all of that
+-- holds.
 pub record AreDone (plan : Plan) (service : Service) (calls : List (ℕ × Call)) (batches : List Served) : Type 0 where
   pub asks : IsServiceOf plan service
   pub cut : AreOfBatches calls (map (λ (batch : Served). batch.calls) batches)

@@ -142,7 +142,8 @@ pub(crate) fn head_of(plan: &Plan) -> Head
 /// What the last lines tell.
 fn tail_with(service: &Service, progress: &Progress, packets: u32, ending: &Ending) -> Tail
     requires { progress.now.totals.calls ≤ packets }
-    ensures { result ≡ tail_with service.now packets progress.now.totals progress.now.leaves progress.now.depth ending.now }
+    ensures { result ≡ tail_with service.now packets progress.now.totals progress.now.leaves progress.now.depth
+        ending.now }
 {
     let packets = u64::from(packets);
     let totals = &progress.totals;

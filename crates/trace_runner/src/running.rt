@@ -21,8 +21,8 @@ use std::thread::Threads;
 
 /// Does what the words ask for. `words` are those after the program's name; they are judged before anything is read.
 ///
-/// `serve` reads a capture from the source, up to its fault or to one packet more than `PACKET_LIMIT`, 2,048 packets at a
-/// time. The calls of these are served by seats in threads of their own, and their lines are put into the sink before
+/// `serve` reads a capture from the source, up to its fault or to one packet more than `PACKET_LIMIT`, 2,048 packets at
+/// a time. The calls of these are served by seats in threads of their own, and their lines are put into the sink before
 /// the next are read. `make` puts a made capture, and `trial` serves it and puts how many
 /// calls had each reply. The gate is passed before each call, and told of each answer.
 pub fn run<R: Threads + Sync, S: Source, K: Sink, G: Gate + Sync>(

@@ -47,7 +47,8 @@ pub(crate) fn serve<R: Threads + Sync, S: Source, K: Sink, G: Gate + Sync>(
     gate: &G,
 ) -> Status
     requires { IsInRange plan.now }
-    ensures leaves { LeavesAll plan.now (S.left source.old) (S.left source.new) (K.put sink.old) (K.put sink.new) result }
+    ensures leaves { LeavesAll plan.now (S.left source.old) (S.left source.new)
+        (K.put sink.old) (K.put sink.new) result }
     ensures read_fault { result ≡ Status.ReadFault → Rose (S.faults source.old) (S.faults source.new) }
     ensures write_fault { result ≡ Status.WriteFault → Rose (K.faults sink.old) (K.faults sink.new) }
     ensures no_usage { result ≡ Status.Usage → ⊥ }
@@ -70,7 +71,8 @@ fn serve_input<R: Threads + Sync, S: Source, K: Sink, G: Gate + Sync>(
     gate: &G,
 ) -> Result<Ending, Stop>
     requires { IsInRange plan.now }
-    ensures leaves { LeavesBy plan.now (S.left source.old) (S.left source.new) (K.put sink.old) (K.put sink.new) result }
+    ensures leaves { LeavesBy plan.now (S.left source.old) (S.left source.new)
+        (K.put sink.old) (K.put sink.new) result }
     ensures read_fault { result ≡ Ok Ending.ReadFault → Rose (S.faults source.old) (S.faults source.new) }
     ensures write_fault { OnNotPut result (Rose (K.faults sink.old) (K.faults sink.new)) }
     ensures counted { (S.faults source.old ≤ S.faults source.new) × (K.faults sink.old ≤ K.faults sink.new) }

@@ -11,7 +11,8 @@ pub put_sessions-requires : goal.put_sessions-requires
 put_sessions-requires g c =
     let has = c.requires.going.1 in
     subst (All (λ pair. HasText pair.key)) (sym (c.deref.ensures.value ∙ has.pairs))
-    (texts-left c.args.service.now c.requires.going.0 c.served_laws.ensures.right c.session_laws.ensures has.served has.texts)
+    (texts-left c.args.service.now c.requires.going.0 c.served_laws.ensures.right c.session_laws.ensures
+    has.served has.texts)
 
 pub returns-in_err-put-clause-front : goal.returns-in_err-put-clause-front
 returns-in_err-put-clause-front g c =

@@ -60,7 +60,8 @@ returns-in-Some-clause-leaves g c = λ plan first before asks put come.
     let left = g.S.Source.left c.read_batch.new.source in
     let many : ℕ = c.batches.packets + c.in_ok-part.part.packets in
     let ended : HaveEnded first left many (s.0 ++ c.read_batch.new.calls.items) c.in-Some.ending =
-    at_some _ (HaveEnded first left many (s.0 ++ c.read_batch.new.calls.items)) c.in_ok-part.part.ending c.in-Some.ending c.in-Some.is (c.in_ok-part.ensures.read first s.0 s.1) in
+    at_some _ (HaveEnded first left many (s.0 ++ c.read_batch.new.calls.items)) c.in_ok-part.part.ending
+    c.in-Some.ending c.in-Some.is (c.in_ok-part.ensures.read first s.0 s.1) in
     c.serve_last.ensures.leaves plan first left before s.0 s.2
     (subst (λ calls. HaveEnded first left many (s.0 ++ calls) c.in-Some.ending) (sym c.deref.ensures.value) ended)
 

@@ -12,7 +12,8 @@ returns-in_ok-trial_text-in-Ok g c =
     let tried = c.in_ok-tried-in-Ok in
     let told : Some c.new-source.result ≡ Some bytes = ap (λ (l : List ℕ). Some l) c.new-source.ensures.left in
     let come : HaveCome (Some bytes) (Some c.open.new.source) c.in-Ok.reader 0 [] =
-    subst (λ (k : Option (List ℕ)). HaveCome k (Some c.open.new.source) c.in-Ok.reader 0 []) told c.in-Ok.ensures.come in
+    subst (λ (k : Option (List ℕ)). HaveCome k (Some c.open.new.source) c.in-Ok.reader 0 []) told
+    c.in-Ok.ensures.come in
     IsTrial-tried plan c.service_of-service.result tried.tried.progress (Some c.try_packets.new.source)
     tried.tried.ending c.trial_text.new.out.items (c.one_capture.ensures bytes)
     (c.made_capture_law.ensures plan.number plan.packets) c.requires.packets
