@@ -4,6 +4,7 @@ use super::captures::{DNS_AND_WEB, HEAD, Part, file_of};
 use super::words_of;
 use crate::{Status, run};
 use edge_traits::{Gate, MemorySink, MemorySource};
+use std::alloc::Global;
 use std::process::Abort;
 use std::sync::atomic::{AtomicU64, Ordering};
 use std::test::Fail;
@@ -123,12 +124,12 @@ struct Follower {
 impl Gate for Follower {
     fn pass(&self, seat: u32, number: u32) {
         let packet = number.wrapping_mul(2).wrapping_add(seat).wrapping_sub(1);
-        let mut place = 0;
+        let mut place: u64 = 0;
         for before in self.order {
             if before == packet {
                 break;
             }
-            place += 1;
+            place = place.wrapping_add(1);
         }
         for _ in 0..TURNS {
             if self.told.load(Ordering::SeqCst) == place {
@@ -170,10 +171,74 @@ fn expect_lines<R: Threads + Abort + Sync>(
     Ok(())
 }
 
-/// Two callers make six calls in an order that the gate holds them to, each told before the next begins. That order is
-/// printed, with the replies of one caller who makes them so.
-#[test]
-fn callers_follow_gate(rt: HostRuntime) -> Result<(), Fail> {
+/// What is printed where the seats go in this order of their packets: 2 1 4 3 6 5.
+const ONE_WAY: [Around; 8] = [
+    (
+        "call 1 seat 0 lookup 10.0.0.1:1-10.0.0.2:80/tcp found 2 steps ",
+        " after 0,1",
+    ),
+    (
+        "call 2 seat 1 insert 10.0.0.1:1-10.0.0.2:80/tcp new 2 steps ",
+        " after 0,0",
+    ),
+    (
+        "call 3 seat 0 remove 10.0.0.1:1-10.0.0.2:80/tcp gone 2 steps ",
+        " after 1,2",
+    ),
+    (
+        "call 4 seat 1 lookup 10.0.0.1:1-10.0.0.2:80/tcp found 2 steps ",
+        " after 1,1",
+    ),
+    (
+        "call 5 seat 0 insert 10.0.0.1:1-10.0.0.2:80/tcp new 5 steps ",
+        " after 2,3",
+    ),
+    (
+        "call 6 seat 1 lookup 10.0.0.1:1-10.0.0.2:80/tcp absent steps ",
+        " after 2,2",
+    ),
+    ("order 2 1 4 3 6 5", ""),
+    ("session 10.0.0.1:1-10.0.0.2:80/tcp 5", ""),
+];
+
+/// And in this: 1 2 3 4 5 6.
+const OTHER_WAY: [Around; 8] = [
+    (
+        "call 1 seat 0 lookup 10.0.0.1:1-10.0.0.2:80/tcp absent steps ",
+        " after 0,0",
+    ),
+    (
+        "call 2 seat 1 insert 10.0.0.1:1-10.0.0.2:80/tcp new 2 steps ",
+        " after 1,0",
+    ),
+    (
+        "call 3 seat 0 remove 10.0.0.1:1-10.0.0.2:80/tcp gone 2 steps ",
+        " after 1,1",
+    ),
+    (
+        "call 4 seat 1 lookup 10.0.0.1:1-10.0.0.2:80/tcp absent steps ",
+        " after 2,1",
+    ),
+    (
+        "call 5 seat 0 insert 10.0.0.1:1-10.0.0.2:80/tcp new 5 steps ",
+        " after 2,2",
+    ),
+    (
+        "call 6 seat 1 lookup 10.0.0.1:1-10.0.0.2:80/tcp found 5 steps ",
+        " after 3,2",
+    ),
+    ("order 1 2 3 4 5 6", ""),
+    ("session 10.0.0.1:1-10.0.0.2:80/tcp 5", ""),
+];
+
+/// Six calls of two callers, held to an order by the gate: no call waits in vain, and the lines are these.
+fn expect_order<R: Threads + Abort + Sync>(
+    rt: &R,
+    alloc: Global,
+    order: [u32; 6],
+    digits: u64,
+    wanted: &[Around],
+) -> Result<(), Fail> {
     let parts = [
         Part::Bytes(&HEAD),
         Part::Ack(1),
@@ -183,82 +248,27 @@ fn callers_follow_gate(rt: HostRuntime) -> Result<(), Fail> {
         Part::Syn(1),
         Part::Ack(1),
     ];
-    let one_way: [Around; 8] = [
-        (
-            "call 1 seat 0 lookup 10.0.0.1:1-10.0.0.2:80/tcp found 2 steps ",
-            " after 0,1",
-        ),
-        (
-            "call 2 seat 1 insert 10.0.0.1:1-10.0.0.2:80/tcp new 2 steps ",
-            " after 0,0",
-        ),
-        (
-            "call 3 seat 0 remove 10.0.0.1:1-10.0.0.2:80/tcp gone 2 steps ",
-            " after 1,2",
-        ),
-        (
-            "call 4 seat 1 lookup 10.0.0.1:1-10.0.0.2:80/tcp found 2 steps ",
-            " after 1,1",
-        ),
-        (
-            "call 5 seat 0 insert 10.0.0.1:1-10.0.0.2:80/tcp new 5 steps ",
-            " after 2,3",
-        ),
-        (
-            "call 6 seat 1 lookup 10.0.0.1:1-10.0.0.2:80/tcp absent steps ",
-            " after 2,2",
-        ),
-        ("order 2 1 4 3 6 5", ""),
-        ("session 10.0.0.1:1-10.0.0.2:80/tcp 5", ""),
-    ];
-    let other_way: [Around; 8] = [
-        (
-            "call 1 seat 0 lookup 10.0.0.1:1-10.0.0.2:80/tcp absent steps ",
-            " after 0,0",
-        ),
-        (
-            "call 2 seat 1 insert 10.0.0.1:1-10.0.0.2:80/tcp new 2 steps ",
-            " after 1,0",
-        ),
-        (
-            "call 3 seat 0 remove 10.0.0.1:1-10.0.0.2:80/tcp gone 2 steps ",
-            " after 1,1",
-        ),
-        (
-            "call 4 seat 1 lookup 10.0.0.1:1-10.0.0.2:80/tcp absent steps ",
-            " after 2,1",
-        ),
-        (
-            "call 5 seat 0 insert 10.0.0.1:1-10.0.0.2:80/tcp new 5 steps ",
-            " after 2,2",
-        ),
-        (
-            "call 6 seat 1 lookup 10.0.0.1:1-10.0.0.2:80/tcp found 5 steps ",
-            " after 3,2",
-        ),
-        ("order 1 2 3 4 5 6", ""),
-        ("session 10.0.0.1:1-10.0.0.2:80/tcp 5", ""),
-    ];
-    let rows = [
-        ([2, 1, 4, 3, 6, 5], 22_200, one_way),
-        ([1, 2, 3, 4, 5, 6], 2_005, other_way),
-    ];
-    let file = file_of(rt.alloc(), &parts)?;
-    for (order, digits, wanted) in rows {
-        let follower = Follower {
-            order,
-            told: AtomicU64::new(0),
-            digits: AtomicU64::new(0),
-            missed: AtomicU64::new(0),
-        };
-        let mut source = MemorySource::new(rt.alloc(), &file, 1000, &[])?;
-        let mut sink = MemorySink::new(rt.alloc(), 2000, &[])?;
-        let words = words_of(rt.alloc(), "serve --seats 2 --hash ports")?;
-        let status = run(&rt, rt.alloc(), &words, &mut source, &mut sink, &follower);
-        assert_eq!(rt; status, Status::Done);
-        assert_eq!(rt; follower.missed.load(Ordering::SeqCst), 0);
-        assert_eq!(rt; follower.digits.load(Ordering::SeqCst), digits);
-        expect_lines(&rt, sink.bytes(), &wanted)?;
-    }
-    Ok(())
+    let follower = Follower {
+        order,
+        told: AtomicU64::new(0),
+        digits: AtomicU64::new(0),
+        missed: AtomicU64::new(0),
+    };
+    let file = file_of(alloc, &parts)?;
+    let mut source = MemorySource::new(alloc, &file, 1000, &[])?;
+    let mut sink = MemorySink::new(alloc, 2000, &[])?;
+    let words = words_of(alloc, "serve --seats 2 --hash ports")?;
+    let status = run(rt, alloc, &words, &mut source, &mut sink, &follower);
+    assert_eq!(rt; status, Status::Done);
+    assert_eq!(rt; follower.missed.load(Ordering::SeqCst), 0);
+    assert_eq!(rt; follower.digits.load(Ordering::SeqCst), digits);
+    expect_lines(rt, sink.bytes(), wanted)
+}
+
+/// Two callers make six calls in an order that the gate holds them to, each told before the next begins. That order is
+/// printed, with the replies of one caller who makes them so.
+#[test]
+fn callers_follow_gate(rt: HostRuntime) -> Result<(), Fail> {
+    expect_order(&rt, rt.alloc(), [2, 1, 4, 3, 6, 5], 22_200, &ONE_WAY)?;
+    expect_order(&rt, rt.alloc(), [1, 2, 3, 4, 5, 6], 2_005, &OTHER_WAY)
 }
