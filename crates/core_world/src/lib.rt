@@ -1,0 +1,8 @@
+//! The core as one world: a table of any number of seats, whose events come one after the other as they are given.
+#![tactic(auto)]
+
+mod one_world;
+mod values;
+
+pub use one_world::CoreWorld;
+pub use values::{CoreEnd, Stepped};
