@@ -7,12 +7,17 @@ use Rattle.plain_map.specs.declared.calls.Call.{Call}
 use Rattle.plain_map.specs.declared.full.Full.{Full}
 use Rattle.plain_map.specs.declared.keys.Pair.{Pair}
 use Rattle.plain_map.specs.declared.records.Record.{Record}
+use Rattle.word_rows.specs.Shape.{Shape}
 use Rattle.core_model.specs.declared.events.Event.{Event}
 use Rattle.core_model.specs.Setup.{Setup}
 use Rattle.core_model.specs.SeatStates.{Account, Stand, Idle, InFlight}
 use Rattle.core_model.specs.Worlds.{World, IsRun, opening_world, world_after, happens, seat_in, refusal_of}
 use Rattle.core_world.specs.declared.values.Stepped.{Stepped}
 use Rattle.core_world.specs.declared.values.Stepped.TheVariants.{Going, Ended, Refused}
+
+-- a table of this shape, with this hashing and these first pairs
+abbrev pub setup_at : Shape → Hashing → List Pair → Setup
+setup_at shape hashing first = record { shape = shape; hashing = hashing; first = first }
 
 -- a table of these settings, with these ranges, hashing and first pairs
 abbrev pub setup_of : Settings → Hashing → List SeatRows → List Pair → Setup

@@ -1,7 +1,11 @@
 //! The core as one world: a table of any number of seats, whose events come one after the other as they are given.
 #![tactic(auto)]
 
+mod happening;
+mod logs;
 mod one_world;
+mod openings;
+mod reading;
 mod values;
 
 pub use one_world::CoreWorld;
