@@ -25,10 +25,10 @@ module _ (setup : Setup) (calls : List (List (ℕ × Call))) (stops : List (Opti
   own_calls : (seat : ℕ) → IsDealt fresh_seat (record { calls = get_or calls seat []; may = get_or stops seat None })
   own_calls seat = elim (cases_lt seat (length calls)) [
     | inl h ↦ record {
-        calls = are_playable (get_or calls seat [])
-            (All-get_or (λ (own : List (ℕ × Call)). All IsPlayable own) calls seat [] h can.playable);
-        few = omega (arith, All-get_or (λ (own : List (ℕ × Call)). length own ≤ 2 ^ 32 - 1) calls seat [] h can.few);
-      }
+      calls = are_playable (get_or calls seat [])
+          (All-get_or (λ (own : List (ℕ × Call)). All IsPlayable own) calls seat [] h can.playable);
+      few = omega (arith, All-get_or (λ (own : List (ℕ × Call)). length own ≤ 2 ^ 32 - 1) calls seat [] h can.few);
+    }
     | inr n ↦ subst (λ (own : List (ℕ × Call)). IsDealt fresh_seat (record { calls = own; may = get_or stops seat None }))
         (sym (get_or_past calls seat [] n)) (record { calls = tt; few = omega arith })
   ]

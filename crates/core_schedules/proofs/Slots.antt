@@ -154,7 +154,7 @@ module _ (setup : Setup) (seat : ℕ) (h : seat < seats_of setup) where
             Rest w w (begin ∷ []) calls (suc (length calls) * most - 1)
         begun_one e =
             let goes : happens setup w (record { seat = seat; begin = Some begin })
-                ≡ step_of setup w seat account (begun account begin.0 begin.1) SeeDone =
+            ≡ step_of setup w seat account (begun account begin.0 begin.1) SeeDone =
             begins begin ∙ steps begin (refusal_of setup seat account begin.1) e in
             let state = step_same setup w seat account (begun account begin.0 begin.1) SeeDone (omega (arith, long, h)) in
             record {
@@ -279,15 +279,18 @@ module _ (setup : Setup) (seat : ℕ) (h : seat < seats_of setup) (w : World)
       acts setup seat h w None ∙ ap (λ (s : SeatState). act setup w seat s.account s.stand None) is in
       let word : ℕ = found_by setup (ask_in setup seat account.used flight phase) w.words in
       let state : seat_in (happens setup w (record { seat = seat; begin = None })) seat
-          ≡ state_after setup seat account flight phase word =
+      ≡ state_after setup seat account flight phase word =
       ap (λ (x : World). seat_in x seat) goes
       ∙ step_same setup w seat account flight phase (omega (arith, long, h)) in
       let on = flies setup seat h account flight word (length hand.calls) may.0 phase may.1 in
       record {
-        follow = (record {
-          seat = h;
-          begin = subst (λ (s : SeatState). FitsStand s.account s.stand None) (sym is) refl;
-        }, tt);
+        follow = (
+          record {
+            seat = h;
+            begin = subst (λ (s : SeatState). FitsStand s.account s.stand None) (sym is) refl;
+          },
+          tt,
+        );
         others = λ q n. ap (λ (x : World). seat_in x q) goes ∙ step_other setup w seat q account flight phase n;
         long = ap (λ (x : World). length x.seats) goes ∙ length-set w.seats seat _;
         dealt = record {
@@ -315,8 +318,7 @@ pub may_fly : (setup : Setup) (events : List Event) (seat : ℕ) → IsRun setup
 may_fly setup events seat run h account Idle is = tt
 may_fly setup events seat run h account (InFlight flight phase) is =
     let fits = every_step_fits setup events seat (0, Lookup (record { k0 = 0; k1 = 0 }))
-        (record { account = account; stand = InFlight flight phase }) run h is tt in
-    (
+    (record { account = account; stand = InFlight flight phase }) run h is tt in (
       omega (arith, fits.counts.steps, most_of_all setup flight.call),
       λ e. subst (λ (p : Phase). IsOnWord setup.shape (ask_in setup seat account.used flight p)) e fits.on_word,
     )

@@ -6,6 +6,8 @@ mod logs;
 mod one_world;
 mod openings;
 mod reading;
+#[cfg(test)]
+mod tests;
 mod values;
 
 pub use one_world::CoreWorld;
