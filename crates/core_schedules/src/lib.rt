@@ -1,0 +1,6 @@
+//! Plays by a schedule are runs, and end.
+#![tactic(auto)]
+
+mod laws;
+
+pub use laws::schedule_laws;
