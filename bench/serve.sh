@@ -1,0 +1,52 @@
+#!/usr/bin/env bash
+# Times `flowdir serve` of a made capture of 4,000,000 packets beside tcpdump printing the same file, and `flowdir trial` beside
+# softflowd reading it, in interleaved turns, and prints the least of each, with ratios; the most memory of each; and the cost of
+# a packet for captures of 10,000 to 4,000,000 packets. Prints the load of the machine before and after.
+# Not part of the gate. Wants tcpdump, softflowd and GNU time (apt-get install tcpdump softflowd time), 1 GB of disk.
+# TURNS=N sets how many turns there are (5), PACKETS=N how many packets the capture has.
+set -eu
+turns="${TURNS:-5}"
+packets="${PACKETS:-4000000}"
+top="$(cd "$(dirname "$(readlink -f "$0")")/.." && pwd)"
+for tool in tcpdump softflowd /usr/bin/time; do
+    command -v "$tool" >/dev/null || { echo "bench/serve.sh wants $tool" >&2; exit 69; }
+done
+work="$(mktemp -d)"
+trap 'rm -rf "$work"' EXIT
+"$top/bin/build"
+flowdir="$top/crates/flowdir/out/flowdir"
+file="$work/made.pcap"
+"$flowdir" make --number 0 --packets "$packets" >"$file"
+
+# Runs a command with the capture as its input, and notes under a name its seconds and its kilobytes.
+timed() {
+    local name="$1"
+    shift
+    /usr/bin/time -f "$name %e %M" -a -o "$work/times" "$@" <"$file" >"$work/out" 2>"$work/err"
+}
+
+cat /proc/loadavg
+for _ in $(seq "$turns"); do
+    timed serve1 "$flowdir" serve --seats 1
+    timed serve2 "$flowdir" serve --seats 2
+    timed tcpdump tcpdump -n -r "$file"
+    timed trial "$flowdir" trial --number 0 --packets "$packets"
+    timed softflowd softflowd -r "$file" -p "$work/pid" -c "$work/ctl"
+done
+timed most "$flowdir" serve --seats 8 --items 16 --depth 12
+cat /proc/loadavg
+awk '{ if (!($1 in least) || $2 < least[$1]) least[$1] = $2; if ($3 > most[$1]) most[$1] = $3 }
+    END {
+        for (name in least) printf "%s %.2f s, %.1f MB\n", name, least[name], most[name] / 1024
+        printf "serve with 1 seat %.2f of tcpdump, with 2 seats %.2f; trial %.2f of softflowd\n",
+            least["serve1"] / least["tcpdump"], least["serve2"] / least["tcpdump"], least["trial"] / least["softflowd"]
+    }' "$work/times"
+
+# The cost of a packet by the length of the capture.
+rm "$work/times"
+for many in 10000 100000 1000000 "$packets"; do
+    "$flowdir" make --number 0 --packets "$many" >"$file"
+    for _ in $(seq "$turns"); do timed "$many" "$flowdir" serve --seats 2; done
+done
+awk '{ if (!($1 in least) || $2 < least[$1]) least[$1] = $2 }
+    END { for (many in least) printf "%s packets: %.0f ns a packet\n", many, least[many] / many * 1e9 }' "$work/times" | sort -n
