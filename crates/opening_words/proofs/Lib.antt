@@ -1,0 +1,4 @@
+mod Dirt
+mod WritingLemmas
+mod ClearingLemmas
+mod SetupLemmas

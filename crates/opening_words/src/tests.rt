@@ -1,0 +1,1 @@
+//! The words of small openings, worked by hand.
