@@ -2,3 +2,4 @@ mod Dirt
 mod WritingLemmas
 mod ClearingLemmas
 mod SetupLemmas
+mod TestLemmas

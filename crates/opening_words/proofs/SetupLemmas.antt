@@ -83,7 +83,8 @@ module _ (setup : Setup) where
     }
 
 -- what is made for these settings is the opening of a table of a shape that has them
-module _ (shape : Shape) (settings : Settings) (hashing : Hashing) (first : List Pair) (same : settings ≡ shape.settings)
+module _ (shape : Shape) (settings : Settings) (hashing : Hashing) (first : List Pair)
+    (same : settings ≡ shape.settings)
   where
     -- its setup
     abbrev made_for : Setup

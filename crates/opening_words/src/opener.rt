@@ -53,8 +53,8 @@ impl Opener {
 
     /// Writes the words of a table that opens with these pairs into words that are all 0. It takes no memory.
     ///
-    /// `NoRoomAt` comes exactly where a pair finds as many earlier ones of its class as a bucket has room for, and tells
-    /// the first such pair; then nothing is written.
+    /// `NoRoomAt` comes exactly where a pair finds as many earlier ones of its class as a bucket has room for, and
+    /// tells the first such pair; then nothing is written.
     pub fn put(
         &mut self,
         layout: &Layout,

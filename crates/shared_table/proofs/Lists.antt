@@ -45,14 +45,8 @@ module _ {X : Type 0} (P : X → Type 0) where
         | inr ne ↦ subst P (sym (get_or-set_other xs i k y d ne)) (q k d (omega (arith, long, h)) ne)
       ]
 
--- one more event
-pub fold-snoc : {W E : Type 0} (f : W → E → W) (w : W) (es : List E) (e : E) →
-    fold f w (es ++ e ∷ []) ≡ f (fold f w es) e
-fold-snoc f w [] e = refl
-fold-snoc f w (x ∷ xs) e = fold-snoc f (f w x) xs e
-
 module _ {E : Type 0} (p : E → Bool) where
-  -- is counted where it passes
+  -- one more event is counted where it passes
   pub count-snoc : (es : List E) (e : E) → count_by p (es ++ e ∷ []) ≡ count_by p es + cond (p e) 1 0
   count-snoc es e = sum_by-append (λ x. cond (p x) 1 0) es (e ∷ [])
       ∙ omega (arith, sum_by-cons (λ (x : E). cond (p x) 1 0) e [])

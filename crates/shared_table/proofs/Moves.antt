@@ -25,7 +25,7 @@ use Rattle.core_model.specs.Steps.{MayStep, event_of, advanced, address_of, beco
 use Rattle.core_model.specs.Fits.{EveryStepFits}
 use Rattle.shared_table.specs.Rule.{bundles, Holds, M, alone, IsReached, asked_by, after_step, Steps, Moved, AsksFor, IsFor}
 use Rattle.shared_table.proofs.Lists.{at_place, elem_map, zero_elsewhere, all_but_one, get_or_default, count-snoc}
-use Rattle.shared_table.proofs.Worlds.{is_event, steps_world, words_are, found_is, run-snoc, world-snoc, length-world}
+use Rattle.core_programs.proofs.Worlds.{is_event, steps_world, words_are, found_is, run-snoc, world-snoc, length-world}
 
 -- a test as a number
 abbrev bit : Bool → ℕ

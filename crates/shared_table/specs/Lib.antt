@@ -6,5 +6,4 @@ pub mod Values
 pub mod Insides
 pub mod Gathered
 pub mod Openings
-pub mod Dirt
 pub mod Orders

@@ -1,5 +1,5 @@
--- The words of an opening, as they are written.
-use Rattle.std.specs.Prelude.{ℕ, suc, ◌^◌, List, [], ◌∷◌, slice_set, All}
+-- What a table is asked for with.
+use Rattle.std.specs.Prelude.{◌^◌, List, All}
 use Rattle.plain_map.specs.declared.keys.Pair.{Pair}
 use Rattle.hash_bits.specs.declared.hashing.Hashing.{Hashing}
 use Rattle.step_counts.specs.declared.rows.SeatRows.{SeatRows}
@@ -22,8 +22,3 @@ pub record IsAsked (setup : Setup) : Type 0 where
   pub ranges : All (AreBelow (2 ^ 32)) setup.shape.ranges
   pub pairs : All IsPair setup.first
   pub distinct : HasDistinctKeys setup.first
-
--- these words with a row from this place on
-abbrev pub written : List ℕ → (start : ℕ) → List ℕ → List ℕ
-written words start [] = words
-written words start (word ∷ row) = written (slice_set words start word) (suc start) row

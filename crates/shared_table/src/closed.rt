@@ -1,4 +1,4 @@
-//! What a directory leaves when it is closed: its words, and what they say.
+//! What the words of a closed directory say.
 
 ghost use Rattle.std.specs.Prelude.{◌≡◌, IfOk, IsPermutation, map};
 ghost use Rattle.std.specs.List.Sorted.{IsSortedByKey};
@@ -12,62 +12,15 @@ use plain_map::Pair;
 use std::alloc::{AllocError, Global};
 use word_rows::Layout;
 
-/// The words of a closed directory, and where each lies.
-#[derive(Debug, Drop)]
-pub struct ClosedRows {
-    pub layout: Layout,
-    pub words: Vec<u64>,
-}
-
-impl Words for ClosedRows {
-    ghost words = { λ rows. rows.words.items };
-
-    fn count(&self) -> usize {
-        self.words.len()
-    }
-
-    fn word(&self, at: usize) -> u64 {
-        self.words[at]
-    }
-}
-
-impl ClosedRows {
-    /// The depth of the directory.
-    pub fn depth(&self) -> u64
-        ensures { result ≡ closed_depth (shape_of self.now.layout) self.now.words.items }
-    {
-        depth_in(&self.layout, self)
-    }
-
-    /// The leaves, in the order of their prefixes as bit strings. The only error is want of memory.
-    pub fn leaves(&self, alloc: Global) -> Result<Vec<ClosedLeaf>, AllocError>
-        ensures { IfOk result (λ leaves. map as_leaf leaves.items
-            ≡ closed_leaves (shape_of self.now.layout) self.now.words.items) }
-    {
-        leaves_in(alloc, &self.layout, self)
-    }
-
-    /// The pairs that are held, in the order of their keys. The only error is want of memory.
-    ///
-    /// After a run they are the pairs of the sessions that its order leaves: `core_orders::reopen_laws`.
-    pub fn pairs(&self, alloc: Global) -> Result<Vec<Pair>, AllocError>
-        ensures held { IfOk result (λ pairs.
-            IsPermutation (closed_pairs (shape_of self.now.layout) self.now.words.items) pairs.items) }
-        ensures sorted { IfOk result (λ pairs. IsSortedByKey (λ pair. pair.key) key_cmp pairs.items) }
-    {
-        pairs_in(alloc, &self.layout, self)
-    }
-}
-
-// The depth of the directory, in these words.
-pub(crate) fn depth_in<W: Words>(layout: &Layout, words: &W) -> u64
+/// The depth of the directory.
+pub fn depth_in<W: Words>(layout: &Layout, words: &W) -> u64
     ensures { result ≡ closed_depth (shape_of layout.now) (W.words words.now) }
 {
     closed_depth(&Starts::new(layout), words)
 }
 
-// The leaves, in the order of their prefixes as bit strings.
-pub(crate) fn leaves_in<W: Words>(
+/// The leaves, in the order of their prefixes as bit strings. The only error is want of memory.
+pub fn leaves_in<W: Words>(
     alloc: Global,
     layout: &Layout,
     words: &W,
@@ -78,8 +31,10 @@ pub(crate) fn leaves_in<W: Words>(
     closed_leaves(alloc, &Starts::new(layout), words)
 }
 
-// The pairs, in the order of their keys.
-pub(crate) fn pairs_in<W: Words>(
+/// The pairs that are held, in the order of their keys. The only error is want of memory.
+///
+/// After a run they are the pairs of the sessions that its order leaves: `core_orders::reopen_laws`.
+pub fn pairs_in<W: Words>(
     alloc: Global,
     layout: &Layout,
     words: &W,

@@ -5,13 +5,14 @@ ghost use Rattle.word_rows.specs.Shape.{AreBelow};
 ghost use Rattle.core_model.specs.Setup.{seats_of};
 ghost use Rattle.shared_table.specs.Values.{IsOf, new_seat, new_seats};
 
-use crate::{Blank, ClosedRows, ClosedTable, Directory, Seat};
+use crate::{Blank, ClosedTable, Directory, Seat, pairs_in};
 use closed_words::{ClosedLeaf, Words};
 use hash_bits::Hashing;
 use plain_map::{Key, Pair};
 use std::alloc::{AllocError, Global};
 use std::test::Fail;
 use step_counts::{SeatRows, Settings};
+use word_rows::ClosedRows;
 
 // Two flows of one pair of hosts, by their ports: the first has the lesser key.
 const FIRST: Key = Key {
@@ -117,7 +118,8 @@ fn a_closed_table_is_read(rt: HostRuntime) -> Result<(), Fail> {
         panic!(rt; "there is room");
     };
     let rows = copied(rt.alloc(), directory, seat)?;
-    assert_eq!(rt; rows.pairs(rt.alloc())?.as_slice(), pairs.as_slice());
+    let copy = pairs_in(rt.alloc(), &rows.layout, &rows)?;
+    assert_eq!(rt; copy.as_slice(), pairs.as_slice());
     let Some((directory, seat)) = filled(&rt, &mut blank, &settings) else {
         panic!(rt; "there is room");
     };

@@ -1,39 +1,36 @@
 //! The table of words that the seats share.
 
-ghost use Rattle.std.specs.Prelude.{◌≡◌, ℕ, ◌<◌, ◌^◌, [], All, Err, IfErr, IfOk, OnOk, length, vec_capacity, vec_len};
+ghost use Rattle.std.specs.Prelude.{◌≡◌, ℕ, ◌<◌, ◌^◌, [], All, Err, IfErr, IfOk, OnOk, length, replicate, vec_capacity, vec_len};
 ghost use Rattle.plain_map.specs.declared.leaves.OpenFault.TheVariants.{NoRoom};
 ghost use Rattle.bucket_states.specs.Parts.{HasDistinctKeys};
 ghost use Rattle.word_rows.specs.Shape.{AreBelow};
 ghost use Rattle.word_rows.specs.Places.{word_count};
 ghost use Rattle.word_rows.specs.LayoutView.{shape_of};
 ghost use Rattle.core_model.specs.Setup.{IsFirstWithoutRoom, IsPair, IsSetup, rules_of, seats_of};
-ghost use Rattle.core_model.specs.Opening.{opening_directory};
-ghost use Rattle.core_model.specs.Worlds.{first_leaves as leaves_of, opening_words};
-ghost use Rattle.dir_states.specs.Openings.{first_directory, first_leaves};
+ghost use Rattle.core_model.specs.Worlds.{opening_words};
+ghost use Rattle.opening_words.specs.Openers.{settings_in};
 ghost use Rattle.shared_table.specs.Rule.{plain};
 ghost use Rattle.shared_table.specs.Seating.{whole};
 ghost use Rattle.shared_table.specs.Values.{IsOf, Ran, new_seats};
-ghost use Rattle.shared_table.specs.Openings.{setup_of};
+ghost use Rattle.shared_table.specs.Openings.{IsAsked, setup_of};
 ghost use Rattle.shared_table.specs.Gathered.{HasAll};
 
-use crate::blank::{Blank, clear_all};
-use crate::closed::ClosedRows;
+use crate::blank::Blank;
 use crate::in_place::ClosedTable;
-use crate::opening::{first_state, put_all};
 use crate::rule::{Deal, Gather, OneRun, Plan};
 use crate::running::{Token, Words};
 use crate::seat::{Seat, seated, unseated};
 use crate::view::View;
 use atomic_table::Table;
 use closed_words::Words as ClosedWords;
-use dir_states::Opening;
 use hash_bits::Hashing;
-use plain_map::{BucketRow, OpenFault, Pair};
+use opening_words::Opener;
+use plain_map::{OpenFault, Pair};
 use seat_machine::Room;
 use std::alloc::{AllocError, Global};
 use std::marker::Model;
 use step_counts::{SeatRows, Settings};
-use word_rows::Layout;
+use word_rows::{ClosedRows, Layout};
 
 pub(crate) type Board = Table<(), View, Plan, OneRun, Global>;
 
@@ -184,37 +181,44 @@ impl Directory {
             first,
         };
         let layout = Layout::new(settings, &plan.rows);
-        let made = first_state(alloc, &plan)?;
-        match Directory::of_opening(alloc, blank, layout, &plan, &made) {
+        let Ok((mut opener, mut words)) = blank.take(alloc, &layout) else {
+            return Err(OpenFault::Memory);
+        };
+        let opened = Directory::of_plan(alloc, layout, &plan, &mut opener, &mut words);
+        blank.put_back(opener, words);
+        opened
+    }
+
+    // A table with the first pairs of its plan, and its seats in order. The words are all 0 before and after.
+    fn of_plan(
+        alloc: Global,
+        layout: Layout,
+        plan: &Plan,
+        opener: &mut Opener,
+        words: &mut [u64],
+    ) -> Result<(Directory, Vec<Seat>), OpenFault>
+        requires asked { IsAsked (plain plan.now) }
+        requires shape { shape_of layout ≡ (plain plan.now).shape }
+        requires room { settings_in opener.old ≡ plan.now.settings }
+        requires blank { words.old ≡ replicate (word_count (shape_of layout)) 0 }
+        ensures setup { IfOk result (λ r. r.0.setup ≡ plain plan.now) }
+        ensures seats { IfOk result (λ r. r.1.items ≡ new_seats r.0 0 plan.now.settings.seats) }
+        ensures room { IfOk result (λ _. IsSetup (plain plan.now)) }
+        ensures no_room { (place : ℕ) → result ≡ Err (NoRoom place) →
+            IsFirstWithoutRoom (rules_of (plain plan.now)) plan.now.first.items place }
+        ensures blank { words.new ≡ words.old }
+    {
+        if let Err(no_room) = opener.put(&layout, plan.hashing, &plan.first, words) {
+            return Err(OpenFault::NoRoom {
+                place: no_room.place,
+            });
+        }
+        let opened = Directory::of_words(alloc, layout, plan, words);
+        opener.clear(&layout, words);
+        match opened {
             Ok(opened) => Ok(opened),
             Err(_) => Err(OpenFault::Memory),
         }
-    }
-
-    // A table with this opening, and its seats in order.
-    fn of_opening(
-        alloc: Global,
-        blank: &mut Blank,
-        layout: Layout,
-        plan: &Plan,
-        made: &Opening,
-    ) -> Result<(Directory, Vec<Seat>), AllocError>
-        requires setup { IsSetup (plain plan.now) }
-        requires shape { shape_of layout ≡ (plain plan.now).shape }
-        requires leaves { first_leaves made.now ≡ leaves_of (plain plan.now) }
-        requires directory { first_directory made.now ≡
-            opening_directory plan.now.settings.start (first_leaves made.now) }
-        ensures setup { IfOk result (λ r. r.0.setup ≡ plain plan.now) }
-        ensures seats { IfOk result (λ r. r.1.items ≡ new_seats r.0 0 plan.now.settings.seats) }
-    {
-        let mut row = BucketRow::with_room(alloc, layout.settings())?;
-        blank.resize(layout.words() as usize)?;
-        let mut words = blank.take(alloc);
-        put_all(&layout, plan, made, &mut row, &mut words);
-        let opened = Directory::of_words(alloc, layout, plan, &words);
-        clear_all(&layout, plan, made, &mut words);
-        blank.put_back(words);
-        opened
     }
 
     // A table over these words, which are those of the opening, and its seats in order.
@@ -269,7 +273,8 @@ impl Directory {
         Ok(ClosedRows { layout, words })
     }
 
-    /// Ends the run, and leaves its words where they stand. It takes all seats of the table, in any order, and no memory.
+    /// Ends the run, and leaves its words where they stand. It takes all seats of the table, in any order, and no
+    /// memory.
     pub fn close_in_place(self, seats: Vec<Seat>) -> ClosedTable
         requires seats { All (IsOf self) seats.items }
         requires all { vec_len seats ≡ seats_of self.setup }

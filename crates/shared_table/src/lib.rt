@@ -7,7 +7,6 @@ mod closed;
 mod directory;
 mod in_place;
 mod laws;
-mod opening;
 mod rule;
 mod running;
 mod seat;
@@ -15,7 +14,7 @@ mod view;
 
 pub use blank::Blank;
 pub use caller::Caller;
-pub use closed::ClosedRows;
+pub use closed::{depth_in, leaves_in, pairs_in};
 pub use directory::Directory;
 pub use in_place::ClosedTable;
 pub use laws::order_laws;

@@ -13,11 +13,12 @@ mod openings;
 mod replay;
 mod tries;
 
-use crate::{ClosedRows, Directory, Seat};
+use crate::{Directory, Seat};
 use hash_bits::Hashing;
 use plain_map::{Key, OpenFault, Pair};
 use std::alloc::{AllocError, Global};
 use step_counts::{SeatRows, Settings};
+use word_rows::ClosedRows;
 
 // The key of 10.0.0.1 with this port and 10.0.0.2:80 over TCP, whose hash by ports begins with the port.
 fn key(port: u16) -> Key {

@@ -1,7 +1,7 @@
 //! Calls of one seat, and what its table holds then.
 
 use super::{closed_one, key, no_pairs, one_of, opened, pair};
-use crate::Caller;
+use crate::{Caller, depth_in, leaves_in, pairs_in};
 use closed_words::ClosedLeaf;
 use plain_map::{Call, Reply, Server};
 use std::test::Fail;
@@ -67,12 +67,12 @@ fn an_insert_is_left(rt: HostRuntime) -> Result<(), Fail> {
         assert_eq!(rt; (made.reply, made.number), (Reply::New, 1));
         let rows = closed_one(rt.alloc(), directory, seat)?;
         assert_eq!(rt;
-            rows.pairs(rt.alloc())?.as_slice(),
+            pairs_in(rt.alloc(), &rows.layout, &rows)?.as_slice(),
             [pair(1, 7)].as_slice(),
             "from depth {start}"
         );
-        assert_eq!(rt; rows.depth(), u64::from(start));
-        let found = rows.leaves(rt.alloc())?;
+        assert_eq!(rt; depth_in(&rows.layout, &rows), u64::from(start));
+        let found = leaves_in(rt.alloc(), &rows.layout, &rows)?;
         assert_eq!(rt; found.len(), leaves, "from depth {start}");
         for (prefix, leaf) in found.iter().enumerate() {
             let wanted = ClosedLeaf {

@@ -10,7 +10,7 @@ ghost use Rattle.shared_table.specs.Values.{IsNew, IsOf, new_seats};
 
 use super::replay::Replay;
 use super::{key, no_pairs, opened};
-use crate::{ClosedRows, Directory, Seat};
+use crate::{Directory, Seat, pairs_in};
 use hash_bits::Hashing;
 use plain_map::{Call, OpenFault, Pair, PlainMap, Record, Reply, Rules};
 use std::alloc::{AllocError, Global};
@@ -19,6 +19,7 @@ use std::sync::atomic::Ordering::SeqCst;
 use std::test::Fail;
 use std::thread::{Threads, for_each_mut, yield_now};
 use step_counts::{SeatRows, Settings, automatic_rows};
+use word_rows::ClosedRows;
 
 // One seat, what it is to ask, what it was answered, and whether it saw all others before its first call.
 #[derive(Drop)]
@@ -253,7 +254,7 @@ pub(super) fn replayed(
             return Ok(None);
         }
     }
-    let held = meeting.rows.pairs(alloc)?;
+    let held = pairs_in(alloc, &meeting.rows.layout, &meeting.rows)?;
     let same = held.len() == map.pairs().len()
         && held.iter().all(|pair| map.pairs().contains(pair));
     Ok(if same { Some(replay.order) } else { None })

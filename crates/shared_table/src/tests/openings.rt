@@ -1,12 +1,13 @@
 //! The words of tables at their opening, and openings that find no room.
 
 use super::{closed_one, key, no_pairs, one_of, opened, pair, three};
-use crate::ClosedRows;
+use crate::{depth_in, leaves_in, pairs_in};
 use closed_words::ClosedLeaf;
 use plain_map::{FullKind, OpenFault, Reply};
 use std::alloc::{AllocError, Global};
 use std::test::Fail;
 use step_counts::{SeatRows, Settings, automatic_rows};
+use word_rows::ClosedRows;
 
 const ROWS: SeatRows = SeatRows {
     op_rows: 1,
@@ -40,7 +41,7 @@ fn put_part(words: &mut Vec<u64>, at: usize, part: &[u64]) {
 
 // The leaves by prefix and depth.
 fn leaves_are(alloc: Global, rows: &ClosedRows, leaves: &[(u64, u64)]) -> Result<bool, AllocError> {
-    let found = rows.leaves(alloc)?;
+    let found = leaves_in(alloc, &rows.layout, rows)?;
     let same = found.iter().zip(leaves.iter()).all(|(leaf, (prefix, depth))| {
         *leaf
             == ClosedLeaf {
@@ -88,8 +89,9 @@ fn a_table_has_its_words(rt: HostRuntime) -> Result<(), Fail> {
     assert_eq!(rt; (full.what, full.left, full.need), (FullKind::OpRows, 0, 1));
     let rows = closed_one(rt.alloc(), directory, seat)?;
     assert_eq!(rt; rows.words, words_with(rt.alloc(), 98, inserted)?);
-    assert_eq!(rt; rows.depth(), 1);
-    assert_eq!(rt; rows.pairs(rt.alloc())?.as_slice(), [pair(1, 1)].as_slice());
+    assert_eq!(rt; depth_in(&rows.layout, &rows), 1);
+    let held = pairs_in(rt.alloc(), &rows.layout, &rows)?;
+    assert_eq!(rt; held.as_slice(), [pair(1, 1)].as_slice());
     assert!(rt; leaves_are(rt.alloc(), &rows, &[(0, 1), (1, 1)])?);
     Ok(())
 }
@@ -123,7 +125,7 @@ fn a_table_begins_with_its_pairs(rt: HostRuntime) -> Result<(), Fail> {
         (118, &[2, 0, 0, 1, 2, 2]),
     ];
     assert_eq!(rt; rows.words, words_with(rt.alloc(), 130, words)?);
-    assert_eq!(rt; rows.depth(), 2);
+    assert_eq!(rt; depth_in(&rows.layout, &rows), 2);
     assert!(rt; leaves_are(rt.alloc(), &rows, &[(0, 2), (1, 2), (1, 1)])?);
     Ok(())
 }

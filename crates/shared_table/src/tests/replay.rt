@@ -6,10 +6,9 @@
 //! ready where its base rows are placed, with all lookups of them, and all calls that a call of it had seen. Of the
 //! ready units that of the least seat is placed next.
 
-use crate::ClosedRows;
 use plain_map::{Call, Record};
 use std::alloc::{AllocError, Global};
-use word_rows::Address;
+use word_rows::{Address, ClosedRows};
 
 // What a call is placed by, and what a row is the base of. Rows by their numbers, directories by their places.
 #[derive(Clone, Copy, PartialEq, Eq)]

@@ -38,11 +38,12 @@ put_leaf-requires-clause-spelled c =
 pub loop-i-preserved : goal.loop-i-preserved
 loop-i-preserved c =
     let shape = shape_of c.args.layout.now in
+    let leaves = first_leaves c.args.made.now in
     let leaf = as_leaf c.index-leaves-i.result in
-    let here = leaf_at c.leaves-leaves.result.now (first_leaves c.args.made.now) c.loop-i.i c.index-leaves-i.result
+    let here = leaf_at c.leaves-leaves.result.now leaves c.loop-i.i c.index-leaves-i.result
     c.leaves-leaves.ensures c.loop-i-test.true c.index-leaves-i.is in
     record {
-      left = one_more_leaf shape c.loop-i.words c.put_leaf.new.words c.loop-i.i leaf (first_leaves c.args.made.now) here.0
+      left = one_more_leaf shape c.loop-i.words c.put_leaf.new.words c.loop-i.i leaf leaves here.0
           c.put_leaf.ensures.words c.loop-i.invariant.left;
       len = c.put_leaf.ensures.len ∙ c.loop-i.invariant.len;
       row = c.put_leaf.ensures.row;
@@ -64,9 +65,10 @@ returns-clause-words c =
     let shape = shape_of c.args.layout.now in
     let i = c.loop-i.i in
     let leaves = first_leaves c.args.made.now in
-    let long : length leaves ≤ i =
-    omega (arith, c.loop-i-test.false, ap length c.leaves-leaves.ensures, length-map c.leaves-leaves.result.now as_leaf) in
+    let mapped = length-map c.leaves-leaves.result.now as_leaf in
+    let long : length leaves ≤ i = omega (arith, c.loop-i-test.false, ap length c.leaves-leaves.ensures, mapped) in
     all_written shape c.loop-i.words c.put_directory.new.words i leaves (first_directory c.args.made.now)
     (drop_all i leaves long) c.loop-i.invariant.left
-    (c.put_directory.ensures.words ∙ ap (λ (d : DirectoryState). written c.loop-i.words (place shape (DirectoryWord 0 0))
-    (directory_words None d)) c.state.ensures)
+    (c.put_directory.ensures.words
+    ∙ ap (λ (d : DirectoryState). written c.loop-i.words (place shape (DirectoryWord 0 0)) (directory_words None d))
+    c.state.ensures)
