@@ -4,6 +4,7 @@
 mod calls;
 mod keys;
 mod laws;
+mod octets;
 #[cfg(test)]
 mod tests;
 mod texts;

@@ -2,7 +2,8 @@
 
 ghost use Rattle.std.specs.Prelude.{◌≡◌, ◌+◌, ◌≤◌, [], length, take, decimal};
 
-use itoa::Buffer;
+use crate::octets::{OCTETS, octet_length, port_length};
+use itoa::write_digits;
 
 /// The text of a key, which stands in the first `length` bytes.
 #[derive(Clone, Copy, Debug, PartialEq, Eq)]
@@ -17,6 +18,7 @@ impl KeyText {
     ghost use Rattle.flow_keys.specs.Written.{Adds};
 
     /// No text yet.
+    #[inline(always)]
     pub(crate) fn new() -> KeyText
         ensures text { take result.length result.bytes ≡ [] }
         ensures empty { result.length ≡ 0 }
@@ -28,6 +30,7 @@ impl KeyText {
     }
 
     /// Puts a text after what is there.
+    #[inline(always)]
     pub(crate) fn push(&mut self, text: &[u8])
         requires { self.old.length + length text.now ≤ 48 }
         ensures text { Adds self.old self.new text.now }
@@ -39,28 +42,33 @@ impl KeyText {
     }
 
     /// Puts one of the four numbers of an address after what is there.
+    #[inline(always)]
     pub(crate) fn push_octet(&mut self, octet: u8)
-        requires { self.old.length + 3 ≤ 48 }
+        requires { self.old.length + 4 ≤ 48 }
         ensures text { Adds self.old self.new (decimal octet) }
         ensures within { self.new.length ≤ self.old.length + 3 }
     {
-        let mut buffer = Buffer::new();
-        self.push(buffer.format(octet).as_bytes());
+        let end = self.length + octet_length(octet);
+        self.push(&OCTETS[octet as usize]);
+        self.length = end;
     }
 
     /// Puts a port after what is there.
+    #[inline(always)]
     pub(crate) fn push_port(&mut self, port: u16)
         requires { self.old.length + 5 ≤ 48 }
         ensures text { Adds self.old self.new (decimal port) }
         ensures within { self.new.length ≤ self.old.length + 5 }
     {
-        let mut buffer = Buffer::new();
-        self.push(buffer.format(port).as_bytes());
+        let end = self.length + port_length(port);
+        write_digits(u64::from(port), &mut self.bytes, end);
+        self.length = end;
     }
 
     /// Puts an address after what is there, as four numbers with dots.
+    #[inline(always)]
     pub(crate) fn push_address(&mut self, address: u32)
-        requires { self.old.length + 15 ≤ 48 }
+        requires { self.old.length + 16 ≤ 48 }
         ensures text { Adds self.old self.new (address_text address) }
         ensures within { self.new.length ≤ self.old.length + 15 }
     {
@@ -74,6 +82,7 @@ impl KeyText {
     }
 
     /// Puts an endpoint after what is there, its address and its port.
+    #[inline(always)]
     pub(crate) fn push_endpoint(&mut self, address: u32, port: u16)
         requires { self.old.length + 21 ≤ 48 }
         ensures text { Adds self.old self.new (endpoint_text address port) }
@@ -85,6 +94,7 @@ impl KeyText {
     }
 
     /// Puts the name of a protocol after what is there.
+    #[inline(always)]
     pub(crate) fn push_protocol(&mut self, number: u8)
         requires { self.old.length + 4 ≤ 48 }
         ensures text { Adds self.old self.new (protocol_text number) }
