@@ -2,7 +2,7 @@
 //!
 //! The only error of each is want of memory.
 
-ghost use Rattle.std.specs.Prelude.{◌≡◌, ℕ, ◌+◌, ◌-◌, ◌<◌, ◌++◌, [], if◌then◌else◌, true, IfOk, flat_map, length, map, slice_index, slice_set};
+ghost use Rattle.std.specs.Prelude.{◌≡◌, ℕ, ◌+◌, ◌-◌, ◌<◌, ◌++◌, [], if◌then◌else◌, true, false, IfOk, flat_map, length, map, slice_index, slice_index_or, slice_set};
 ghost use Rattle.std.specs.List.{range_with_len};
 ghost use Rattle.core_placing.proofs.Lists.{In};
 ghost use Rattle.plain_map.specs.declared.records.TheConstants.{MOST_SEATS};
@@ -16,18 +16,20 @@ ghost use Rattle.history_order.specs.Tables.{
   count_with,
   firsts_of,
   free_next,
+  has_call_in,
   is_marked_done,
   told_with,
 };
 
 use crate::calls::{Closed, id_at, place_at};
-use crate::ready::{has_call_in, is_free, is_marked_done};
+use crate::ready::{callers_of, is_free, is_marked_done};
 use crate::tables::{Found, Progress, Unit};
 use closed_words::Words;
 use plain_map::{CallId, MOST_SEATS};
 use std::alloc::AllocError;
 
 // Where the row is done, the row without calls that was made from it may be placed.
+#[inline(always)]
 fn set_aside(
     found: &Found,
     placed: &[bool],
@@ -49,6 +51,7 @@ fn set_aside(
 }
 
 /// The bucket row is placed.
+#[inline(always)]
 pub(crate) fn place_row(found: &Found, progress: &mut Progress, row: u64) -> Result<(), AllocError>
     requires { row < length progress.old.placed.items }
     ensures { IfOk result (λ _. RowIsPlaced found.now row progress.old progress.new) }
@@ -64,6 +67,7 @@ pub(crate) fn place_row(found: &Found, progress: &mut Progress, row: u64) -> Res
 }
 
 /// A lookup of this row is placed.
+#[inline(always)]
 fn place_look(found: &Found, progress: &mut Progress, row: u64) -> Result<(), AllocError>
     requires { row < length progress.old.looks.items }
     ensures { IfOk result (λ _. LookIsPlaced found.now row progress.old progress.new) }
@@ -95,6 +99,7 @@ pub(crate) fn place_version(found: &Found, progress: &mut Progress) -> Result<()
 }
 
 /// The unit of the seat's call at this place is placed.
+#[inline(always)]
 pub(crate) fn place<W: Words>(
     closed: &Closed<W>,
     found: &Found,
@@ -118,22 +123,25 @@ pub(crate) fn place<W: Words>(
 }
 
 // The call of the other seat that comes with the unit is told.
+#[inline(always)]
 fn tell_one<W: Words>(
     closed: &Closed<W>,
     found: &Found,
     count: &mut [u32; MOST_SEATS],
+    callers: &[bool; MOST_SEATS],
     seat: usize,
     unit: Unit,
     other: usize,
     out: &mut Vec<CallId>,
 ) -> Result<(), AllocError>
-    requires { other < MOST_SEATS }
+    requires other { other < MOST_SEATS }
+    requires callers { slice_index_or callers.now other false ≡ has_call_in found.now unit seat other }
     ensures out { IfOk result (λ _. out.new.items ≡ out.old.items ++ told_with (map (λ log. log.items)
         closed.now.logs.now) closed.now.begun.now found.now seat unit other (slice_index count.old other)) }
     ensures count { IfOk result (λ _. count.new ≡ slice_set count.old other (count_with (map (λ log. log.items)
         closed.now.logs.now) closed.now.begun.now found.now seat unit other (slice_index count.old other))) }
 {
-    if !has_call_in(found, unit, seat, other) {
+    if !callers[other] {
         return Ok(());
     }
     match id_at(closed.logs, closed.begun, other, count[other] as usize) {
@@ -147,6 +155,7 @@ fn tell_one<W: Words>(
 }
 
 /// The calls of the unit of the seat's next call are told, in the order of the seats.
+#[inline(always)]
 pub(crate) fn tell<W: Words>(
     closed: &Closed<W>,
     found: &Found,
@@ -161,8 +170,9 @@ pub(crate) fn tell<W: Words>(
         count_with (map (λ log. log.items) closed.now.logs.now) closed.now.begun.now found.now seat unit
         other (slice_index count.old other)) }
 {
+    let callers = callers_of(found, unit, seat);
     for other in 0..MOST_SEATS {
-        tell_one(closed, found, count, seat, unit, other, out)?;
+        tell_one(closed, found, count, &callers, seat, unit, other, out)?;
     }
     Ok(())
 }

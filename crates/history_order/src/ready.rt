@@ -1,6 +1,6 @@
 //! Which units may be placed.
 
-ghost use Rattle.std.specs.Prelude.{◌≡◌, ◌<◌, false, map};
+ghost use Rattle.std.specs.Prelude.{◌≡◌, ℕ, ◌<◌, ◌==◌, false, map, slice_index_or};
 ghost use Rattle.std.specs.List.{list_all};
 ghost use Rattle.std.specs.Option.{option_map_or};
 ghost use Rattle.history_order.specs.Calls.{call_at, seen_in};
@@ -30,6 +30,7 @@ use closed_words::{Words, row_base};
 use plain_map::{MOST_SEATS, Seen};
 
 // Whether the two are one unit.
+#[inline(always)]
 fn is_unit(a: Unit, b: Unit) -> bool
     ensures { result ≡ is_unit a b }
 {
@@ -42,6 +43,7 @@ fn is_unit(a: Unit, b: Unit) -> bool
 }
 
 /// The unit of the seat's call at this place.
+#[inline(always)]
 pub(crate) fn unit_in(found: &Found, seat: usize, at: usize) -> Option<Unit>
     ensures { result ≡ unit_in found.now seat at }
 {
@@ -52,26 +54,45 @@ pub(crate) fn unit_in(found: &Found, seat: usize, at: usize) -> Option<Unit>
     }
 }
 
-/// Whether the unit of the seat's next call has a call of the other seat.
-pub(crate) fn has_call_in(found: &Found, unit: Unit, seat: usize, other: usize) -> bool
-    requires { other < MOST_SEATS }
-    ensures { result ≡ has_call_in found.now unit seat other }
+/// By seat, whether the unit of this seat's next call has a call of it.
+#[inline(always)]
+pub(crate) fn callers_of(found: &Found, unit: Unit, seat: usize) -> [bool; MOST_SEATS]
+    ensures { (other : ℕ) → other < MOST_SEATS →
+        slice_index_or result other false ≡ has_call_in found.now unit seat other }
 {
     match unit {
-        Unit::Lookup => seat == other,
-        Unit::Row(row) => {
-            (row as usize) < found.callers.len() && found.callers[row as usize][other]
-        }
-        Unit::Version(d) => d < found.versions.len() && found.versions[d].callers[other],
+        Unit::Lookup => only(seat),
+        Unit::Row(row) => match found.callers.get(row as usize) {
+            Some(callers) => *callers,
+            None => [false; MOST_SEATS],
+        },
+        Unit::Version(d) => match found.versions.get(d) {
+            Some(version) => version.callers,
+            None => [false; MOST_SEATS],
+        },
     }
 }
 
+// This seat alone.
+#[inline(always)]
+fn only(seat: usize) -> [bool; MOST_SEATS]
+    ensures { (other : ℕ) → other < MOST_SEATS → slice_index_or result other false ≡ (seat == other) }
+{
+    let mut callers = [false; MOST_SEATS];
+    if seat < MOST_SEATS {
+        callers[seat] = true;
+    }
+    callers
+}
+
 /// Whether the unit has no calls.
+#[inline(always)]
 pub(crate) fn is_free(found: &Found, unit: Unit) -> bool
     ensures { result ≡ is_free found.now unit }
 {
+    let callers = callers_of(found, unit, 0);
     for seat in 0..MOST_SEATS {
-        if has_call_in(found, unit, 0, seat) {
+        if callers[seat] {
             return false;
         }
     }
@@ -79,6 +100,7 @@ pub(crate) fn is_free(found: &Found, unit: Unit) -> bool
 }
 
 // Whether the bucket row is placed.
+#[inline(always)]
 fn is_marked(placed: &[bool], row: u64) -> bool
     ensures { result ≡ is_marked placed.now row }
 {
@@ -86,6 +108,7 @@ fn is_marked(placed: &[bool], row: u64) -> bool
 }
 
 /// Whether the bucket row and all its lookups are placed.
+#[inline(always)]
 pub(crate) fn is_marked_done(placed: &[bool], looks: &[u64], row: u64) -> bool
     ensures { result ≡ is_marked_done placed.now looks.now row }
 {
@@ -105,6 +128,7 @@ fn are_marked_done(placed: &[bool], looks: &[u64], rows: &[u64]) -> bool
 }
 
 // Whether what the unit was made from is placed.
+#[inline(always)]
 fn has_marked_base<W: Words>(
     closed: &Closed<W>,
     found: &Found,
@@ -129,6 +153,7 @@ fn has_marked_base<W: Words>(
 }
 
 /// Whether the bucket row is not placed, and what it was made from is.
+#[inline(always)]
 pub(crate) fn is_due<W: Words>(
     closed: &Closed<W>,
     found: &Found,
@@ -142,6 +167,7 @@ pub(crate) fn is_due<W: Words>(
 }
 
 /// Whether the next version has no calls, and what it was made from is placed.
+#[inline(always)]
 pub(crate) fn is_version_due<W: Words>(
     closed: &Closed<W>,
     found: &Found,
@@ -151,10 +177,11 @@ pub(crate) fn is_version_due<W: Words>(
         found.now progress.now }
 {
     let unit = Unit::Version(progress.latest);
-    is_free(found, unit) && has_marked_base(closed, found, progress, unit)
+    has_marked_base(closed, found, progress, unit) && is_free(found, unit)
 }
 
 // Whether all calls that were seen are placed.
+#[inline(always)]
 fn has_come(count: &[u32; MOST_SEATS], seen: &Seen) -> bool
     ensures { result ≡ has_come count.now seen.now.counts }
 {
@@ -167,6 +194,7 @@ fn has_come(count: &[u32; MOST_SEATS], seen: &Seen) -> bool
 }
 
 // Whether the seat's call at this place is one of the unit.
+#[inline(always)]
 fn is_of_unit(found: &Found, unit: Unit, seat: usize, at: usize) -> bool
     ensures { result ≡ option_map_or (is_unit unit) (unit_in found.now seat at) false }
 {
@@ -177,6 +205,7 @@ fn is_of_unit(found: &Found, unit: Unit, seat: usize, at: usize) -> bool
 }
 
 // Whether all that the caller of the seat's call at this place had seen is placed.
+#[inline(always)]
 fn saw_placed<W: Words>(
     closed: &Closed<W>,
     count: &[u32; MOST_SEATS],
@@ -193,6 +222,7 @@ fn saw_placed<W: Words>(
 }
 
 // Whether the other seat's next call is one of the unit, and may come next.
+#[inline(always)]
 fn is_next_in<W: Words>(
     closed: &Closed<W>,
     found: &Found,
@@ -209,22 +239,26 @@ fn is_next_in<W: Words>(
 }
 
 // Whether the unit has no call of the other seat, or that call may come next.
+#[inline(always)]
 fn is_none_or_next<W: Words>(
     closed: &Closed<W>,
     found: &Found,
     count: &[u32; MOST_SEATS],
+    callers: &[bool; MOST_SEATS],
     seat: usize,
     unit: Unit,
     other: usize,
 ) -> bool
-    requires { other < MOST_SEATS }
+    requires other { other < MOST_SEATS }
+    requires callers { slice_index_or callers.now other false ≡ has_call_in found.now unit seat other }
     ensures { result ≡ is_none_or_next (map (λ log. log.items) closed.now.logs.now) closed.now.begun.now
         found.now count.now seat unit other }
 {
-    !has_call_in(found, unit, seat, other) || is_next_in(closed, found, count, unit, other)
+    !callers[other] || is_next_in(closed, found, count, unit, other)
 }
 
 // Whether so it is with each call of the unit.
+#[inline(always)]
 fn are_next_in<W: Words>(
     closed: &Closed<W>,
     found: &Found,
@@ -235,8 +269,9 @@ fn are_next_in<W: Words>(
     ensures { result ≡ are_next_in (map (λ log. log.items) closed.now.logs.now) closed.now.begun.now
         found.now count.now seat unit }
 {
+    let callers = callers_of(found, unit, seat);
     for other in 0..MOST_SEATS {
-        if !is_none_or_next(closed, found, count, seat, unit, other) {
+        if !is_none_or_next(closed, found, count, &callers, seat, unit, other) {
             return false;
         }
     }
@@ -244,6 +279,7 @@ fn are_next_in<W: Words>(
 }
 
 // Whether what the unit of the seat's next call was made from is placed.
+#[inline(always)]
 fn has_base_in<W: Words>(
     closed: &Closed<W>,
     found: &Found,
@@ -266,6 +302,7 @@ fn has_base_in<W: Words>(
 }
 
 /// Whether the unit of the seat's next call may be placed.
+#[inline(always)]
 pub(crate) fn is_ready_in<W: Words>(
     closed: &Closed<W>,
     found: &Found,

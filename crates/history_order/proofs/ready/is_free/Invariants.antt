@@ -7,5 +7,5 @@ use Rattle.history_order.proofs.ready.is_free.Given as goal
 
 abbrev pub invariant-loop-seat : goal.invariant-loop-seat
 invariant-loop-seat l =
-    list_all (λ seat. not (has_call_in l.found l.unit 0 seat)) (range_with_len l.seat (MOST_SEATS - l.seat))
-    ≡ is_free l.found l.unit
+    list_all (λ seat. not (has_call_in l.found l.fn.unit 0 seat)) (range_with_len l.seat (MOST_SEATS - l.seat))
+    ≡ is_free l.found l.fn.unit
