@@ -206,18 +206,20 @@ short_asked service calls logs asked =
     (λ log few. omega (arith, few, length-map log asked_in, few_answers log)) logs
     (unmap_all L f logs (subst (All L) (sym asked) shares))
 
--- nor are lists that have their records
-pub short_items : (service : Service) (calls : List (ℕ × Call)) (logs : List (List Outcome))
-    (records : List (Vec Record Global)) (limit : ℕ) →
-    map (λ (log : List Outcome). map asked_in log) logs ≡ shares_of service calls → length calls < limit →
-    map (λ (log : Vec Record Global). log.items) records ≡ map records_in logs →
-    All (λ (log : Vec Record Global). vec_len log < limit) records
-short_items service calls logs records limit asked few is =
-    let L : List Record → Type 0 = λ (log : List Record). length log ≤ length calls in
-    let all : All L (map records_in logs) = All-map L records_in logs (short_asked service calls logs asked) in
-    All-weaker (λ (log : Vec Record Global). length log.items ≤ length calls)
-    (λ (log : Vec Record Global). vec_len log < limit) (λ log less. omega (arith, less, few, log.ok.0)) records
-    (unmap_all L (λ (log : Vec Record Global). log.items) records (subst (All L) (sym is) all))
+-- whole logs neither
+pub short_logs : (service : Service) (calls : List (ℕ × Call)) (logs : List (Vec Outcome Global)) (limit : ℕ) →
+    map (λ (log : List Outcome). map asked_in log) (map (λ (log : Vec Outcome Global). log.items) logs)
+    ≡ shares_of service calls → length calls < limit →
+    All (λ (log : Vec Outcome Global). vec_len log < limit) logs
+short_logs service calls logs limit asked few =
+    let item : Vec Outcome Global → List Outcome = λ (log : Vec Outcome Global). log.items in
+    let L : List (ℕ × Call) → Type 0 = λ (s : List (ℕ × Call)). length s ≤ length calls in
+    let f : List Outcome → List (ℕ × Call) = λ (log : List Outcome). map asked_in log in
+    let M : List Outcome → Type 0 = λ (log : List Outcome). length (map asked_in log) ≤ length calls in
+    let shares : All L (shares_of service calls) = dealt_few service.share service.settings.seats calls in
+    All-weaker (λ (log : Vec Outcome Global). M log.items) (λ (log : Vec Outcome Global). vec_len log < limit)
+    (λ log less. omega (arith, less, few, length-map log.items asked_in, log.ok.0)) logs
+    (unmap_all M item logs (unmap_all L f (map item logs) (subst (All L) (sym asked) shares)))
 
 pub short_records : (service : Service) (batch : Served) → IsServed service batch →
     All (λ (log : List Record). length log ≤ length batch.calls) (map records_in batch.logs)

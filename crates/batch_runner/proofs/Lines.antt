@@ -4,6 +4,7 @@ use Rattle.std.specs.Prelude.{flat_map, OnErr, Result, Ok, Err}
 use Rattle.std.proofs.lemmas.Grind.{flat_map-append}
 use Rattle.std.proofs.lemmas.List.{take_more}
 use Rattle.std.proofs.lemmas.List.Folds.{flat_map-map}
+use Rattle.plain_map.specs.declared.records.CallId.{CallId}
 use Rattle.plain_map.specs.History.{ids_of}
 use Rattle.trace_share.specs.declared.outcome.Outcome.{Outcome}
 use Rattle.report_text.specs.Report.{batch_lines, order_lines, outcome_line}
@@ -11,7 +12,7 @@ use Rattle.batch_runner.specs.declared.service.Service.{Service}
 use Rattle.batch_runner.specs.declared.batch.Batch.{Batch}
 use Rattle.batch_runner.specs.Served.{Served, order_in}
 use Rattle.batch_runner.specs.Printed.{lines_of, outcome_on}
-use Rattle.batch_runner.specs.Told.{IsToldBy}
+use Rattle.batch_runner.specs.Told.{IsOrderOf, IsToldBy}
 
 -- the line of an outcome
 abbrev pub line_on : (seats : ℕ) (before : List ℕ) → ℕ × Outcome → List ℕ
@@ -30,13 +31,13 @@ lines_more seats before xs i x start inside is =
     ∙ sym (append_assoc start (flat_map (line_on seats before) (take i xs)) (line_on seats before x))
 
 -- all of them are those of the batch
-pub lines_are : (seats : ℕ) (before : List ℕ) (service : Service) (served : Served) (batch : Batch) →
-    IsToldBy service served batch →
-    flat_map (line_on seats before) batch.outcomes.items ++ order_lines batch.order.items
+pub lines_are : (seats : ℕ) (before : List ℕ) (service : Service) (served : Served) (batch : Batch)
+    (order : List CallId) → IsToldBy service served batch → IsOrderOf service served order →
+    flat_map (line_on seats before) batch.outcomes.items ++ order_lines order
     ≡ batch_lines seats (lines_of service before served)
 unfolding batch_lines
-lines_are seats before service served batch told =
-    (λ i. flat_map (line_on seats before) (told.outcomes i) ++ order_lines (told.order i))
+lines_are seats before service served batch order told stands =
+    (λ i. flat_map (line_on seats before) (told.outcomes i) ++ order_lines (stands i))
     ∙ ap (λ (ls : List ℕ). ls ++ order_lines (ids_of (order_in service served)))
     (sym (flat_map-map (λ (o : ℕ × Outcome). outcome_line seats o.0 o.1)
     (λ (o : ℕ × Outcome). (o.0, outcome_on before o.1)) served.outcomes))

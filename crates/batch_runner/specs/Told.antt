@@ -1,21 +1,59 @@
 -- What is told of a batch.
-use Rattle.std.specs.Prelude.{◌≡◌, ℕ, ◌<◌, length, map, slice_index}
+use Rattle.std.specs.Prelude.{◌≡◌, ℕ, ◌<◌, ◌≤◌, List, [], length, map, slice_index}
+use Rattle.plain_map.specs.declared.calls.Call.{Call}
+use Rattle.plain_map.specs.declared.keys.Pair.{Pair}
+use Rattle.plain_map.specs.declared.records.CallId.{CallId}
 use Rattle.plain_map.specs.History.{ids_of}
+use Rattle.core_model.specs.Closed.{closed_depth}
+use Rattle.history_order.specs.Closing.{IsOfARun}
+use Rattle.shared_table.specs.Values.{ClosedValue}
 use Rattle.trace_share.specs.declared.outcome.Outcome.{Outcome}
 use Rattle.trace_share.specs.declared.outcome.Outcome.TheVariants.{Answered, Refused}
-use Rattle.trace_share.specs.Outcomes.{records_in}
+use Rattle.trace_share.specs.Outcomes.{asked_in, records_in}
 use Rattle.batch_runner.specs.declared.service.Service.{Service}
 use Rattle.batch_runner.specs.declared.batch.Batch.{Batch}
-use Rattle.batch_runner.specs.Served.{Served, depth_in, leaves_in, order_in}
+use Rattle.batch_runner.specs.Served.{IsOfRun, Served, depth_in, leaves_in, order_in, setup_in, shares_of}
 
 -- this is what the batch came to
 pub record IsToldBy (service : Service) (served : Served) (batch : Batch) : Type 0 where
   pub outcomes : batch.outcomes.items ≡ served.outcomes
   pub answered : batch.answered.items ≡ map (λ log. length (records_in log)) served.logs
-  pub order : batch.order.items ≡ ids_of (order_in service served)
   pub pairs : batch.pairs.items ≡ served.pairs
   pub leaves : batch.leaves ≡ length (leaves_in service served)
   pub depth : batch.depth ≡ depth_in service served
+
+-- this is the order of its answered calls
+abbrev pub IsOrderOf : Service → Served → List CallId → Type 0
+IsOrderOf service served order = order ≡ ids_of (order_in service served)
+
+-- the table of a batch is closed, with these words, and the calls of its seats came to these logs
+pub record IsClosedBatch (service : Service) (first : List Pair) (calls : List (ℕ × Call)) (closed : ClosedValue)
+    (logs : List (List Outcome)) : Type 0 where
+  pub shape_is : closed.shape ≡ (setup_in service first calls).shape
+  pub asked : map (map asked_in) logs ≡ shares_of service calls
+  -- they are what a run of the table leaves, whatever is told of it
+  pub of_run : (outcomes : List (ℕ × Outcome)) (pairs : List Pair) → IsOfRun service (record {
+    first = first;
+    calls = calls;
+    logs = logs;
+    words = closed.words;
+    outcomes = outcomes;
+    pairs = pairs;
+  })
+  pub of_a_run : IsOfARun closed.shape closed.words (map records_in logs) []
+  pub shallow : closed_depth closed.shape closed.words ≤ service.settings.depth
+
+-- a batch of which this is told
+abbrev pub served_with :
+    (first : List Pair) (calls : List (ℕ × Call)) (logs : List (List Outcome)) (words : List ℕ) → Batch → Served
+served_with first calls logs words batch = record {
+  first = first;
+  calls = calls;
+  logs = logs;
+  words = words;
+  outcomes = batch.outcomes.items;
+  pairs = batch.pairs.items;
+}
 
 -- an answered call's number, and all counts that its caller had seen, are below this
 abbrev pub HasCounts : (limit : ℕ) → Outcome → Type 0

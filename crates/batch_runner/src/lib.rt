@@ -9,13 +9,15 @@ mod service;
 mod text;
 mod totals;
 mod workers;
+mod workspace;
 
-pub use batch::{Batch, serve_batch};
+pub use batch::{Batch, serve_batch, try_batch};
 pub use counts::go_on;
 pub use laws::served_laws;
 pub use service::Service;
 pub use text::batch_text;
 pub use totals::{Replies, Totals};
+pub use workspace::Workspace;
 
 #[cfg(test)]
 mod tests;

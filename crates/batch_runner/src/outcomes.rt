@@ -63,14 +63,28 @@ fn answered_in(alloc: Global, log: &[Outcome]) -> Result<Vec<Record>, AllocError
     Ok(records)
 }
 
-/// How many of each log there are.
-pub(crate) fn counts_of(alloc: Global, logs: &[Vec<Record>]) -> Result<Vec<u32>, AllocError>
+/// How many of each log were answered.
+pub(crate) fn counts_of(alloc: Global, logs: &[Vec<Outcome>]) -> Result<Vec<u32>, AllocError>
     requires few { All (λ log. vec_len log < 2 ^ 32) logs.now }
-    ensures { IfOk result (λ counts. counts.items ≡ map (λ log. length log.items) logs.now) }
+    ensures { IfOk result (λ counts. counts.items ≡ map (λ log. length (records_in log.items)) logs.now) }
 {
     let mut counts = Vec::with_capacity(alloc, logs.len())?;
     for log in logs {
-        counts.push(log.len() as u32)?;
+        counts.push(count_in(log))?;
     }
     Ok(counts)
+}
+
+// How many of these were answered.
+fn count_in(log: &[Outcome]) -> u32
+    requires few { length log.now < 2 ^ 32 }
+    ensures { result ≡ length (records_in log.now) }
+{
+    let mut count = 0;
+    for outcome in log {
+        if let Outcome::Answered(_) = outcome {
+            count += 1;
+        }
+    }
+    count
 }

@@ -13,11 +13,10 @@ mod crowds;
 mod meetings;
 mod rows;
 
-use crate::{Batch, Service, batch_text, go_on, serve_batch};
+use crate::{Batch, Service, Workspace, batch_text, go_on, serve_batch};
 use edge_traits::OpenGate;
 use hash_bits::Hashing;
 use plain_map::{Call, Key, MOST_SEATS, Pair};
-use shared_table::Blank;
 use std::alloc::{AllocError, Global};
 use std::thread::Threads;
 use step_counts::Settings;
@@ -112,9 +111,9 @@ pub(crate) fn put_batch<R: Threads + Sync>(
     ensures most { OnOk result (All (λ count. count ≤ most + 2 ^ 16) before.new) }
 {
     let calls = calls_of(alloc, frames)?;
-    let mut blank = Blank::new(alloc);
-    let batch = serve_batch(rt, alloc, service, &mut blank, first, &calls, &OpenGate)?;
-    batch_text(alloc, out, service.settings.seats, before, &batch)?;
+    let mut workspace = Workspace::new(alloc);
+    let (batch, order) = serve_batch(rt, alloc, service, &mut workspace, first, &calls, &OpenGate)?;
+    batch_text(alloc, out, service.settings.seats, before, &batch, &order)?;
     go_on(before, &batch);
     Ok(batch)
 }

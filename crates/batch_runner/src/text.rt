@@ -8,17 +8,17 @@ ghost use Rattle.batch_rows.specs.declared.rows.TheConstants.{CALL_LIMIT};
 ghost use Rattle.batch_orders.specs.Batches.{gone_on, seen_on};
 ghost use Rattle.batch_runner.specs.Served.{Served};
 ghost use Rattle.batch_runner.specs.Printed.{BEFORE_LIMIT, lines_of, outcome_on};
-ghost use Rattle.batch_runner.specs.Told.{HasCounts, IsToldBy};
+ghost use Rattle.batch_runner.specs.Told.{HasCounts, IsOrderOf, IsToldBy};
 ghost use Rattle.batch_runner.specs.declared.service.Service.{Service};
 
 use crate::batch::Batch;
 use crate::counts::put_counts;
-use plain_map::{MOST_SEATS, Record, Seen};
+use plain_map::{CallId, MOST_SEATS, Record, Seen};
 use report_text::{order_text, outcome_text};
 use std::alloc::{AllocError, Global};
 use trace_share::Outcome;
 
-/// Appends the lines of a batch, before which the seats had answered so many calls. After want of memory the text is
+/// Appends the lines of a batch and of its order, before which the seats had answered so many calls. After want of memory the text is
 /// what it was.
 pub fn batch_text(
     alloc: Global,
@@ -26,17 +26,18 @@ pub fn batch_text(
     seats: u32,
     before: &[u32; MOST_SEATS],
     batch: &Batch,
+    order: &[CallId],
 ) -> Result<(), AllocError>
     requires seats { seats ≤ 8 }
     requires texts { All (λ o. HasText (key_in (call_in o.1))) batch.now.outcomes.items }
     requires counted { All (λ o. HasCounts CALL_LIMIT o.1) batch.now.outcomes.items }
     requires before { All (λ count. count ≤ BEFORE_LIMIT) before.now }
     ensures appended { OnOk result ((service : Service) (served : Served) → IsToldBy service served batch.now →
-        out.new.items ≡ out.old.items ++ batch_lines seats (lines_of service before.now served)) }
+        IsOrderOf service served order.now → out.new.items ≡ out.old.items ++ batch_lines seats (lines_of service before.now served)) }
     ensures kept { OnErr result (out.new.items ≡ out.old.items) }
 {
     let start = out.len();
-    if let Err(failed) = put_lines(alloc, out, seats, before, batch) {
+    if let Err(failed) = put_lines(alloc, out, seats, before, batch, order) {
         out.truncate(start);
         return Err(failed);
     }
@@ -50,6 +51,7 @@ fn put_lines(
     seats: u32,
     before: &[u32; MOST_SEATS],
     batch: &Batch,
+    order: &[CallId],
 ) -> Result<(), AllocError>
     requires seats { seats ≤ 8 }
     requires texts { All (λ o. HasText (key_in (call_in o.1))) batch.now.outcomes.items }
@@ -57,11 +59,11 @@ fn put_lines(
     requires before { All (λ count. count ≤ BEFORE_LIMIT) before.now }
     ensures appended { OnOk result (out.new.items ≡ out.old.items
         ++ (flat_map (λ o. outcome_line seats o.0 (outcome_on before.now o.1)) batch.now.outcomes.items
-        ++ order_lines batch.now.order.items)) }
+        ++ order_lines order.now)) }
     ensures begun { OnErr result ((lines : List ℕ) × (out.new.items ≡ out.old.items ++ lines)) }
 {
     outcomes_text(alloc, out, seats, before, &batch.outcomes)?;
-    order_text(alloc, out, &batch.order)
+    order_text(alloc, out, order)
 }
 
 // Appends the lines of the calls. After want of memory some may stand there.

@@ -16,12 +16,11 @@ ghost use Rattle.trace_runner.specs.declared.intake.TheConstants.{BATCH, PACKET_
 
 use crate::progress::Progress;
 use crate::stop::Stop;
-use batch_runner::{Service, served_laws};
+use batch_runner::{Service, Workspace, served_laws};
 use command_line::Plan;
 use edge_traits::{Failed, Gate, Sink, write_all};
 use plain_map::{Call, Pair, session_laws};
 use report_text::{Ending, Head, Tail, session_text, tail_text};
-use shared_table::Blank;
 use std::alloc::{AllocError, Global};
 use std::thread::Threads;
 use step_counts::bound;
@@ -45,7 +44,7 @@ pub(crate) fn serve_part<R: Threads + Sync, K: Sink, G: Gate + Sync>(
     alloc: Global,
     service: &Service,
     progress: &mut Progress,
-    blank: &mut Blank,
+    workspace: &mut Workspace,
     calls: &[(u32, Call)],
     gate: &G,
     text: &mut Vec<u8>,
@@ -75,7 +74,7 @@ pub(crate) fn serve_part<R: Threads + Sync, K: Sink, G: Gate + Sync>(
     ensures counted { K.faults sink.old ≤ K.faults sink.new }
     ensures calls { OnOk result (progress.new.totals.calls ≡ progress.old.totals.calls + length calls.now) }
 {
-    progress.serve(rt, alloc, service, blank, calls, gate, text)?;
+    progress.serve(rt, alloc, service, workspace, calls, gate, text)?;
     put(sink, text)?;
     Ok(())
 }

@@ -11,10 +11,9 @@ ghost use Rattle.batch_runner.specs.Printed.{lines_of};
 ghost use Rattle.batch_runner.specs.Told.{IsToldBy};
 ghost use Rattle.trace_runner.specs.declared.intake.TheConstants.{BATCH, PACKET_LIMIT};
 
-use batch_runner::{Batch, Service, Totals, batch_text, go_on, serve_batch};
+use batch_runner::{Batch, Service, Totals, Workspace, batch_text, go_on, serve_batch, try_batch};
 use edge_traits::Gate;
 use plain_map::{Call, MOST_SEATS, Pair};
-use shared_table::Blank;
 use std::alloc::{AllocError, Global};
 use std::thread::Threads;
 
@@ -55,7 +54,7 @@ impl Progress {
         rt: &R,
         alloc: Global,
         service: &Service,
-        blank: &mut Blank,
+        workspace: &mut Workspace,
         calls: &[(u32, Call)],
         gate: &G,
         text: &mut Vec<u8>,
@@ -72,8 +71,15 @@ impl Progress {
             (lines_of service.now self.old.before served))) }
         ensures counted { OnOk result (self.new.totals.calls ≡ self.old.totals.calls + length calls.now) }
     {
-        let batch = serve_batch(rt, alloc, service, blank, &self.pairs, calls, gate)?;
-        batch_text(alloc, text, service.settings.seats, &self.before, &batch)?;
+        let (batch, order) = serve_batch(rt, alloc, service, workspace, &self.pairs, calls, gate)?;
+        batch_text(
+            alloc,
+            text,
+            service.settings.seats,
+            &self.before,
+            &batch,
+            &order,
+        )?;
         self.keep(service, calls, batch);
         Ok(())
     }
@@ -84,7 +90,7 @@ impl Progress {
         rt: &R,
         alloc: Global,
         service: &Service,
-        blank: &mut Blank,
+        workspace: &mut Workspace,
         calls: &[(u32, Call)],
         gate: &G,
     ) -> Result<(), AllocError>
@@ -100,7 +106,7 @@ impl Progress {
         ensures going { OnOk result (IsGoing service.now self.new) }
         ensures counted { OnOk result (self.new.totals.calls ≡ self.old.totals.calls + length calls.now) }
     {
-        let batch = serve_batch(rt, alloc, service, blank, &self.pairs, calls, gate)?;
+        let batch = try_batch(rt, alloc, service, workspace, &self.pairs, calls, gate)?;
         self.keep(service, calls, batch);
         Ok(())
     }

@@ -23,13 +23,12 @@ use crate::printing::{finish, head_of, serve_part};
 use crate::progress::Progress;
 use crate::status::Status;
 use crate::stop::Stop;
-use batch_runner::Service;
+use batch_runner::{Service, Workspace};
 use command_line::Plan;
 use edge_traits::{Gate, Sink, Source};
 use pcap_reader::Reader;
 use plain_map::Call;
 use report_text::{Ending, head_text};
-use shared_table::Blank;
 use std::alloc::Global;
 use std::thread::Threads;
 use step_counts::Settings;
@@ -120,7 +119,7 @@ fn serve_none<R: Threads + Sync, K: Sink, G: Gate + Sync>(
     ensures counted { K.faults sink.old ≤ K.faults sink.new }
 {
     let mut progress = Progress::new(alloc);
-    let mut blank = Blank::new(alloc);
+    let mut workspace = Workspace::new(alloc);
     let calls = Vec::new(alloc);
     let part = Last {
         before: 0,
@@ -132,7 +131,7 @@ fn serve_none<R: Threads + Sync, K: Sink, G: Gate + Sync>(
         alloc,
         service,
         &mut progress,
-        &mut blank,
+        &mut workspace,
         part,
         &calls,
         text,
@@ -164,7 +163,7 @@ fn serve_packets<R: Threads + Sync, S: Source, K: Sink, G: Gate + Sync>(
 {
     serving_laws();
     let mut progress = Progress::new(alloc);
-    let mut blank = Blank::new(alloc);
+    let mut workspace = Workspace::new(alloc);
     let mut calls = Vec::with_capacity(alloc, BATCH as usize)?;
     let mut packets = 0;
     'batches: loop {
@@ -182,7 +181,7 @@ fn serve_packets<R: Threads + Sync, S: Source, K: Sink, G: Gate + Sync>(
                     alloc,
                     service,
                     &mut progress,
-                    &mut blank,
+                    &mut workspace,
                     last,
                     &calls,
                     text,
@@ -196,7 +195,7 @@ fn serve_packets<R: Threads + Sync, S: Source, K: Sink, G: Gate + Sync>(
                     alloc,
                     service,
                     &mut progress,
-                    &mut blank,
+                    &mut workspace,
                     &calls,
                     gate,
                     text,
@@ -224,7 +223,7 @@ fn serve_last<R: Threads + Sync, K: Sink, G: Gate + Sync>(
     alloc: Global,
     service: &Service,
     progress: &mut Progress,
-    blank: &mut Blank,
+    workspace: &mut Workspace,
     last: Last,
     calls: &[(u32, Call)],
     text: &mut Vec<u8>,
@@ -250,7 +249,9 @@ fn serve_last<R: Threads + Sync, K: Sink, G: Gate + Sync>(
     if last.packets == 0 && last.before > 0 {
         return end_run(alloc, service, progress, packets, last.ending, text, sink);
     }
-    match serve_part(rt, alloc, service, progress, blank, calls, gate, text, sink) {
+    match serve_part(
+        rt, alloc, service, progress, workspace, calls, gate, text, sink,
+    ) {
         Ok(()) => end_run(alloc, service, progress, packets, last.ending, text, sink),
         Err(stop) => Err(stop),
     }

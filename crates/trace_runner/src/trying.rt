@@ -18,14 +18,13 @@ use crate::laws::serving_laws;
 use crate::progress::Progress;
 use crate::serving::service_of;
 use crate::status::Status;
-use batch_runner::Service;
+use batch_runner::{Service, Workspace};
 use command_line::Plan;
 use edge_traits::{Failed, Gate, Sink, Source, write_all};
 use hash_bits::Hashing;
 use pcap_reader::{MadeSource, Reader, made_capture_law, one_capture};
 use plain_map::Call;
 use report_text::{Ending, Trial, trial_text};
-use shared_table::Blank;
 use std::alloc::{AllocError, Global};
 use std::thread::Threads;
 
@@ -102,7 +101,7 @@ fn try_packets<R: Threads + Sync, S: Source, G: Gate + Sync>(
         Rose (S.faults source.old) (S.faults source.new)) }
 {
     let mut progress = Progress::new(alloc);
-    let mut blank = Blank::new(alloc);
+    let mut workspace = Workspace::new(alloc);
     let mut calls = Vec::with_capacity(alloc, BATCH as usize)?;
     let mut packets = 0;
     'batches: loop {
@@ -112,14 +111,21 @@ fn try_packets<R: Threads + Sync, S: Source, G: Gate + Sync>(
             Some(ending) => {
                 let numbers = (packets, part.packets);
                 match try_last(
-                    rt, alloc, service, progress, &mut blank, numbers, &calls, gate,
+                    rt,
+                    alloc,
+                    service,
+                    progress,
+                    &mut workspace,
+                    numbers,
+                    &calls,
+                    gate,
                 ) {
                     Ok(progress) => return Ok(Tried { progress, ending }),
                     Err(memory) => return Err(memory),
                 }
             }
             None => {
-                progress.try_calls(rt, alloc, service, &mut blank, &calls, gate)?;
+                progress.try_calls(rt, alloc, service, &mut workspace, &calls, gate)?;
                 packets += part.packets;
             }
         }
@@ -132,7 +138,7 @@ fn try_last<R: Threads + Sync, G: Gate + Sync>(
     alloc: Global,
     service: &Service,
     progress: Progress,
-    blank: &mut Blank,
+    workspace: &mut Workspace,
     numbers: (u32, u32),
     calls: &[(u32, Call)],
     gate: &G,
@@ -153,7 +159,7 @@ fn try_last<R: Threads + Sync, G: Gate + Sync>(
     if numbers.1 == 0 && numbers.0 > 0 {
         return Ok(progress);
     }
-    match progress.try_calls(rt, alloc, service, blank, calls, gate) {
+    match progress.try_calls(rt, alloc, service, workspace, calls, gate) {
         Ok(()) => Ok(progress),
         Err(memory) => Err(memory),
     }

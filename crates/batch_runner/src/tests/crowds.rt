@@ -8,10 +8,9 @@ ghost use Rattle.word_rows.specs.Shape.{AreBelow};
 use super::Frame::{Ack, Fin, Syn};
 use super::meetings::serve_frames;
 use super::{Frame, calls_of, service_of};
-use crate::{Batch, Service, serve_batch};
+use crate::{Batch, Service, Workspace, serve_batch};
 use edge_traits::OpenGate;
 use plain_map::{CallId, PlainMap, Record, Rules};
-use shared_table::Blank;
 use std::alloc::{AllocError, Global};
 use std::test::Fail;
 use std::thread::Threads;
@@ -77,12 +76,18 @@ impl Checker {
     }
 
     // Whether each call of a batch stands once and rightly, and the pairs of the plain map are left.
-    fn follows(&mut self, rules: &Rules, batch: &Batch, first: u32) -> Result<bool, AllocError>
+    fn follows(
+        &mut self,
+        rules: &Rules,
+        batch: &Batch,
+        order: &[CallId],
+        first: u32,
+    ) -> Result<bool, AllocError>
         requires { InRange rules.now }
     {
         self.stood = [0; 8];
-        let mut right = batch.order.len() == batch.outcomes.len();
-        for id in &batch.order {
+        let mut right = order.len() == batch.outcomes.len();
+        for id in order {
             let Some(made) = record_at(batch, first, id.packet) else {
                 return Ok(false);
             };
@@ -117,16 +122,22 @@ fn are_right<R: Threads + Sync>(
         map: PlainMap::new(alloc),
         stood: [0; 8],
     };
-    let one = serve_frames(rt, alloc, service, &frames_of(alloc, 1, count)?, &OpenGate)?;
-    let first = checker.follows(&rules, &one, 1)?;
+    let (one, order) = serve_frames(rt, alloc, service, &frames_of(alloc, 1, count)?, &OpenGate)?;
+    let first = checker.follows(&rules, &one, &order, 1)?;
 
     let later = u32::from(count) + 1;
     let calls = calls_of(alloc, &frames_of(alloc, later, count)?)?;
-    let mut blank = Blank::new(alloc);
-    let two = serve_batch(
-        rt, alloc, service, &mut blank, &one.pairs, &calls, &OpenGate,
+    let mut workspace = Workspace::new(alloc);
+    let (two, order) = serve_batch(
+        rt,
+        alloc,
+        service,
+        &mut workspace,
+        &one.pairs,
+        &calls,
+        &OpenGate,
     )?;
-    Ok(checker.follows(&rules, &two, later)? && first)
+    Ok(checker.follows(&rules, &two, &order, later)? && first)
 }
 
 #[test]

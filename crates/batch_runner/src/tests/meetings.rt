@@ -7,10 +7,9 @@ ghost use Rattle.batch_runner.specs.Served.{CanOpen, rules_of};
 
 use super::Frame::Syn;
 use super::{Frame, calls_of, service_of};
-use crate::{Batch, Service, serve_batch};
+use crate::{Batch, Service, Workspace, serve_batch};
 use edge_traits::{Gate, OpenGate};
-use plain_map::{Full, FullKind, Reply};
-use shared_table::Blank;
+use plain_map::{CallId, Full, FullKind, Reply};
 use std::alloc::{AllocError, Global};
 use std::sync::atomic::AtomicU64;
 use std::sync::atomic::Ordering::SeqCst;
@@ -52,17 +51,17 @@ pub(super) fn serve_frames<R: Threads + Sync, G: Gate + Sync>(
     service: &Service,
     frames: &[(u32, Frame)],
     gate: &G,
-) -> Result<Batch, AllocError>
+) -> Result<(Batch, Vec<CallId>), AllocError>
     requires given { ForSome service.now.rows (AreBelow (2 ^ 32)) }
     requires few { length frames.now < 2 ^ 16 }
-    ensures { IfOk result (λ batch. CanOpen (rules_of service.now) batch.pairs.items) }
+    ensures { IfOk result (λ told. CanOpen (rules_of service.now) told.0.pairs.items) }
 {
     let calls = calls_of(alloc, frames)?;
     serve_batch(
         rt,
         alloc,
         service,
-        &mut Blank::new(alloc),
+        &mut Workspace::new(alloc),
         &[],
         &calls,
         gate,
@@ -100,7 +99,7 @@ fn two_seats_meet(rt: HostRuntime) -> Result<(), Fail> {
         arrived: AtomicU64::new(0),
         late: AtomicU64::new(0),
     };
-    let batch = serve_frames(
+    let (batch, _order) = serve_frames(
         &rt,
         rt.alloc(),
         &service,
@@ -131,7 +130,7 @@ fn five_calls_are_shared(rt: HostRuntime) -> Result<(), Fail> {
         let Some(service) = service_of(2, 4, 3, 0, share) else {
             panic!(&rt; "settings in range");
         };
-        let batch = serve_frames(&rt, rt.alloc(), &service, &FIVE, &OpenGate)?;
+        let (batch, _order) = serve_frames(&rt, rt.alloc(), &service, &FIVE, &OpenGate)?;
         let seats = seats_of(rt.alloc(), &batch)?;
         assert_eq!(rt; seats.len(), 5);
         for (seat, own) in seats.iter().zip(&wanted) {
@@ -166,7 +165,7 @@ fn rows_run_out(rt: HostRuntime) -> Result<(), Fail> {
             ..open
         };
         assert!(rt; are_small(&service.rows));
-        let batch = serve_frames(
+        let (batch, _order) = serve_frames(
             &rt,
             rt.alloc(),
             &service,

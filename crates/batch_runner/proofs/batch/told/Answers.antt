@@ -1,0 +1,49 @@
+use Rattle.std.proofs.Common.{◌≡◌, ℕ, ◌^◌, ◌<◌, List, Vec, Global, length, map, refl, sym, ap, ◌∙◌, subst, arith}
+use Rattle.std.specs.Prelude.{IsPermutation}
+use Rattle.std.proofs.lemmas.List.{length-map}
+use Rattle.std.proofs.lemmas.Simd.{map-map}
+use Rattle.plain_map.specs.declared.calls.Call.{Call}
+use Rattle.word_rows.specs.Shape.{Shape}
+use Rattle.closed_words.specs.Views.{as_leaf}
+use Rattle.core_model.specs.Closed.{closed_depth, closed_leaves, closed_pairs}
+use Rattle.trace_share.specs.declared.outcome.Outcome.{Outcome}
+use Rattle.trace_share.specs.Outcomes.{records_in}
+use Rattle.batch_runner.specs.declared.service.Service.{Service}
+use Rattle.batch_runner.proofs.Counted.{short_logs}
+use Rattle.batch_runner.proofs.batch.told.Goals as goal
+
+pub outcomes_of-requires-clause-logs : goal.outcomes_of-requires-clause-logs
+outcomes_of-requires-clause-logs c = c.requires.closed.asked
+
+pub counts_of-requires : goal.counts_of-requires
+counts_of-requires c =
+    let few : length c.args.calls.now < 2 ^ 32 = omega (arith, c.requires.few) in
+    record { few = short_logs c.args.service.now c.args.calls.now c.args.logs.now (2 ^ 32) c.requires.closed.asked few }
+
+pub overflow_cast-result : goal.overflow_cast-result
+overflow_cast-result c =
+    omega (arith, c.depth.ensures, c.requires.closed.shallow, c.args.service.now.settings.depth_in_range.1)
+
+pub returns-clause-served : goal.returns-clause-served
+returns-clause-served c = record {
+  of_run = c.requires.closed.of_run c.in_ok-outcomes_of.field-0.items c.in_ok-pairs.field-0.items;
+  outcomes = c.in_ok-outcomes_of.ensures;
+  left = subst (λ (s : Shape). IsPermutation (closed_pairs s c.args.closed.now.words) c.in_ok-pairs.field-0.items)
+      c.requires.closed.shape_is c.in_ok-pairs.ensures.held;
+  sorted = c.in_ok-pairs.ensures.sorted;
+}
+
+pub returns-clause-told : goal.returns-clause-told
+returns-clause-told c =
+    let words : List ℕ = c.args.closed.now.words in
+    let item : Vec Outcome Global → List Outcome = λ (log : Vec Outcome Global). log.items in
+    record {
+      outcomes = refl;
+      answered = c.in_ok-counts_of.ensures
+          ∙ sym (map-map (λ (log : List Outcome). length (records_in log)) item c.args.logs.now);
+      pairs = refl;
+      leaves = c.len.ensures ∙ c.in_ok-leaves.field-0.ok.0
+          ∙ sym (length-map c.in_ok-leaves.field-0.items as_leaf) ∙ ap length c.in_ok-leaves.ensures
+          ∙ ap (λ (s : Shape). length (closed_leaves s words)) c.requires.closed.shape_is;
+      depth = c.depth.ensures ∙ ap (λ (s : Shape). closed_depth s words) c.requires.closed.shape_is;
+    }
