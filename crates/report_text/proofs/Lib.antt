@@ -1,3 +1,4 @@
 pub mod LineLemmas
 pub mod ReportLemmas
 pub mod OrderLemmas
+mod WrittenLemmas

@@ -1,9 +1,10 @@
 -- How a line of the report is spelled: words with one space between, ended by one line feed.
 -- Source: docs/FORMATS.md, the report. A text is the list of its ASCII codes, and a number is decimal.
-use Rattle.std.specs.Prelude.{◌≡◌, ℕ, ◌/◌, ◌%◌, false, List, [], ◌∷◌, ◌++◌, ◌-◌, Vec, vec_len, vec_capacity, codes, decimal, flat_map, take}
-use Rattle.std.specs.declared.alloc.Global.{Global}
+use Rattle.std.specs.Prelude.{◌≡◌, ℕ, ◌/◌, ◌%◌, false, List, [], ◌∷◌, ◌++◌, ◌-◌, codes, decimal, flat_map, take}
 use Rattle.std.specs.List.{join_by}
 use Rattle.std.specs.Fmt.{digit_glyph}
+use Rattle.report_text.specs.declared.line.Line.{Line}
+use Rattle.report_text.specs.declared.line.TheConstants.{LINE_ROOM}
 
 -- each word after a space
 unfoldable pub spaced : List (List ℕ) → List ℕ
@@ -34,6 +35,10 @@ counts_word n counts = join_by decimal (codes ",") (take n counts)
 unfoldable pub hexadecimal : List ℕ → List ℕ
 hexadecimal bytes = flat_map (λ byte. digit_glyph false (byte / 16) ∷ digit_glyph false (byte % 16) ∷ []) bytes
 
--- how many more bytes a text takes before it has to grow
-unfoldable pub room : Vec ℕ Global → ℕ
-room text = vec_capacity text - vec_len text
+-- the text of a line that is being written
+unfoldable pub text_in : Line → List ℕ
+text_in line = take line.length line.bytes
+
+-- how many more bytes it takes
+unfoldable pub room : Line → ℕ
+room line = LINE_ROOM - line.length

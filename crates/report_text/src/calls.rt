@@ -6,18 +6,16 @@ ghost use Rattle.flow_keys.specs.FlowText.{HasText};
 ghost use Rattle.plain_map.specs.Calls.{key_in};
 ghost use Rattle.trace_share.specs.declared.outcome.Outcome.TheVariants.{Answered, Refused};
 ghost use Rattle.report_text.specs.Report.{after_words, call_in, call_words, full_words, outcome_line, pending_line, reply_words, short_word, steps_words, value_in, verb_word};
-ghost use Rattle.report_text.specs.Lines.{room, Puts};
+ghost use Rattle.report_text.specs.Lines.{room, Puts, text_in};
 
+use crate::line::Line;
 use crate::pieces::{
-    begin_line, end_line, make_room, put_digits, put_named, put_number, put_text, put_word,
+    append, begin_line, end_line, put_digits, put_named, put_number, put_text, put_word,
 };
 use flow_keys::key_text;
 use plain_map::{Call, Full, FullKind, Pending, Record, Reply, Seen};
 use std::alloc::{AllocError, Global};
 use trace_share::Outcome;
-
-// At least the length of a call's line.
-const LINE_ROOM: usize = 384;
 
 /// Appends the line of a call: its caller's seat, and how the call ended.
 ///
@@ -34,12 +32,14 @@ pub fn outcome_text(
     ensures appended { OnOk result (out.new.items ≡ out.old.items ++ outcome_line seats seat outcome.now) }
     ensures kept { OnErr result (out.new.items ≡ out.old.items) }
 {
-    make_room(out, LINE_ROOM)?;
+    let mut line = Line::new();
     match outcome {
-        Outcome::Answered(answer) => put_answered(out, seats, seat, answer),
-        Outcome::Refused { packet, call, full } => put_refused(out, *packet, seat, call, full),
+        Outcome::Answered(answer) => put_answered(&mut line, seats, seat, answer),
+        Outcome::Refused { packet, call, full } => {
+            put_refused(&mut line, *packet, seat, call, full);
+        }
     }
-    Ok(())
+    append(out, &line)
 }
 
 /// Appends the line of a call that had begun and was not answered.
@@ -56,17 +56,17 @@ pub fn pending_text(
     ensures appended { OnOk result (out.new.items ≡ out.old.items ++ pending_line seats pending.now) }
     ensures kept { OnErr result (out.new.items ≡ out.old.items) }
 {
-    make_room(out, LINE_ROOM)?;
-    put_pending(out, seats, pending);
-    Ok(())
+    let mut line = Line::new();
+    put_pending(&mut line, seats, pending);
+    append(out, &line)
 }
 
 // Appends the line of a pending call.
-fn put_pending(out: &mut Vec<u8>, seats: u32, pending: &Pending)
+fn put_pending(out: &mut Line, seats: u32, pending: &Pending)
     requires seats { seats ≤ 8 }
     requires key { HasText (key_in pending.now.call) }
     requires space { 384 ≤ room out.old }
-    ensures { out.new.items ≡ out.old.items ++ pending_line seats pending.now }
+    ensures { text_in out.new ≡ text_in out.old ++ pending_line seats pending.now }
 {
     begin_line(out, b"pending");
     put_call(out, pending.packet, pending.seat, &pending.call);
@@ -75,11 +75,11 @@ fn put_pending(out: &mut Vec<u8>, seats: u32, pending: &Pending)
 }
 
 // Appends the line of an answered call.
-fn put_answered(out: &mut Vec<u8>, seats: u32, seat: u32, answer: &Record)
+fn put_answered(out: &mut Line, seats: u32, seat: u32, answer: &Record)
     requires seats { seats ≤ 8 }
     requires key { HasText (key_in answer.now.call) }
     requires space { 384 ≤ room out.old }
-    ensures { out.new.items ≡ out.old.items ++ outcome_line seats seat (Answered answer.now) }
+    ensures { text_in out.new ≡ text_in out.old ++ outcome_line seats seat (Answered answer.now) }
 {
     begin_line(out, b"call");
     put_call(out, answer.packet, seat, &answer.call);
@@ -90,10 +90,10 @@ fn put_answered(out: &mut Vec<u8>, seats: u32, seat: u32, answer: &Record)
 }
 
 // Appends the line of a refused call.
-fn put_refused(out: &mut Vec<u8>, packet: u32, seat: u32, call: &Call, full: &Full)
+fn put_refused(out: &mut Line, packet: u32, seat: u32, call: &Call, full: &Full)
     requires key { HasText (key_in call.now) }
     requires space { 384 ≤ room out.old }
-    ensures { (seats : ℕ) → out.new.items ≡ out.old.items
+    ensures { (seats : ℕ) → text_in out.new ≡ text_in out.old
         ++ outcome_line seats seat (Refused packet call.now full.now) }
 {
     begin_line(out, b"call");
@@ -106,10 +106,10 @@ fn put_refused(out: &mut Vec<u8>, packet: u32, seat: u32, call: &Call, full: &Fu
 }
 
 // Appends which call it is.
-fn put_call(out: &mut Vec<u8>, packet: u32, seat: u32, call: &Call)
+fn put_call(out: &mut Line, packet: u32, seat: u32, call: &Call)
     requires key { HasText (key_in call.now) }
     requires space { 90 ≤ room out.old }
-    ensures puts { Puts out.old.items (call_words packet seat call.now) out.new.items }
+    ensures puts { Puts (text_in out.old) (call_words packet seat call.now) (text_in out.new) }
     ensures taken { room out.old ≤ room out.new + 90 }
 {
     put_number(out, packet);
@@ -132,9 +132,9 @@ fn verb_word(call: &Call) -> &'static [u8]
 }
 
 // Appends the reply to a call.
-fn put_reply(out: &mut Vec<u8>, call: &Call, reply: Reply)
+fn put_reply(out: &mut Line, call: &Call, reply: Reply)
     requires { 27 ≤ room out.old }
-    ensures puts { Puts out.old.items (reply_words call.now reply) out.new.items }
+    ensures puts { Puts (text_in out.old) (reply_words call.now reply) (text_in out.new) }
     ensures taken { room out.old ≤ room out.new + 27 }
 {
     match reply {
@@ -158,9 +158,9 @@ fn value_in(call: &Call) -> u64
 }
 
 // Appends how many steps a call took, where it took any.
-fn put_steps(out: &mut Vec<u8>, steps: u64)
+fn put_steps(out: &mut Line, steps: u64)
     requires { 27 ≤ room out.old }
-    ensures puts { Puts out.old.items (steps_words steps) out.new.items }
+    ensures puts { Puts (text_in out.old) (steps_words steps) (text_in out.new) }
     ensures taken { room out.old ≤ room out.new + 27 }
 {
     if steps != 0 {
@@ -169,10 +169,10 @@ fn put_steps(out: &mut Vec<u8>, steps: u64)
 }
 
 // Appends what a call saw as it began.
-fn put_after(out: &mut Vec<u8>, seats: u32, seen: &Seen)
+fn put_after(out: &mut Line, seats: u32, seen: &Seen)
     requires seats { seats ≤ 8 }
     requires space { 103 ≤ room out.old }
-    ensures puts { Puts out.old.items (after_words seats seen.now) out.new.items }
+    ensures puts { Puts (text_in out.old) (after_words seats seen.now) (text_in out.new) }
     ensures taken { room out.old ≤ room out.new + 103 }
 {
     put_word(out, b"after");
@@ -181,10 +181,10 @@ fn put_after(out: &mut Vec<u8>, seats: u32, seen: &Seen)
 }
 
 // Appends numbers with commas between.
-fn put_counts(out: &mut Vec<u8>, counts: &[u32])
+fn put_counts(out: &mut Line, counts: &[u32])
     requires few { length counts.now ≤ 8 }
     requires space { 88 ≤ room out.old }
-    ensures appended { out.new.items ≡ out.old.items ++ join_by decimal (codes ",") counts.now }
+    ensures appended { text_in out.new ≡ text_in out.old ++ join_by decimal (codes ",") counts.now }
     ensures taken { room out.old ≤ room out.new + 88 }
 {
     if let Some((first, others)) = counts.split_first() {

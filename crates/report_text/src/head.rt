@@ -2,31 +2,29 @@
 
 ghost use Rattle.std.specs.Prelude.{◌≡◌, ◌+◌, ◌≤◌, ◌++◌, length, OnOk, OnErr};
 ghost use Rattle.report_text.specs.Report.{head_line, hash_words, mode_word, share_word};
-ghost use Rattle.report_text.specs.Lines.{room, Puts};
+ghost use Rattle.report_text.specs.Lines.{room, Puts, text_in};
 
+use crate::line::Line;
 use crate::parts::Head;
-use crate::pieces::{begin_line, end_line, make_room, put_named, put_word};
+use crate::pieces::{append, begin_line, end_line, put_named, put_word};
 use hash_bits::Hashing;
 use std::alloc::{AllocError, Global};
 use trace_share::Share;
-
-// At least the length of the head line.
-const LINE_ROOM: usize = 256;
 
 /// Appends the head line.
 pub fn head_text(_alloc: Global, out: &mut Vec<u8>, head: &Head) -> Result<(), AllocError>
     ensures appended { OnOk result (out.new.items ≡ out.old.items ++ head_line head.now) }
     ensures kept { OnErr result (out.new.items ≡ out.old.items) }
 {
-    make_room(out, LINE_ROOM)?;
-    put_head(out, head);
-    Ok(())
+    let mut line = Line::new();
+    put_head(&mut line, head);
+    append(out, &line)
 }
 
 // Appends the head line.
-fn put_head(out: &mut Vec<u8>, head: &Head)
+fn put_head(out: &mut Line, head: &Head)
     requires { 256 ≤ room out.old }
-    ensures { out.new.items ≡ out.old.items ++ head_line head.now }
+    ensures { text_in out.new ≡ text_in out.old ++ head_line head.now }
 {
     begin_line(out, b"flowdir");
     put_word(out, mode_word(head.play));
@@ -62,9 +60,9 @@ fn share_word(share: Share) -> &'static [u8]
 }
 
 // Appends the hash and its seed.
-fn put_hashing(out: &mut Vec<u8>, hashing: Hashing)
+fn put_hashing(out: &mut Line, hashing: Hashing)
     requires { 40 ≤ room out.old }
-    ensures puts { Puts out.old.items (hash_words hashing) out.new.items }
+    ensures puts { Puts (text_in out.old) (hash_words hashing) (text_in out.new) }
     ensures taken { room out.old ≤ room out.new + 40 }
 {
     match hashing {

@@ -3,6 +3,7 @@
 
 mod calls;
 mod head;
+mod line;
 mod order;
 mod parts;
 mod pieces;

@@ -2,17 +2,15 @@
 
 ghost use Rattle.std.specs.Prelude.{◌≡◌, ◌+◌, ◌*◌, ◌≤◌, ◌++◌, decimal, length, map, OnOk, OnErr};
 ghost use Rattle.report_text.specs.Report.{order_line, order_lines};
-ghost use Rattle.report_text.specs.Lines.{room, Puts};
+ghost use Rattle.report_text.specs.Lines.{room, Puts, text_in};
 
-use crate::pieces::{begin_line, end_line, make_room, put_number};
+use crate::line::Line;
+use crate::pieces::{append, begin_line, end_line, put_number};
 use plain_map::CallId;
 use std::alloc::{AllocError, Global};
 
 // How many packet numbers a line has at most.
 const ORDER_WIDTH: usize = 16;
-
-// At least the length of a line of an order.
-const LINE_ROOM: usize = 192;
 
 /// Appends the lines of an order, and none where it is empty.
 pub fn order_text(_alloc: Global, out: &mut Vec<u8>, order: &[CallId]) -> Result<(), AllocError>
@@ -21,20 +19,21 @@ pub fn order_text(_alloc: Global, out: &mut Vec<u8>, order: &[CallId]) -> Result
 {
     let start = out.len();
     for ids in order.chunks(ORDER_WIDTH) {
-        if make_room(out, LINE_ROOM).is_err() {
+        let mut line = Line::new();
+        put_order(&mut line, ids);
+        if let Err(failed) = append(out, &line) {
             out.truncate(start);
-            return Err(AllocError);
+            return Err(failed);
         }
-        put_order(out, ids);
     }
     Ok(())
 }
 
 // Appends one line of an order.
-fn put_order(out: &mut Vec<u8>, ids: &[CallId])
+fn put_order(out: &mut Line, ids: &[CallId])
     requires few { length ids.now ≤ 16 }
     requires space { 192 ≤ room out.old }
-    ensures { out.new.items ≡ out.old.items ++ order_line ids.now }
+    ensures { text_in out.new ≡ text_in out.old ++ order_line ids.now }
 {
     begin_line(out, b"order");
     put_packets(out, ids);
@@ -42,10 +41,10 @@ fn put_order(out: &mut Vec<u8>, ids: &[CallId])
 }
 
 // Appends the packet numbers of calls.
-fn put_packets(out: &mut Vec<u8>, ids: &[CallId])
+fn put_packets(out: &mut Line, ids: &[CallId])
     requires few { length ids.now ≤ 16 }
     requires space { 176 ≤ room out.old }
-    ensures puts { Puts out.old.items (map (λ id. decimal id.packet) ids.now) out.new.items }
+    ensures puts { Puts (text_in out.old) (map (λ id. decimal id.packet) ids.now) (text_in out.new) }
     ensures taken { room out.old ≤ room out.new + 176 }
 {
     for id in ids {

@@ -1,42 +1,74 @@
-//! The pieces of a line. Room for whole lines is made before them, so that no piece takes memory.
+//! The pieces of a line. No piece takes memory.
 
-ghost use Rattle.std.specs.Prelude.{◌≡◌, ◌+◌, ◌≤◌, [], ◌∷◌, ◌++◌, length, OnOk};
-ghost use Rattle.report_text.specs.Lines.{room, Begins, Ends, Puts};
+ghost use Rattle.std.specs.Prelude.{◌≡◌, ◌+◌, ◌≤◌, [], ◌∷◌, ◌++◌, decimal, length, OnOk, OnErr};
+ghost use Rattle.report_text.specs.Lines.{room, text_in, Begins, Ends, Puts};
 
-use itoa::{Buffer, Integer};
+use crate::line::Line;
+use itoa::Integer;
 use std::alloc::AllocError;
 
-/// Makes room for this many more bytes.
-#[tactic(auto, unfolding(crate::specs::Lines::room))]
-pub fn make_room(out: &mut Vec<u8>, bytes: usize) -> Result<(), AllocError>
-    ensures made { OnOk result (bytes ≤ room out.new) }
-    ensures kept { out.new.items ≡ out.old.items }
+/// A number whose text is what `decimal` says.
+pub trait Number: Integer {
+    /// The number in 64 bits.
+    fn wide(self) -> u64
+        ensures text { Self.text self ≡ decimal result }
+        ensures short { length (Self.text self) ≤ Self.MAX_STR_LEN };
+}
+
+impl Number for u16 {
+    #[inline(always)]
+    fn wide(self) -> u64 {
+        u64::from(self)
+    }
+}
+
+impl Number for u32 {
+    #[inline(always)]
+    fn wide(self) -> u64 {
+        u64::from(self)
+    }
+}
+
+impl Number for u64 {
+    #[inline(always)]
+    fn wide(self) -> u64 {
+        self
+    }
+}
+
+/// Appends a text to another. The only error is want of memory, after which that is as it was.
+pub fn append(out: &mut Vec<u8>, line: &Line) -> Result<(), AllocError>
+    ensures appended { OnOk result (out.new.items ≡ out.old.items ++ text_in line.now) }
+    ensures kept { OnErr result (out.new.items ≡ out.old.items) }
 {
-    out.reserve(bytes)
+    out.extend_from_slice(line.as_bytes())
 }
 
 /// Begins a line with its first word.
-pub fn begin_line(out: &mut Vec<u8>, first: &[u8])
+#[inline(always)]
+pub fn begin_line(out: &mut Line, first: &[u8])
     requires { length first.now ≤ room out.old }
-    ensures begins { Begins out.old.items first.now out.new.items }
+    ensures begins { Begins (text_in out.old) first.now (text_in out.new) }
     ensures taken { room out.old ≤ room out.new + length first.now }
 {
     put_text(out, first);
 }
 
 /// Ends a line.
-pub fn end_line(out: &mut Vec<u8>)
+#[inline(always)]
+pub fn end_line(out: &mut Line)
     requires { 1 ≤ room out.old }
-    ensures ends { Ends out.old.items out.new.items }
+    ensures ends { Ends (text_in out.old) (text_in out.new) }
     ensures taken { room out.old ≤ room out.new + 1 }
 {
     put_text(out, b"\n");
 }
 
 /// Appends a word.
-pub fn put_word(out: &mut Vec<u8>, word: &[u8])
+#[inline(always)]
+pub fn put_word(out: &mut Line, word: &[u8])
     requires { length word.now + 1 ≤ room out.old }
-    ensures puts { Puts out.old.items (word.now ∷ []) out.new.items }
+    ensures puts { Puts (text_in out.old) (word.now ∷ []) (text_in out.new) }
     ensures taken { room out.old ≤ room out.new + length word.now + 1 }
 {
     put_text(out, b" ");
@@ -44,19 +76,21 @@ pub fn put_word(out: &mut Vec<u8>, word: &[u8])
 }
 
 /// Appends a number as a word.
-pub fn put_number<I: Integer>(out: &mut Vec<u8>, number: I)
+#[inline(always)]
+pub fn put_number<I: Number>(out: &mut Line, number: I)
     requires { I.MAX_STR_LEN + 1 ≤ room out.old }
-    ensures puts { Puts out.old.items (I.text number ∷ []) out.new.items }
+    ensures puts { Puts (text_in out.old) (I.text number ∷ []) (text_in out.new) }
     ensures taken { room out.old ≤ room out.new + I.MAX_STR_LEN + 1 }
 {
-    let mut buffer = Buffer::new();
-    put_word(out, buffer.format(number).as_bytes());
+    put_text(out, b" ");
+    put_digits(out, number);
 }
 
 /// Appends a name and a number.
-pub fn put_named<I: Integer>(out: &mut Vec<u8>, name: &[u8], number: I)
+#[inline(always)]
+pub fn put_named<I: Number>(out: &mut Line, name: &[u8], number: I)
     requires { length name.now + I.MAX_STR_LEN + 2 ≤ room out.old }
-    ensures puts { Puts out.old.items (name.now ∷ I.text number ∷ []) out.new.items }
+    ensures puts { Puts (text_in out.old) (name.now ∷ I.text number ∷ []) (text_in out.new) }
     ensures taken { room out.old ≤ room out.new + length name.now + I.MAX_STR_LEN + 2 }
 {
     put_word(out, name);
@@ -64,21 +98,21 @@ pub fn put_named<I: Integer>(out: &mut Vec<u8>, name: &[u8], number: I)
 }
 
 /// Appends the digits of a number.
-pub fn put_digits<I: Integer>(out: &mut Vec<u8>, number: I)
+#[inline(always)]
+pub fn put_digits<I: Number>(out: &mut Line, number: I)
     requires { I.MAX_STR_LEN ≤ room out.old }
-    ensures appended { out.new.items ≡ out.old.items ++ I.text number }
+    ensures appended { text_in out.new ≡ text_in out.old ++ I.text number }
     ensures taken { room out.old ≤ room out.new + I.MAX_STR_LEN }
 {
-    let mut buffer = Buffer::new();
-    put_text(out, buffer.format(number).as_bytes());
+    out.put_digits(number.wide());
 }
 
 /// Appends the text.
-#[tactic(auto, unfolding(crate::specs::Lines::room))]
-pub fn put_text(out: &mut Vec<u8>, text: &[u8])
+#[inline(always)]
+pub fn put_text(out: &mut Line, text: &[u8])
     requires { length text.now ≤ room out.old }
-    ensures appended { out.new.items ≡ out.old.items ++ text.now }
+    ensures appended { text_in out.new ≡ text_in out.old ++ text.now }
     ensures taken { room out.old ≤ room out.new + length text.now }
 {
-    let _room_is_there = out.extend_from_slice(text);
+    out.put(text);
 }

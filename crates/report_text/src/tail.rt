@@ -3,17 +3,15 @@
 ghost use Rattle.std.specs.Prelude.{◌≡◌, ◌+◌, ◌<◌, ◌≤◌, false, [], ◌∷◌, ◌++◌, codes, decimal, length, OnOk, OnErr};
 ghost use Rattle.std.specs.Fmt.{digit_glyph};
 ghost use Rattle.report_text.specs.Report.{count_line, ending_words, fault_words, input_line, leaves_line, steps_line, tail_lines, IsEnding, IsFormatFault};
-ghost use Rattle.report_text.specs.Lines.{hexadecimal, room, Puts};
+ghost use Rattle.report_text.specs.Lines.{hexadecimal, room, Puts, text_in};
 
+use crate::line::Line;
 use crate::parts::{Ending, Tail};
 use crate::pieces::{
-    begin_line, end_line, make_room, put_digits, put_named, put_number, put_text, put_word,
+    append, begin_line, end_line, put_digits, put_named, put_number, put_text, put_word,
 };
 use pcap_reader::CaptureFault;
 use std::alloc::{AllocError, Global};
-
-// At least the length of the last lines.
-const TAIL_ROOM: usize = 512;
 
 // The digits of numbers below 16.
 const HEX_DIGITS: &[u8; 16] = b"0123456789abcdef";
@@ -27,7 +25,17 @@ pub fn tail_text(_alloc: Global, out: &mut Vec<u8>, tail: &Tail) -> Result<(), A
     ensures appended { OnOk result (out.new.items ≡ out.old.items ++ tail_lines tail.now) }
     ensures kept { OnErr result (out.new.items ≡ out.old.items) }
 {
-    make_room(out, TAIL_ROOM)?;
+    let mut lines = Line::new();
+    put_tail(&mut lines, tail);
+    append(out, &lines)
+}
+
+// Appends the last lines.
+fn put_tail(out: &mut Line, tail: &Tail)
+    requires format { IsEnding tail.now.ending }
+    requires space { 512 ≤ room out.old }
+    ensures { text_in out.new ≡ text_in out.old ++ tail_lines tail.now }
+{
     if tail.bound == 0 {
         put_input(out, &tail.ending);
         put_count(out, tail);
@@ -37,13 +45,12 @@ pub fn tail_text(_alloc: Global, out: &mut Vec<u8>, tail: &Tail) -> Result<(), A
         put_count(out, tail);
         put_steps(out, tail);
     }
-    Ok(())
 }
 
 // Appends how many leaves the last table has.
-fn put_leaves(out: &mut Vec<u8>, tail: &Tail)
+fn put_leaves(out: &mut Line, tail: &Tail)
     requires { 46 ≤ room out.old }
-    ensures appended { out.new.items ≡ out.old.items ++ leaves_line tail.now }
+    ensures appended { text_in out.new ≡ text_in out.old ++ leaves_line tail.now }
     ensures taken { room out.old ≤ room out.new + 46 }
 {
     begin_line(out, b"leaves");
@@ -53,10 +60,10 @@ fn put_leaves(out: &mut Vec<u8>, tail: &Tail)
 }
 
 // Appends how the input came to its end.
-fn put_input(out: &mut Vec<u8>, ending: &Ending)
+fn put_input(out: &mut Line, ending: &Ending)
     requires format { IsEnding ending.now }
     requires space { 74 ≤ room out.old }
-    ensures appended { out.new.items ≡ out.old.items ++ input_line ending.now }
+    ensures appended { text_in out.new ≡ text_in out.old ++ input_line ending.now }
     ensures taken { room out.old ≤ room out.new + 74 }
 {
     begin_line(out, b"input");
@@ -65,10 +72,10 @@ fn put_input(out: &mut Vec<u8>, ending: &Ending)
 }
 
 // Appends the kind of an ending, and what is to be told of it.
-fn put_ending(out: &mut Vec<u8>, ending: &Ending)
+fn put_ending(out: &mut Line, ending: &Ending)
     requires format { IsEnding ending.now }
     requires space { 68 ≤ room out.old }
-    ensures puts { Puts out.old.items (ending_words ending.now) out.new.items }
+    ensures puts { Puts (text_in out.old) (ending_words ending.now) (text_in out.new) }
     ensures taken { room out.old ≤ room out.new + 68 }
 {
     match ending {
@@ -86,10 +93,10 @@ fn put_ending(out: &mut Vec<u8>, ending: &Ending)
 }
 
 // Appends a fault of a capture's format: its name, where it is, and what was found.
-fn put_fault(out: &mut Vec<u8>, fault: &CaptureFault)
+fn put_fault(out: &mut Line, fault: &CaptureFault)
     requires format { IsFormatFault fault.now }
     requires space { 62 ≤ room out.old }
-    ensures puts { Puts out.old.items (fault_words fault.now) out.new.items }
+    ensures puts { Puts (text_in out.old) (fault_words fault.now) (text_in out.new) }
     ensures taken { room out.old ≤ room out.new + 62 }
 {
     match fault {
@@ -119,9 +126,9 @@ fn put_fault(out: &mut Vec<u8>, fault: &CaptureFault)
 }
 
 // Appends the name of a fault and its place in the file, and says that something was found there.
-fn put_place(out: &mut Vec<u8>, name: &[u8], offset: u64)
+fn put_place(out: &mut Line, name: &[u8], offset: u64)
     requires { length name.now + 31 ≤ room out.old }
-    ensures puts { Puts out.old.items (name.now ∷ codes "at" ∷ decimal offset ∷ codes "found" ∷ []) out.new.items }
+    ensures puts { Puts (text_in out.old) (name.now ∷ codes "at" ∷ decimal offset ∷ codes "found" ∷ []) (text_in out.new) }
     ensures taken { room out.old ≤ room out.new + length name.now + 31 }
 {
     put_word(out, name);
@@ -130,9 +137,9 @@ fn put_place(out: &mut Vec<u8>, name: &[u8], offset: u64)
 }
 
 // Appends a version.
-fn put_version(out: &mut Vec<u8>, major: u16, minor: u16)
+fn put_version(out: &mut Line, major: u16, minor: u16)
     requires { 12 ≤ room out.old }
-    ensures puts { Puts out.old.items ((decimal major ++ (codes "." ++ decimal minor)) ∷ []) out.new.items }
+    ensures puts { Puts (text_in out.old) ((decimal major ++ (codes "." ++ decimal minor)) ∷ []) (text_in out.new) }
     ensures taken { room out.old ≤ room out.new + 12 }
 {
     put_text(out, b" ");
@@ -142,9 +149,9 @@ fn put_version(out: &mut Vec<u8>, major: u16, minor: u16)
 }
 
 // Appends bytes in hexadecimal digits, as a word.
-fn put_hexadecimal(out: &mut Vec<u8>, bytes: &[u8; 4])
+fn put_hexadecimal(out: &mut Line, bytes: &[u8; 4])
     requires { 9 ≤ room out.old }
-    ensures puts { Puts out.old.items (hexadecimal bytes.now ∷ []) out.new.items }
+    ensures puts { Puts (text_in out.old) (hexadecimal bytes.now ∷ []) (text_in out.new) }
     ensures taken { room out.old ≤ room out.new + 9 }
 {
     put_text(out, b" ");
@@ -153,10 +160,10 @@ fn put_hexadecimal(out: &mut Vec<u8>, bytes: &[u8; 4])
 
 // Appends two hexadecimal digits for each byte.
 #[tactic(auto, unfolding(crate::specs::Lines::hexadecimal))]
-fn put_pairs(out: &mut Vec<u8>, bytes: &[u8])
+fn put_pairs(out: &mut Line, bytes: &[u8])
     requires few { length bytes.now ≤ 4 }
     requires space { 8 ≤ room out.old }
-    ensures appended { out.new.items ≡ out.old.items ++ hexadecimal bytes.now }
+    ensures appended { text_in out.new ≡ text_in out.old ++ hexadecimal bytes.now }
     ensures taken { room out.old ≤ room out.new + 8 }
 {
     for byte in bytes {
@@ -173,9 +180,9 @@ fn hex_digit(value: u8) -> u8
 }
 
 // Appends the counts of packets and calls.
-fn put_count(out: &mut Vec<u8>, tail: &Tail)
+fn put_count(out: &mut Line, tail: &Tail)
     requires { 184 ≤ room out.old }
-    ensures appended { out.new.items ≡ out.old.items ++ count_line tail.now }
+    ensures appended { text_in out.new ≡ text_in out.old ++ count_line tail.now }
     ensures taken { room out.old ≤ room out.new + 184 }
 {
     begin_line(out, b"count");
@@ -189,9 +196,9 @@ fn put_count(out: &mut Vec<u8>, tail: &Tail)
 }
 
 // Appends the greatest numbers of steps.
-fn put_steps(out: &mut Vec<u8>, tail: &Tail)
+fn put_steps(out: &mut Line, tail: &Tail)
     requires { 90 ≤ room out.old }
-    ensures { out.new.items ≡ out.old.items ++ steps_line tail.now }
+    ensures { text_in out.new ≡ text_in out.old ++ steps_line tail.now }
 {
     begin_line(out, b"steps");
     put_named(out, b"update", tail.update);

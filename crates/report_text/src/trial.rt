@@ -2,13 +2,11 @@
 
 ghost use Rattle.std.specs.Prelude.{◌≡◌, ◌+◌, ◌≤◌, ◌++◌, OnOk, OnErr};
 ghost use Rattle.report_text.specs.Trials.{answers_line, sessions_line, trial_line, trial_lines};
-ghost use Rattle.report_text.specs.Lines.{room};
+ghost use Rattle.report_text.specs.Lines.{room, text_in};
 
-use crate::pieces::{begin_line, end_line, make_room, put_named, put_number, put_word};
+use crate::line::Line;
+use crate::pieces::{append, begin_line, end_line, put_named, put_number, put_word};
 use std::alloc::{AllocError, Global};
-
-// At least the length of the lines of a trial.
-const TRIAL_ROOM: usize = 512;
 
 /// What a trial tells: its settings, how the calls of the made capture were answered, and what is left.
 #[derive(Clone, Copy, Debug, PartialEq, Eq)]
@@ -40,17 +38,17 @@ pub fn trial_text(_alloc: Global, out: &mut Vec<u8>, trial: &Trial) -> Result<()
     ensures appended { OnOk result (out.new.items ≡ out.old.items ++ trial_lines trial.now) }
     ensures kept { OnErr result (out.new.items ≡ out.old.items) }
 {
-    make_room(out, TRIAL_ROOM)?;
-    put_trial(out, trial);
-    put_answers(out, trial);
-    put_sessions(out, trial);
-    Ok(())
+    let mut lines = Line::new();
+    put_trial(&mut lines, trial);
+    put_answers(&mut lines, trial);
+    put_sessions(&mut lines, trial);
+    append(out, &lines)
 }
 
 // Appends the settings of a trial.
-fn put_trial(out: &mut Vec<u8>, trial: &Trial)
+fn put_trial(out: &mut Line, trial: &Trial)
     requires { 165 ≤ room out.old }
-    ensures appended { out.new.items ≡ out.old.items ++ trial_line trial.now }
+    ensures appended { text_in out.new ≡ text_in out.old ++ trial_line trial.now }
     ensures taken { room out.old ≤ room out.new + 165 }
 {
     begin_line(out, b"flowdir");
@@ -66,9 +64,9 @@ fn put_trial(out: &mut Vec<u8>, trial: &Trial)
 }
 
 // Appends how the calls were answered.
-fn put_answers(out: &mut Vec<u8>, trial: &Trial)
+fn put_answers(out: &mut Line, trial: &Trial)
     requires { 212 ≤ room out.old }
-    ensures appended { out.new.items ≡ out.old.items ++ answers_line trial.now }
+    ensures appended { text_in out.new ≡ text_in out.old ++ answers_line trial.now }
     ensures taken { room out.old ≤ room out.new + 212 }
 {
     begin_line(out, b"calls");
@@ -84,9 +82,9 @@ fn put_answers(out: &mut Vec<u8>, trial: &Trial)
 }
 
 // Appends how many sessions are left.
-fn put_sessions(out: &mut Vec<u8>, trial: &Trial)
+fn put_sessions(out: &mut Line, trial: &Trial)
     requires { 30 ≤ room out.old }
-    ensures { out.new.items ≡ out.old.items ++ sessions_line trial.now }
+    ensures { text_in out.new ≡ text_in out.old ++ sessions_line trial.now }
 {
     begin_line(out, b"sessions");
     put_number(out, trial.sessions);

@@ -1,3 +1,4 @@
+use Rattle.report_text.specs.Lines.{text_in}
 use Rattle.report_text.specs.Report.{steps_words}
 use Rattle.report_text.proofs.LineLemmas.{puts_none}
 use Rattle.report_text.proofs.ReportLemmas.{steps_words_some}
@@ -9,4 +10,4 @@ returns-then-steps-ne0-clause-puts c =
 
 pub returns-else-steps-ne0-clause-puts : goal.returns-else-steps-ne0-clause-puts
 unfolding steps_words
-returns-else-steps-ne0-clause-puts c = rw c.if-steps-ne0.false (puts_none c.args.out.now.items)
+returns-else-steps-ne0-clause-puts c = rw c.if-steps-ne0.false (puts_none (text_in c.args.out.now))

@@ -6,11 +6,14 @@ use Rattle.report_text.proofs.OrderLemmas.{front_more, order_more, order_lines_n
 use Rattle.report_text.proofs.order.order_text.Goals as goal
 
 -- the text after a line is the text before it and the line
-line_put : (c : goal.After-put_order) → c.put_order.new.out.items ≡ c.loop-ids.out.items ++ order_line c.in-Some.ids.now
-line_put c = cc
+line_put : (c : goal.In_default) → c.append.new.out.items ≡ c.loop-ids.out.items ++ order_line c.in-Some.ids.now
+line_put c =
+    c.in_default.ensures.appended
+    ∙ ap (λ (text : List ℕ). c.loop-ids.out.items ++ text)
+    (c.put_order.ensures ∙ ap (λ (text : List ℕ). text ++ order_line c.in-Some.ids.now) c.new-line.ensures.empty)
 
 -- the line has 16 calls, or all that are left
-line_size : (c : goal.After-put_order) →
+line_size : (c : goal.In_default) →
     length c.in-Some.ids.now ≡ min 16 (length (chunks_rest c.loop-ids.ids-iterator))
 line_size c = rw c.loop-ids.invariant.width at c.in-Some.ensures.steps.1.1
 
