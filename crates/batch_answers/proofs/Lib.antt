@@ -1,3 +1,4 @@
 pub mod Served
+pub mod SeenCounts
 pub mod Answers
 pub mod Printed

@@ -4,7 +4,7 @@ use Rattle.std.specs.Prelude.{flat_map, IsPermutation}
 use Rattle.std.specs.FinMap.{empty}
 use Rattle.std.proofs.lemmas.List.Sorted.{IsPermutation-refl, IsPermutation-trans, IsPermutation-sym, IsPermutation-map, IsPermutation-append, IsPermutation-append_left}
 use Rattle.plain_map.specs.declared.keys.Pair.{Pair}
-use Rattle.plain_map.specs.History.{answered}
+use Rattle.plain_map.specs.History.{answered, Whole}
 use Rattle.core_model.specs.Closed.{sessions_with}
 use Rattle.core_placing.proofs.Lists.{flat_map_append}
 use Rattle.trace_share.specs.declared.outcome.Outcome.{Outcome}
@@ -15,9 +15,10 @@ use Rattle.batch_orders.proofs.OneOrder.{batches_are_one_order}
 use Rattle.batch_thread.proofs.Lines.{line_is_permuted}
 use Rattle.batch_runner.specs.declared.service.Service.{Service}
 use Rattle.batch_runner.specs.Served.{Served, AreServed, history_in, pairs_left, rules_of}
-use Rattle.batch_runner.specs.Printed.{all_lines, outcome_on}
+use Rattle.batch_runner.specs.Printed.{all_lines, answers_in, outcome_on}
 use Rattle.batch_runner.proofs.Rights.{all_in_order}
 use Rattle.batch_answers.specs.Answers.{printed_in, PrintedStandOnce}
+use Rattle.batch_answers.proofs.SeenCounts.{none_alike_lines}
 use Rattle.batch_answers.proofs.Served.{line_is}
 
 -- the records of outcomes whose numbers have gone on
@@ -58,13 +59,17 @@ printed_are service before first (batch ∷ batches) are =
     (printed_are service then batch.pairs batches are.2))
 
 pub printed_stand_once : PrintedStandOnce
-printed_stand_once service batches are =
+printed_stand_once service before batches none are =
     let histories = map (history_in service) batches in
     let printed = printed_in service [] batches in
     let one = batches_are_one_order (rules_of service) empty
     (sessions_with (rules_of service) (pairs_left [] batches)) histories (all_in_order service [] batches are) in
-    IsPermutation-trans (map answered printed ++ []) (map answered (all_records [] histories) ++ [])
+    let same : printed_in service before batches ≡ printed =
+    (λ i. answers_in (flat_map (λ lines. map (λ o. o.1) lines.outcomes)
+    (none_alike_lines service before [] batches none are i))) in
+    subst (λ rs. Whole rs [] (all_calls [] histories)) (sym same)
+    (IsPermutation-trans (map answered printed ++ []) (map answered (all_records [] histories) ++ [])
     (all_calls [] histories)
     (IsPermutation-append_left [] (map answered printed) (map answered (all_records [] histories))
     (IsPermutation-map answered printed (all_records [] histories)
-    (IsPermutation-sym (all_records [] histories) printed (printed_are service [] [] batches are)))) one.whole
+    (IsPermutation-sym (all_records [] histories) printed (printed_are service [] [] batches are)))) one.whole)

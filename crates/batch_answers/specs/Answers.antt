@@ -1,7 +1,7 @@
 -- What batches that were served are answered: with no rows given every call, and where no two seats share a key as one
 -- thread would.
 -- Source: this project's own.
-use Rattle.std.specs.Prelude.{◌≡◌, ℕ, ◌⊎◌, List, [], map, flat_map, None, All}
+use Rattle.std.specs.Prelude.{◌≡◌, ◌≤◌, ℕ, ◌⊎◌, List, [], length, map, flat_map, None, All}
 use Rattle.std.specs.FinMap.{empty}
 use Rattle.plain_map.specs.declared.calls.Call.{Call}
 use Rattle.plain_map.specs.declared.records.Record.{Record}
@@ -61,8 +61,13 @@ abbrev pub printed_in : Service → (before : List ℕ) → List Served → List
 printed_in service before batches =
     answers_in (flat_map (λ lines. map (λ o. o.1) lines.outcomes) (all_lines service before batches))
 
--- each of them stands once in the one order of all calls, and nothing else does
+-- no seat has answered a call: a count of 0 for each of at most eight seats
+abbrev pub AreNone : List ℕ → Type 0
+AreNone counts = (length counts ≤ 8) × All (λ count. count ≡ 0) counts
+
+-- Each of them, printed from no counts on, stands once in the one order of all calls, with its number and with all that
+-- its caller had seen, and nothing else does.
 abbrev pub PrintedStandOnce : Type 0
 PrintedStandOnce =
-    (service : Service) (batches : List Served) → AreServed service [] batches →
-    Whole (printed_in service [] batches) [] (all_calls [] (map (history_in service) batches))
+    (service : Service) (before : List ℕ) (batches : List Served) → AreNone before → AreServed service [] batches →
+    Whole (printed_in service before batches) [] (all_calls [] (map (history_in service) batches))

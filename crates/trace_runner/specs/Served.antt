@@ -27,13 +27,17 @@ pub record IsServiceOf (plan : Plan) (service : Service) : Type 0 where
   pub share : service.share ≡ plan.share
   pub rows : service.rows ≡ plan.rows
 
+-- what the counts that are printed begin with: no seat has answered a call
+abbrev pub no_counts : List ℕ
+no_counts = replicate 8 0
+
 -- What holds of batches that were served, whatever the interleaving.
 pub record IsPromised (service : Service) (batches : List Served) : Type 0 where
   -- One order of all calls is right: each stands after all that its caller had seen, with the plain map's reply. Steps
   -- are within the bound, and the leaves of each closed table cover all hashes and have their cause.
   pub right : AreRight service batches
-  -- each answered call, as it is printed, stands once in it, and nothing else does
-  pub once : Whole (printed_in service [] batches) [] (all_calls [] (map (history_in service) batches))
+  -- each answered call stands once in it as it is printed, with the counts of the lines, and nothing else does
+  pub once : Whole (printed_in service no_counts batches) [] (all_calls [] (map (history_in service) batches))
   -- where no rows are given each call has its answer
   pub answered : HasOwnRows service → map asked_of (all_answers batches) ≡ calls_in batches
   -- Where no two seats share a key and no class has more keys than it has room for, or where there is one seat, replies
@@ -66,10 +70,6 @@ head_of plan =
       hashing = plan.hashing;
       share = plan.share;
     }
-
--- no seat has answered a call
-abbrev pub no_counts : List ℕ
-no_counts = replicate 8 0
 
 -- how many leaves the last table has, and how deep its directory is
 abbrev pub leaves_left : Service → (found : ℕ) → List Served → ℕ

@@ -1,10 +1,18 @@
+use Rattle.std.proofs.Common.{◌≡◌, refl, arith}
+use Rattle.std.proofs.lemmas.List.Elements.{All-replicate}
+use Rattle.batch_answers.specs.Answers.{AreNone}
+use Rattle.trace_runner.specs.Served.{no_counts}
 use Rattle.trace_runner.proofs.laws.serving_laws.Goals as goal
+
+-- the printed counts begin with none
+counts_none : AreNone no_counts
+counts_none = (omega arith, All-replicate (λ count. count ≡ 0) 8 0 refl)
 
 pub returns : goal.returns
 returns c = λ service batches served.
     record {
       right = c.served_laws.ensures.right service batches served;
-      once = c.answer_laws.ensures.once service batches served;
+      once = c.answer_laws.ensures.once service no_counts batches counts_none served;
       answered = λ own. c.answer_laws.ensures.all service batches own served;
       one_thread = c.answer_laws.ensures.one_thread service batches served;
     }
