@@ -1,24 +1,28 @@
-//! What is kept from one opening to the next: words that are all 0, and room for an opening. So no word is zeroed
-//! twice, and no room is made twice.
+//! What is kept from one opening to the next: words that are all 0, room for an opening, and the rooms of seats. So no
+//! word is zeroed twice, and no room is made twice.
 
 ghost use Rattle.std.specs.Prelude.{◌≡◌, IfOk, OnOk, length, replicate};
 ghost use Rattle.word_rows.specs.LayoutView.{shape_of};
 ghost use Rattle.word_rows.specs.Places.{word_count};
 ghost use Rattle.opening_words.specs.Openers.{settings_in};
 
+use crate::in_place::ClosedTable;
+use crate::rooms::Rooms;
 use opening_words::Opener;
 use std::alloc::{AllocError, Global};
 use std::mem;
 use step_counts::Settings;
 use word_rows::Layout;
 
-/// Words that are all 0, and room for an opening. An opening is written into the words, and its places are cleared
-/// again.
+/// Words that are all 0, and rooms. An opening is written into the words, and its places are cleared again. Rooms are
+/// made again only where the settings are others.
 #[derive(Debug, Drop)]
 pub struct Blank {
     words: Vec<u64>,
     // For the settings of the last opening.
     opener: Option<Opener>,
+    // Of the seats of the last table that was kept.
+    rooms: Option<Rooms>,
     ghost zeros: { words.items ≡ replicate (length words.items) 0 },
 }
 
@@ -28,7 +32,28 @@ impl Blank {
         Blank {
             words: Vec::new(alloc),
             opener: None,
+            rooms: None,
         }
+    }
+
+    /// Takes the room of its seats back from a closed table, so that the next one needs to make none. The memory of its
+    /// words is given back.
+    pub fn keep(&mut self, closed: ClosedTable) {
+        self.rooms = Some(closed.into_rooms());
+    }
+
+    // Takes the rooms of seats out, where they are for these settings.
+    pub(crate) fn take_rooms(
+        &mut self,
+        alloc: Global,
+        settings: &Settings,
+    ) -> Result<Rooms, AllocError> {
+        if let Some(rooms) = self.rooms.take()
+            && rooms.are_for(settings)
+        {
+            return Ok(rooms);
+        }
+        Rooms::new(alloc, settings)
     }
 
     // Takes out room for an opening of this layout, and its words. The words that are there already are not written

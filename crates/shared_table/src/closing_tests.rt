@@ -95,7 +95,8 @@ fn have_same_words<A: Words, B: Words>(one: &A, other: &B) -> bool {
     true
 }
 
-// The pairs come in the order of their keys, and both ways of reading say the same.
+// The pairs come in the order of their keys, both ways of reading say the same, and a seat does the same in a room that
+// was kept.
 #[test]
 fn a_closed_table_is_read(rt: HostRuntime) -> Result<(), Fail> {
     let settings = Settings::new(1, 4, 0, 0)?;
@@ -131,6 +132,11 @@ fn a_closed_table_is_read(rt: HostRuntime) -> Result<(), Fail> {
         (0, closed.count() as u64)
     );
     assert!(rt; have_same_words(&rows, &closed));
+    blank.keep(closed);
+    let Some((directory, seat)) = filled(&rt, &mut blank, &settings) else {
+        panic!(rt; "there is room");
+    };
+    assert!(rt; have_same_words(&rows, &in_place(rt.alloc(), directory, seat)?));
     Ok(())
 }
 

@@ -17,6 +17,7 @@ ghost use Rattle.shared_table.specs.Gathered.{HasAll};
 
 use crate::blank::Blank;
 use crate::in_place::ClosedTable;
+use crate::rooms::Rooms;
 use crate::rule::{Deal, Gather, OneRun, Plan};
 use crate::running::{Token, Words};
 use crate::seat::{Seat, seated, unseated};
@@ -26,7 +27,6 @@ use closed_words::Words as ClosedWords;
 use hash_bits::Hashing;
 use opening_words::Opener;
 use plain_map::{OpenFault, Pair};
-use seat_machine::Room;
 use std::alloc::{AllocError, Global};
 use std::marker::Model;
 use step_counts::{SeatRows, Settings};
@@ -39,6 +39,8 @@ pub(crate) type Board = Table<(), View, Plan, OneRun, Global>;
 pub struct Directory {
     pub(crate) table: Board,
     pub(crate) layout: Layout,
+    // Where the rooms of its seats go when it is closed.
+    pub(crate) rooms: Rooms,
 }
 
 impl Model for Directory {
@@ -73,6 +75,7 @@ fn deal(
     layout: &Layout,
     hashing: Hashing,
     seats: u32,
+    rooms: &mut Rooms,
     out: &mut Vec<Seat>,
 ) -> Result<(), AllocError>
     requires setup { IsSetup (plain words.now.key) }
@@ -86,15 +89,15 @@ fn deal(
         ≡ new_seats (record { table_id = words.now.table_id; setup = plain words.now.key }) 0 seats) }
 {
     for number in 0..seats {
-        let room = Room::new(alloc, layout.settings())?;
+        let room = rooms.take(alloc, layout.settings())?;
         let token = words.split_seat::<Deal>(&mut rest);
         out.push_reserved(seated(token, layout, hashing, number, room));
     }
     Ok(())
 }
 
-// Puts all seats together into one token.
-fn gather(words: &Words, mut seats: Vec<Seat>) -> Token
+// Puts all seats together into one token, and keeps their rooms.
+fn gather(words: &Words, mut seats: Vec<Seat>, rooms: &mut Rooms) -> Token
     requires table { 0 < words.now.table_id.words }
     requires seats { All (IsOf (record { table_id = words.now.table_id; setup = plain words.now.key })) seats.items }
     requires some { 0 < vec_len seats }
@@ -103,9 +106,9 @@ fn gather(words: &Words, mut seats: Vec<Seat>) -> Token
     let Some(last) = seats.pop() else {
         unreachable!()
     };
-    let mut token = unseated(last);
+    let mut token = unseated(last, rooms);
     while let Some(seat) = seats.pop() {
-        words.join_seat::<Gather>(&mut token, unseated(seat));
+        words.join_seat::<Gather>(&mut token, unseated(seat, rooms));
     }
     token
 }
@@ -181,10 +184,13 @@ impl Directory {
             first,
         };
         let layout = Layout::new(settings, &plan.rows);
+        let Ok(rooms) = blank.take_rooms(alloc, settings) else {
+            return Err(OpenFault::Memory);
+        };
         let Ok((mut opener, mut words)) = blank.take(alloc, &layout) else {
             return Err(OpenFault::Memory);
         };
-        let opened = Directory::of_plan(alloc, layout, &plan, &mut opener, &mut words);
+        let opened = Directory::of_plan(alloc, layout, &plan, rooms, &mut opener, &mut words);
         blank.put_back(opener, words);
         opened
     }
@@ -194,6 +200,7 @@ impl Directory {
         alloc: Global,
         layout: Layout,
         plan: &Plan,
+        rooms: Rooms,
         opener: &mut Opener,
         words: &mut [u64],
     ) -> Result<(Directory, Vec<Seat>), OpenFault>
@@ -213,7 +220,7 @@ impl Directory {
                 place: no_room.place,
             });
         }
-        let opened = Directory::of_words(alloc, layout, plan, words);
+        let opened = Directory::of_words(alloc, layout, plan, rooms, words);
         opener.clear(&layout, words);
         match opened {
             Ok(opened) => Ok(opened),
@@ -226,6 +233,7 @@ impl Directory {
         alloc: Global,
         layout: Layout,
         plan: &Plan,
+        mut rooms: Rooms,
         words: &[u64],
     ) -> Result<(Directory, Vec<Seat>), AllocError>
         requires setup { IsSetup (plain plan.now) }
@@ -244,9 +252,15 @@ impl Directory {
             &layout,
             plan.hashing,
             plan.settings.seats,
+            &mut rooms,
             &mut out,
         )?;
-        Ok((Directory { table, layout }, out))
+        let directory = Directory {
+            table,
+            layout,
+            rooms,
+        };
+        Ok((directory, out))
     }
 
     /// Ends the run, and gives its rows. It takes all seats of the table, in any order.
@@ -283,12 +297,17 @@ impl Directory {
         ensures count { length result.words ≡ word_count self.setup.shape }
     {
         let count = self.layout.words() as usize;
-        let Directory { table, layout } = self;
-        let token = gather(&table.shared, seats);
+        let Directory {
+            table,
+            layout,
+            mut rooms,
+        } = self;
+        let token = gather(&table.shared, seats, &mut rooms);
         ClosedTable {
             layout,
             table: table.close_with(token),
             count,
+            rooms,
         }
     }
 }

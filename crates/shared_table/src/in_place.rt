@@ -8,6 +8,7 @@ ghost use Rattle.core_model.specs.Closed.{closed_depth, closed_leaves, closed_pa
 ghost use Rattle.closed_words.specs.Views.{as_leaf};
 
 use crate::closed::{depth_in, leaves_in, pairs_in};
+use crate::rooms::Rooms;
 use atomic_table::Closed;
 use closed_words::{ClosedLeaf, Words};
 use plain_map::Pair;
@@ -21,6 +22,8 @@ pub struct ClosedTable {
     pub(crate) table: Closed<(), Global>,
     // How many words it has.
     pub(crate) count: usize,
+    // Of the seats that it had.
+    pub(crate) rooms: Rooms,
 }
 
 impl Model for ClosedTable {
@@ -41,6 +44,7 @@ impl Drop for ClosedTable {
             layout: _,
             table,
             count: _,
+            rooms: _,
         } = self;
         table.free();
     }
@@ -59,6 +63,18 @@ impl Words for ClosedTable {
 }
 
 impl ClosedTable {
+    // The rooms of the seats that it had. The memory of its words is given back.
+    pub(crate) fn into_rooms(self) -> Rooms {
+        let ClosedTable {
+            layout: _,
+            table,
+            count: _,
+            rooms,
+        } = self;
+        table.free();
+        rooms
+    }
+
     /// Where each word lies.
     pub fn layout(&self) -> &Layout
         ensures { shape_of result.now ≡ self.now.shape }

@@ -7,6 +7,7 @@ mod closed;
 mod directory;
 mod in_place;
 mod laws;
+mod rooms;
 mod rule;
 mod running;
 mod seat;

@@ -22,6 +22,7 @@ ghost use Rattle.shared_table.specs.SeatValues.{IsIdle, account_of};
 ghost use Rattle.shared_table.specs.Values.{Answers, IsOf, IsSame, refused_at, shortage_of};
 
 use crate::directory::Directory;
+use crate::rooms::Rooms;
 use crate::running::{Token, run_lookup, run_update};
 use crate::view::View;
 use atomic_table::Badge;
@@ -243,12 +244,18 @@ pub(crate) fn seated(
     }
 }
 
-// What the seat held.
-pub(crate) fn unseated(seat: Seat) -> Token
+// What the seat held. Its room is kept.
+pub(crate) fn unseated(seat: Seat, rooms: &mut Rooms) -> Token
     ensures table { result.table_id ≡ seat.table_id }
     ensures me { result.me ≡ alone seat.holding }
     ensures idle { IsIdle seat }
 {
-    let Seat { badge, .. } = seat;
+    let Seat {
+        badge,
+        desk,
+        room,
+        ..
+    } = seat;
+    rooms.keep(desk.layout.settings(), room);
     badge.into_seat()
 }
