@@ -26,5 +26,6 @@ returns-clause-served g c = λ batches has.
       served.0,
       served.2,
       c.keep.ensures.served batches served.0 has (served.1 ∙ c.deref.ensures.value) served.2 served.3 served.4,
-      c.in_ok-batch_text.ensures.appended c.args.service.now served.0 served.4 served.5,
+      c.in_ok-batch_text.ensures.appended c.args.service.now served.0 served.4
+          (c.deref-2.ensures.value ∙ served.5),
     )
