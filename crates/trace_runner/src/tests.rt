@@ -1,6 +1,7 @@
 //! Whole runs over memory, whose captures and reports were worked by hand.
 
 mod captures;
+mod certified;
 mod devices;
 mod endings;
 mod gates;
@@ -11,7 +12,7 @@ mod splits;
 
 use crate::{Status, run};
 use captures::{Part, file_of};
-use edge_traits::{MemorySink, MemorySource, OpenGate};
+use edge_traits::{MemorySink, MemorySource, OpenGate, Source};
 use std::alloc::{AllocError, Global};
 use std::process::Abort;
 use std::test::Fail;
@@ -27,11 +28,11 @@ fn words_of(alloc: Global, line: &str) -> Result<Vec<String>, AllocError> {
 }
 
 /// Runs with the words of a line, and an open gate.
-fn run_line<R: Threads + Sync>(
+fn run_line<R: Threads + Sync, S: Source>(
     rt: &R,
     alloc: Global,
     line: &str,
-    source: &mut MemorySource,
+    source: &mut S,
     sink: &mut MemorySink,
 ) -> Result<Status, AllocError> {
     let words = words_of(alloc, line)?;

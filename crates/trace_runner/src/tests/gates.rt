@@ -89,33 +89,38 @@ impl Gate for Meeting {
     fn told(&self, _seat: u32, _number: u32, _answer: u64) {}
 }
 
-/// Two callers are in their first calls at once. A body that makes one call after the other reaches its limit of turns.
-/// No clause says that callers run in threads.
+/// Two callers are in their first calls at once, where a capture is served and where one is tried. A body that makes one
+/// call after the other reaches its limit of turns. No clause says that callers run in threads.
 #[test]
 fn two_callers_meet(rt: HostRuntime) -> Result<(), Fail> {
-    let meeting = Meeting {
-        first: AtomicU64::new(0),
-        second: AtomicU64::new(0),
-        met: AtomicU64::new(0),
-    };
     let file = file_of(
         rt.alloc(),
         &[Part::Bytes(&HEAD), Part::Syn(1), Part::Syn(2)],
     )?;
-    let mut source = MemorySource::new(rt.alloc(), &file, 1000, &[])?;
-    let mut sink = MemorySink::new(rt.alloc(), 2000, &[])?;
-    let words = words_of(rt.alloc(), "serve --seats 2")?;
-    let status = run(&rt, rt.alloc(), &words, &mut source, &mut sink, &meeting);
-    assert_eq!(rt; status, Status::Done);
-    assert_eq!(rt; meeting.met.load(Ordering::SeqCst), 2);
+    for line in ["serve --seats 2", "trial --packets 100 --seats 2"] {
+        let meeting = Meeting {
+            first: AtomicU64::new(0),
+            second: AtomicU64::new(0),
+            met: AtomicU64::new(0),
+        };
+        let mut source = MemorySource::new(rt.alloc(), &file, 1000, &[])?;
+        let mut sink = MemorySink::new(rt.alloc(), 2000, &[])?;
+        let words = words_of(rt.alloc(), line)?;
+        let status = run(&rt, rt.alloc(), &words, &mut source, &mut sink, &meeting);
+        assert_eq!(rt; status, Status::Done, "{line}");
+        assert_eq!(rt; meeting.met.load(Ordering::SeqCst), 2, "{line}");
+    }
     Ok(())
 }
 
-/// Lets six calls of two seats pass in this order of their packets, each when the one before it was told. Keeps the
-/// answers as decimal digits, and how many calls reached their limit of turns.
+/// Six calls in an order, each by its seat and its place, from 1, among the calls of its seat.
+type Order = [(u32, u32); 6];
+
+/// Lets six calls of two seats pass in this order, each when the one before it was told. Keeps the answers as decimal
+/// digits, and how many calls reached their limit of turns.
 #[derive(Drop)]
 struct Follower {
-    order: [u32; 6],
+    order: Order,
     told: AtomicU64,
     digits: AtomicU64,
     missed: AtomicU64,
@@ -123,10 +128,9 @@ struct Follower {
 
 impl Gate for Follower {
     fn pass(&self, seat: u32, number: u32) {
-        let packet = number.wrapping_mul(2).wrapping_add(seat).wrapping_sub(1);
         let mut place: u64 = 0;
         for before in self.order {
-            if before == packet {
+            if before == (seat, number) {
                 break;
             }
             place = place.wrapping_add(1);
@@ -231,44 +235,74 @@ const OTHER_WAY: [Around; 8] = [
     ("session 10.0.0.1:1-10.0.0.2:80/tcp 5", ""),
 ];
 
-/// Six calls of two callers, held to an order by the gate: no call waits in vain, and the lines are these.
-fn expect_order<R: Threads + Abort + Sync>(
+/// Runs two callers whose six calls the gate holds to an order. No call waits in vain, and the answers are these. What
+/// was put is in the sink.
+fn follow<R: Threads + Abort + Sync>(
     rt: &R,
     alloc: Global,
-    order: [u32; 6],
+    line: &str,
+    order: Order,
     digits: u64,
-    wanted: &[Around],
-) -> Result<(), Fail> {
-    let parts = [
-        Part::Bytes(&HEAD),
-        Part::Ack(1),
-        Part::Syn(1),
-        Part::Fin(1),
-        Part::Ack(1),
-        Part::Syn(1),
-        Part::Ack(1),
-    ];
+) -> Result<MemorySink, Fail> {
     let follower = Follower {
         order,
         told: AtomicU64::new(0),
         digits: AtomicU64::new(0),
         missed: AtomicU64::new(0),
     };
-    let file = file_of(alloc, &parts)?;
+    let file = file_of(alloc, &SIX_PACKETS)?;
     let mut source = MemorySource::new(alloc, &file, 1000, &[])?;
     let mut sink = MemorySink::new(alloc, 2000, &[])?;
-    let words = words_of(alloc, "serve --seats 2 --hash ports")?;
+    let words = words_of(alloc, line)?;
     let status = run(rt, alloc, &words, &mut source, &mut sink, &follower);
-    assert_eq!(rt; status, Status::Done);
-    assert_eq!(rt; follower.missed.load(Ordering::SeqCst), 0);
-    assert_eq!(rt; follower.digits.load(Ordering::SeqCst), digits);
-    expect_lines(rt, sink.bytes(), wanted)
+    assert_eq!(rt; status, Status::Done, "{line}");
+    assert_eq!(rt; follower.missed.load(Ordering::SeqCst), 0, "{line}");
+    assert_eq!(rt; follower.digits.load(Ordering::SeqCst), digits, "{line}");
+    Ok(sink)
 }
+
+/// Six packets of one flow.
+const SIX_PACKETS: [Part; 7] = [
+    Part::Bytes(&HEAD),
+    Part::Ack(1),
+    Part::Syn(1),
+    Part::Fin(1),
+    Part::Ack(1),
+    Part::Syn(1),
+    Part::Ack(1),
+];
 
 /// Two callers make six calls in an order that the gate holds them to, each told before the next begins. That order is
 /// printed, with the replies of one caller who makes them so.
 #[test]
 fn callers_follow_gate(rt: HostRuntime) -> Result<(), Fail> {
-    expect_order(&rt, rt.alloc(), [2, 1, 4, 3, 6, 5], 22_200, &ONE_WAY)?;
-    expect_order(&rt, rt.alloc(), [1, 2, 3, 4, 5, 6], 2_005, &OTHER_WAY)
+    let line = "serve --seats 2 --hash ports";
+    let crossed = [(1, 1), (0, 1), (1, 2), (0, 2), (1, 3), (0, 3)];
+    let sink = follow(&rt, rt.alloc(), line, crossed, 22_200)?;
+    expect_lines(&rt, sink.bytes(), &ONE_WAY)?;
+    let straight = [(0, 1), (1, 1), (0, 2), (1, 2), (0, 3), (1, 3)];
+    let sink = follow(&rt, rt.alloc(), line, straight, 2_005)?;
+    expect_lines(&rt, sink.bytes(), &OTHER_WAY)
+}
+
+/// The trial of six packets, worked from the definition of the made capture by a program apart: the calls insert a flow
+/// of seat 0 and one of seat 1, insert the latter again, look for a third, find the first, and remove a fourth.
+const SIX_TRIED: &str = "\
+    flowdir trial number 10842 packets 6 seats 2 items 8 depth 10 start 0 seed 0\n\
+    calls 6 new 2 old 1 noroom 0 gone 0 found 1 absent 2 full 0\n\
+    sessions 2\n";
+
+/// So do two callers of a trial, in the order of the packets and where one caller makes all its calls before the other.
+#[test]
+fn callers_of_a_trial_follow_gate(rt: HostRuntime) -> Result<(), Fail> {
+    let rows = [
+        ([(0, 1), (1, 1), (1, 2), (0, 2), (0, 3), (1, 3)], 2_010),
+        ([(1, 1), (1, 2), (1, 3), (0, 1), (0, 2), (0, 3)], 20_001),
+    ];
+    for (order, digits) in rows {
+        let line = "trial --number 10842 --packets 6 --seats 2";
+        let sink = follow(&rt, rt.alloc(), line, order, digits)?;
+        assert_eq!(rt; sink.bytes(), SIX_TRIED.as_bytes(), "{digits}");
+    }
+    Ok(())
 }

@@ -1,12 +1,15 @@
-//! Captures of more packets than one batch has.
+//! Captures of more packets than one batch has, and of more than are served.
 
-use super::captures::{Part, file_of};
+ghost use Rattle.std.specs.Prelude.{None};
+
+use super::captures::{HEAD, Part, file_of};
 use super::run_line;
 use crate::{BATCH, PACKET_LIMIT, Status};
-use edge_traits::{MemorySink, MemorySource};
+use edge_traits::{Failed, MemorySink, MemorySource, Source};
+use std::alloc::{AllocError, Global};
 use std::test::Fail;
 
-/// The report of one flow, whose two SYNs are the first packet of two batches.
+/// The report of one flow, whose two SYNs are the first packet of two batches, up to how the input ended.
 const TWO_BATCHES: &str = "\
     flowdir serve seats 1 items 2 depth 1 start 1 hash ports seed 0 share round\n\
     call 1 seat 0 insert 10.0.0.1:1-10.0.0.2:80/tcp new 1 steps 45 after 0\n\
@@ -14,29 +17,101 @@ const TWO_BATCHES: &str = "\
     call 2049 seat 0 insert 10.0.0.1:1-10.0.0.2:80/tcp old 1 steps 45 after 1\n\
     order 2049\n\
     session 10.0.0.1:1-10.0.0.2:80/tcp 1\n\
-    leaves 2 depth 1\n\
-    input done rest 0\n\
+    leaves 2 depth 1\n";
+
+/// Its last lines.
+const TWO_BATCHES_END: &str = "\
     count packets 2049 calls 2 passed 2047 full 0 pending 0 unbegun 0\n\
     steps update 45 bound 423 lookup 0\n";
 
-/// The second batch has the pair that the first one left. That the numbers are the ones that are meant is no
-/// clause's to say.
+/// A SYN, 2,047 records of no byte, and the SYN again.
+fn two_batches(alloc: Global) -> Result<Vec<u8>, AllocError> {
+    let mut file = file_of(alloc, &[Part::Bytes(&HEAD), Part::Syn(1)])?;
+    for _ in 1..2_048 {
+        file.extend_from_slice(&[0; 16])?;
+    }
+    file.extend_from_slice(&file_of(alloc, &[Part::Syn(1)])?)?;
+    Ok(file)
+}
+
+/// The second batch has the pair that the first one left, and rows of its own. A read that fails behind its packet comes
+/// when both batches are served. That the numbers are the ones that are meant is no clause's to say.
 #[test]
 fn second_batch_has_what_the_first_left(rt: HostRuntime) -> Result<(), Fail> {
     assert_eq!(rt; PACKET_LIMIT, 4_000_000);
     assert_eq!(rt; BATCH, 2_048);
     let alloc = rt.alloc();
-    let mut file = file_of(alloc, &[Part::Bytes(&super::captures::HEAD), Part::Syn(1)])?;
-    for _ in 1..2_048 {
-        file.extend_from_slice(&[0; 16])?;
+    let file = two_batches(alloc)?;
+    // the rows, the read that fails, the status, how the input ended
+    let rows = [
+        ("", 3, Status::Done, "input done rest 0\n"),
+        (
+            " --rows 1,100,100,10",
+            3,
+            Status::Done,
+            "input done rest 0\n",
+        ),
+        ("", 2, Status::ReadFault, "input read-fault\n"),
+    ];
+    for (given, failing, wanted, ended) in rows {
+        let mut source = MemorySource::new(alloc, &file, 100_000, &[failing])?;
+        let mut sink = MemorySink::new(alloc, 2000, &[])?;
+        let line = format!(in alloc;
+            "serve --seats 1 --items 2 --depth 1 --start 1 --hash ports{given}"
+        )?;
+        let status = run_line(&rt, alloc, &line, &mut source, &mut sink)?;
+        assert_eq!(rt; status, wanted, "{line}");
+        let text = format!(in alloc; "{TWO_BATCHES}{ended}{TWO_BATCHES_END}")?;
+        assert_eq!(rt; sink.bytes(), text.as_bytes(), "{line}");
     }
-    let last = file_of(alloc, &[Part::Syn(1)])?;
-    file.extend_from_slice(&last)?;
-    let mut source = MemorySource::new(alloc, &file, 100_000, &[])?;
-    let mut sink = MemorySink::new(alloc, 2000, &[])?;
-    let line = "serve --seats 1 --items 2 --depth 1 --start 1 --hash ports";
-    let status = run_line(&rt, alloc, line, &mut source, &mut sink)?;
-    assert_eq!(rt; status, Status::Done);
-    assert_eq!(rt; sink.bytes(), TWO_BATCHES.as_bytes());
+    Ok(())
+}
+
+/// A file head, and then records of no byte, of which none is kept.
+#[derive(Drop)]
+struct EmptyRecords {
+    has_begun: bool,
+    /// How many bytes of them are left.
+    left: usize,
+}
+
+impl Source for EmptyRecords {
+    ghost left = { λ _. None };
+
+    ghost faults = { λ _. 0 };
+
+    fn read(&mut self, buf: &mut [u8]) -> Result<usize, Failed> {
+        if !self.has_begun && buf.len() >= HEAD.len() {
+            self.has_begun = true;
+            buf[..HEAD.len()].copy_from_slice(&HEAD);
+            return Ok(HEAD.len());
+        }
+        let count = buf.len().min(self.left);
+        buf[..count].fill(0);
+        self.left -= count;
+        Ok(count)
+    }
+}
+
+/// The report of as many packets as are served at most.
+const AT_THE_LIMIT: &str = "\
+    flowdir serve seats 1 items 1 depth 0 start 0 hash ports seed 0 share round\n\
+    leaves 1 depth 0\n\
+    input limit 4000000\n\
+    count packets 4000000 calls 0 passed 4000000 full 0 pending 0 unbegun 0\n\
+    steps update 0 bound 302 lookup 0\n";
+
+/// One packet more than are served.
+#[test]
+fn packet_beyond_the_limit(rt: HostRuntime) -> Result<(), Fail> {
+    let mut source = EmptyRecords {
+        has_begun: false,
+        left: 16 * 4_000_001,
+    };
+    let mut sink = MemorySink::new(rt.alloc(), 2000, &[])?;
+    let line = "serve --seats 1 --items 1 --depth 0 --hash ports";
+    let status = run_line(&rt, rt.alloc(), line, &mut source, &mut sink)?;
+    assert_eq!(rt; status, Status::Limit);
+    assert_eq!(rt; sink.bytes(), AT_THE_LIMIT.as_bytes());
     Ok(())
 }
