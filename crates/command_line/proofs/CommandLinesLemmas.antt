@@ -9,10 +9,10 @@ use Rattle.clap.specs.ValueTests.{is_unsigned_in}
 use Rattle.clap.specs.Walk.{Text, first_of, is_empty}
 use Rattle.clap.specs.declared.error.kind.ErrorKind.TheVariants as kind
 use Rattle.command_line.specs.Command.{flowdir_app}
-use Rattle.command_line.specs.CommandLines.{Given, asked, default_plan, faults, line, tests}
+use Rattle.command_line.specs.CommandLines.{Given, Lists, asked, default_plan, faults, line, tests}
 use Rattle.command_line.specs.Words.{decimal, plan_of, reads}
 use Rattle.command_line.specs.declared.plan.Mode.{Mode}
-use Rattle.command_line.specs.declared.plan.Mode.TheVariants.{Serve, Make, Trial}
+use Rattle.command_line.specs.declared.plan.Mode.TheVariants.{Serve, Play, Make, Trial}
 use Rattle.command_line.specs.declared.plan.Plan.{Plan}
 
 -- ---- single lines
@@ -75,27 +75,84 @@ any_items t =
     reads_by _ _ _ (items_fault t) (items_plan t)
     ∙ one_passes (is_unsigned_in 1 16 t) (Some (record default_plan { items = decimal t }))
 
-line_fault : (mode : Mode) (g : Given) (rows : Option Text)
-    → faults (line mode g rows) ≡ or_else (faults_by (tests g)) []
-unfolding clap_on_literals flowdir_app
-line_fault Serve g None = refl
-line_fault Serve g (Some text) = refl
-line_fault Make g None = refl
-line_fault Make g (Some text) = refl
-line_fault Trial g None = refl
-line_fault Trial g (Some text) = refl
+abbrev pub lists_with : (rows schedule stop : Option Text) → Lists
+lists_with rows schedule stop = record { rows = rows; schedule = schedule; stop = stop }
 
-line_plan : (mode : Mode) (g : Given) (rows : Option Text)
-    → plan_of (λ name. first_of name (matches_of flowdir_app (line mode g rows))) ≡ asked mode g rows
+fault_of_lists : (mode : Mode) (g : Given) (rows schedule stop : Option Text)
+    → faults (line mode g (lists_with rows schedule stop)) ≡ or_else (faults_by (tests g)) []
 unfolding clap_on_literals flowdir_app
-line_plan Serve g None = refl
-line_plan Serve g (Some text) = refl
-line_plan Make g None = refl
-line_plan Make g (Some text) = refl
-line_plan Trial g None = refl
-line_plan Trial g (Some text) = refl
+fault_of_lists Serve g None None None = refl
+fault_of_lists Serve g None None (Some t) = refl
+fault_of_lists Serve g None (Some s) None = refl
+fault_of_lists Serve g None (Some s) (Some t) = refl
+fault_of_lists Serve g (Some r) None None = refl
+fault_of_lists Serve g (Some r) None (Some t) = refl
+fault_of_lists Serve g (Some r) (Some s) None = refl
+fault_of_lists Serve g (Some r) (Some s) (Some t) = refl
+fault_of_lists Play g None None None = refl
+fault_of_lists Play g None None (Some t) = refl
+fault_of_lists Play g None (Some s) None = refl
+fault_of_lists Play g None (Some s) (Some t) = refl
+fault_of_lists Play g (Some r) None None = refl
+fault_of_lists Play g (Some r) None (Some t) = refl
+fault_of_lists Play g (Some r) (Some s) None = refl
+fault_of_lists Play g (Some r) (Some s) (Some t) = refl
+fault_of_lists Make g None None None = refl
+fault_of_lists Make g None None (Some t) = refl
+fault_of_lists Make g None (Some s) None = refl
+fault_of_lists Make g None (Some s) (Some t) = refl
+fault_of_lists Make g (Some r) None None = refl
+fault_of_lists Make g (Some r) None (Some t) = refl
+fault_of_lists Make g (Some r) (Some s) None = refl
+fault_of_lists Make g (Some r) (Some s) (Some t) = refl
+fault_of_lists Trial g None None None = refl
+fault_of_lists Trial g None None (Some t) = refl
+fault_of_lists Trial g None (Some s) None = refl
+fault_of_lists Trial g None (Some s) (Some t) = refl
+fault_of_lists Trial g (Some r) None None = refl
+fault_of_lists Trial g (Some r) None (Some t) = refl
+fault_of_lists Trial g (Some r) (Some s) None = refl
+fault_of_lists Trial g (Some r) (Some s) (Some t) = refl
 
-pub any_line : (mode : Mode) (g : Given) (rows : Option Text)
-    → reads (line mode g rows) ≡ cond (list_all (λ b. b) (tests g)) (asked mode g rows) None
-any_line mode g rows =
-    reads_by _ _ _ (line_fault mode g rows) (line_plan mode g rows) ∙ all_pass (tests g) (asked mode g rows)
+plan_of_lists : (mode : Mode) (g : Given) (rows schedule stop : Option Text)
+    → plan_of (λ name. first_of name (matches_of flowdir_app (line mode g (lists_with rows schedule stop))))
+    ≡ asked mode g (lists_with rows schedule stop)
+unfolding clap_on_literals flowdir_app
+plan_of_lists Serve g None None None = refl
+plan_of_lists Serve g None None (Some t) = refl
+plan_of_lists Serve g None (Some s) None = refl
+plan_of_lists Serve g None (Some s) (Some t) = refl
+plan_of_lists Serve g (Some r) None None = refl
+plan_of_lists Serve g (Some r) None (Some t) = refl
+plan_of_lists Serve g (Some r) (Some s) None = refl
+plan_of_lists Serve g (Some r) (Some s) (Some t) = refl
+plan_of_lists Play g None None None = refl
+plan_of_lists Play g None None (Some t) = refl
+plan_of_lists Play g None (Some s) None = refl
+plan_of_lists Play g None (Some s) (Some t) = refl
+plan_of_lists Play g (Some r) None None = refl
+plan_of_lists Play g (Some r) None (Some t) = refl
+plan_of_lists Play g (Some r) (Some s) None = refl
+plan_of_lists Play g (Some r) (Some s) (Some t) = refl
+plan_of_lists Make g None None None = refl
+plan_of_lists Make g None None (Some t) = refl
+plan_of_lists Make g None (Some s) None = refl
+plan_of_lists Make g None (Some s) (Some t) = refl
+plan_of_lists Make g (Some r) None None = refl
+plan_of_lists Make g (Some r) None (Some t) = refl
+plan_of_lists Make g (Some r) (Some s) None = refl
+plan_of_lists Make g (Some r) (Some s) (Some t) = refl
+plan_of_lists Trial g None None None = refl
+plan_of_lists Trial g None None (Some t) = refl
+plan_of_lists Trial g None (Some s) None = refl
+plan_of_lists Trial g None (Some s) (Some t) = refl
+plan_of_lists Trial g (Some r) None None = refl
+plan_of_lists Trial g (Some r) None (Some t) = refl
+plan_of_lists Trial g (Some r) (Some s) None = refl
+plan_of_lists Trial g (Some r) (Some s) (Some t) = refl
+
+pub any_line : (mode : Mode) (g : Given) (lists : Lists)
+    → reads (line mode g lists) ≡ cond (list_all (λ b. b) (tests g)) (asked mode g lists) None
+any_line mode g lists =
+    reads_by _ _ _ (fault_of_lists mode g lists.rows lists.schedule lists.stop)
+    (plan_of_lists mode g lists.rows lists.schedule lists.stop) ∙ all_pass (tests g) (asked mode g lists)

@@ -3,8 +3,10 @@ pub mod IdLemmas
 pub mod PassingLemmas
 pub mod CommandLemmas
 pub mod TextLemmas
+pub mod PlayLemmas
 pub mod WordsLemmas
 pub mod CommandLinesLemmas
 pub mod WrittenLemmas
+pub mod PlayTextLemmas
 pub mod RoundTripLemmas
 pub mod UnusedLemmas

@@ -1,9 +1,10 @@
 -- The line that is written from a plan asks for it.
-use Rattle.std.proofs.Common.{◌≡◌, ◌∙◌, ◌<◌, ◌≤◌, ◌^◌, ℕ, ◌&&◌, Bool, cond, true, Option, Some, None}
+use Rattle.std.proofs.Common.{◌≡◌, ◌∙◌, ◌<◌, ◌≤◌, ◌^◌, ℕ, ◌&&◌, Bool, cond, true, [], Option, Some, None}
 use Rattle.std.proofs.Common.{IfSome, ap, ap₂, refl, arith}
 use Rattle.std.specs.Fmt.{decimal as written}
 use Rattle.std.specs.List.{list_all}
 use Rattle.std.specs.Option.{option_map}
+use Rattle.std.specs.Prelude.{replicate}
 use Rattle.std.specs.Str.Parse.{IsNumeral, digits_value, without_leading_plus}
 use Rattle.std.proofs.lemmas.Fmt.{decimal_is_IsNumeral}
 use Rattle.clap.proofs.ValueTestLemmas.{Accepts-accepts}
@@ -16,13 +17,15 @@ use Rattle.trace_share.specs.declared.deals.Share.TheVariants.{Round, Block, Flo
 use Rattle.command_line.specs.Command.{Number, capture_number, depth, items, packets, seats, seed, start}
 use Rattle.command_line.specs.CommandLines.{IsAskable, as_used, asked, default_plan, given_of, hash_text, is_in}
 use Rattle.command_line.specs.CommandLines.{line_of}
-use Rattle.command_line.specs.CommandLines.{rows_text, seed_of, share_text, tests}
+use Rattle.command_line.specs.CommandLines.{lists_of, rows_text, seed_of, share_text, tests}
 use Rattle.command_line.specs.Texts.{◌>>=◌, AreRowsInRange}
-use Rattle.command_line.specs.Words.{asked_rows, decimal, hashing_of, reads, share_of, start_below}
+use Rattle.command_line.specs.Words.{asked_rows, asked_schedule, asked_stops, decimal, hashing_of, reads, share_of}
+use Rattle.command_line.specs.Words.{start_below}
 use Rattle.command_line.specs.declared.plan.Mode.{Mode}
-use Rattle.command_line.specs.declared.plan.Mode.TheVariants.{Serve, Make, Trial}
+use Rattle.command_line.specs.declared.plan.Mode.TheVariants.{Serve, Play, Make, Trial}
 use Rattle.command_line.specs.declared.plan.Plan.{Plan}
 use Rattle.command_line.proofs.CommandLinesLemmas.{any_line}
+use Rattle.command_line.proofs.PlayTextLemmas.{schedule_back, stops_back}
 use Rattle.command_line.proofs.TextLemmas.{at_most_of}
 use Rattle.command_line.proofs.WrittenLemmas.{bare, read_back, rows_text_back}
 
@@ -67,7 +70,7 @@ all_pass p h =
     (and (passes capture_number p.number (omega arith) (omega arith) h.number)
     (and (passes packets p.packets (omega arith) h.range.packets (omega arith)) refl))))))
 
-serve_back : (p : Plan) → IsAskable p → asked Serve (given_of p) (option_map rows_text p.rows) ≡ Some (as_used p Serve)
+serve_back : (p : Plan) → IsAskable p → asked Serve (given_of p) (lists_of p) ≡ Some (as_used p Serve)
 serve_back p h =
     let r = h.range.settings in
     let n = read_back p.seats (omega arith) in
@@ -86,17 +89,49 @@ serve_back p h =
       hashing = hashing;
       share = share;
       rows = rows;
+      schedule = [];
+      stops = replicate (n i) None;
       number = 0;
       packets = 1000;
     })))))
 
-make_back : (p : Plan) → IsAskable p → asked Make (given_of p) (option_map rows_text p.rows) ≡ Some (as_used p Make)
+play_back : (p : Plan) → IsAskable p → asked Play (given_of p) (lists_of p) ≡ Some (as_used p Play)
+play_back p h =
+    let r = h.range.settings in
+    let few : p.seats ≤ 8 = omega (arith, r.seats_in_range) in
+    let n = read_back p.seats (omega arith) in
+    let b = read_back p.items (omega arith) in
+    let d = read_back p.depth (omega arith) in
+    let s = start_back p.depth p.start (omega arith) (omega arith) r.start_in_range.1 in
+    let hs = hash_back p.hashing h.seed in
+    let sh = share_back p.share in
+    let rs = rows_back p.rows h.range.rows in
+    let sc = ap (λ n. asked_schedule n (lists_of p).schedule) n
+    ∙ schedule_back p.seats few p.schedule h.segments h.few in
+    let st = ap (λ n. asked_stops n (lists_of p).stop) n ∙ stops_back p.seats few p.stops h.one_each h.stops in
+    λ i. (rs i) >>= (λ rows. (sc i) >>= (λ schedule. (st i) >>= (λ stops. (s i) >>= (λ start.
+    (hs i) >>= (λ hashing. (sh i) >>= (λ share. Some (record {
+      mode = Play;
+      seats = n i;
+      items = b i;
+      depth = d i;
+      start = start;
+      hashing = hashing;
+      share = share;
+      rows = rows;
+      schedule = schedule;
+      stops = stops;
+      number = 0;
+      packets = 1000;
+    })))))))
+
+make_back : (p : Plan) → IsAskable p → asked Make (given_of p) (lists_of p) ≡ Some (as_used p Make)
 make_back p h =
     let n = read_back p.number h.number in
     let k = read_back p.packets (omega (arith, h.range.packets)) in
     λ i. Some (record default_plan { mode = Make; number = n i; packets = k i })
 
-trial_back : (p : Plan) → IsAskable p → asked Trial (given_of p) (option_map rows_text p.rows) ≡ Some (as_used p Trial)
+trial_back : (p : Plan) → IsAskable p → asked Trial (given_of p) (lists_of p) ≡ Some (as_used p Trial)
 trial_back p h =
     let r = h.range.settings in
     let n = read_back p.seats (omega arith) in
@@ -115,18 +150,21 @@ trial_back p h =
       hashing = Mix (hs i);
       share = Flow;
       rows = None;
+      schedule = [];
+      stops = replicate (n i) None;
       number = x i;
       packets = k i;
     }))
 
 asked_back : (p : Plan) → IsAskable p → (mode : Mode)
-    → asked mode (given_of p) (option_map rows_text p.rows) ≡ Some (as_used p mode)
+    → asked mode (given_of p) (lists_of p) ≡ Some (as_used p mode)
 asked_back p h Serve = serve_back p h
+asked_back p h Play = play_back p h
 asked_back p h Make = make_back p h
 asked_back p h Trial = trial_back p h
 
 pub round_trip : (p : Plan) → IsAskable p → reads (line_of p) ≡ Some (as_used p p.mode)
 round_trip p h =
-    any_line p.mode (given_of p) (option_map rows_text p.rows)
-    ∙ ap (λ b. cond b (asked p.mode (given_of p) (option_map rows_text p.rows)) None) (all_pass p h)
+    any_line p.mode (given_of p) (lists_of p)
+    ∙ ap (λ b. cond b (asked p.mode (given_of p) (lists_of p)) None) (all_pass p h)
     ∙ asked_back p h p.mode

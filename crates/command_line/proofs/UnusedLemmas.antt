@@ -7,10 +7,13 @@ use Rattle.step_counts.specs.declared.rows.SeatRows.{SeatRows}
 use Rattle.command_line.specs.Command.{flowdir_app}
 use Rattle.command_line.specs.CommandLines.{as_used}
 use Rattle.command_line.specs.Texts.{◌>>=◌}
-use Rattle.command_line.specs.Words.{Values, hashing_in, mode_of, plan_of, plan_with, reads, rows_for, share_in}
-use Rattle.command_line.specs.Words.{start_in, text_in}
+use Rattle.command_line.specs.Words.{Values, hashing_in, mode_of, plan_of, plan_with, reads, rows_for, schedule_for}
+use Rattle.command_line.specs.Words.{seats_in}
+use Rattle.command_line.specs.Words.{share_in, start_in, stops_in, text_in}
+use Rattle.command_line.specs.declared.plays.Segment.{Segment}
+use Rattle.std.specs.Prelude.{replicate, ℕ}
 use Rattle.command_line.specs.declared.plan.Mode.{Mode}
-use Rattle.command_line.specs.declared.plan.Mode.TheVariants.{Serve, Make, Trial}
+use Rattle.command_line.specs.declared.plan.Mode.TheVariants.{Serve, Play, Make, Trial}
 use Rattle.command_line.specs.declared.plan.Plan.{Plan}
 use Rattle.std.proofs.Common.{codes, []}
 
@@ -24,17 +27,32 @@ bound : {A B : Type 0} (P : B → Type 0) (o : Option A) (f : A → Option B) �
 bound P None f each = tt
 bound P (Some a) f each = each a
 
-serve_used : (given : Values) (rows : Option SeatRows) → IfSome (plan_with Serve rows given) IsAsUsed
+serve_used : (given : Values) (rows : Option SeatRows)
+    → IfSome (plan_with Serve rows [] (replicate (seats_in Serve given) None) given) IsAsUsed
 serve_used given rows =
     bound IsAsUsed (start_in Serve given) _ (λ start. bound IsAsUsed (hashing_in Serve given) _
     (λ hashing. bound IsAsUsed (share_in Serve given) _ (λ share. refl)))
 
-trial_used : (given : Values) → IfSome (plan_with Trial None given) IsAsUsed
+play_used : (given : Values) (rows : Option SeatRows) (schedule : List Segment) (stops : List (Option ℕ))
+    → IfSome (plan_with Play rows schedule stops given) IsAsUsed
+play_used given rows schedule stops =
+    bound IsAsUsed (start_in Play given) _ (λ start. bound IsAsUsed (hashing_in Play given) _
+    (λ hashing. bound IsAsUsed (share_in Play given) _ (λ share. refl)))
+
+trial_used : (given : Values)
+    → IfSome (plan_with Trial None [] (replicate (seats_in Trial given) None) given) IsAsUsed
 trial_used given = bound IsAsUsed (start_in Trial given) _ (λ start. refl)
 
 mode_used : (given : Values) (mode : Mode)
-    → IfSome (rows_for mode given >>= (λ rows. plan_with mode rows given)) IsAsUsed
+    → IfSome (rows_for mode given >>= (λ rows. schedule_for mode (seats_in mode given) given >>=
+    (λ schedule. stops_in mode (seats_in mode given) given >>=
+    (λ stops. plan_with mode rows schedule stops given)))) IsAsUsed
 mode_used given Serve = bound IsAsUsed (rows_for Serve given) _ (λ rows. serve_used given rows)
+mode_used given Play =
+    bound IsAsUsed (rows_for Play given) _
+    (λ rows. bound IsAsUsed (schedule_for Play (seats_in Play given) given) _
+    (λ schedule. bound IsAsUsed (stops_in Play (seats_in Play given) given) _
+    (λ stops. play_used given rows schedule stops)))
 mode_used given Make = refl
 mode_used given Trial = trial_used given
 

@@ -3,6 +3,7 @@ use Rattle.std.proofs.Common.{◌≡◌, ◌≢◌, ◌∙◌, ◌<◌, ◌≤�
 use Rattle.std.proofs.Common.{ap, ap₂, refl, get_or, arith}
 use Rattle.std.proofs.Common.{◌==◌}
 use Rattle.std.specs.Fmt.{decimal as written}
+use Rattle.std.specs.Int.{IsInRange}
 use Rattle.std.specs.List.{All}
 use Rattle.std.specs.Str.Parse.{IsNumeral, digits_value, without_leading_plus}
 use Rattle.std.proofs.lemmas.Bool.{eq-eqb, ne_eqb}
@@ -51,30 +52,29 @@ between_written x least most low high few =
 
 -- ---- texts with commas
 
-no_mark : (c x : ℕ) → x < 2 ^ 64 → (c < 48) → All (λ b. (b == c) ≡ false) (written x)
-no_mark c x fits low i d inside =
-    ne_eqb _ c (λ e. not_in_digits own (written x) c (digits_decimal own x fits) (λ r. absurd (omega (arith, r)))
-    i inside (get_or_default (written x) i 0 d inside ∙ e))
+pub no_mark : (c x : ℕ) → x < 2 ^ 64 → (IsInRange 48 57 c → ⊥) → All (λ b. (b == c) ≡ false) (written x)
+no_mark c x fits out i d inside =
+    ne_eqb _ c (λ e. not_in_digits own (written x) c (digits_decimal own x fits) out i inside
+    (get_or_default (written x) i 0 d inside ∙ e))
 
 -- the parts of a written number and what follows a mark
-pub mark_after : (c x : ℕ) → x < 2 ^ 64 → c < 48 → (more : Text)
-    → parts_at c (written x ++ c ∷ more) ≡ written x ∷ parts_at c more
-mark_after c x fits low more =
-    slice_split_at (λ b. b == c) (written x) c more (no_mark c x fits low) (eq-eqb c c refl)
+comma_after : (x : ℕ) → x < 2 ^ 64 → (more : Text)
+    → parts_at comma (written x ++ comma ∷ more) ≡ written x ∷ parts_at comma more
+comma_after x fits more =
+    slice_split_at (λ b. b == comma) (written x) comma more (no_mark comma x fits (λ r. absurd (omega (arith, r))))
+    (eq-eqb comma comma refl)
 
-pub no_mark_after : (c x : ℕ) → x < 2 ^ 64 → c < 48 → parts_at c (written x) ≡ written x ∷ []
-no_mark_after c x fits low = slice_split_none (λ b. b == c) (written x) (no_mark c x fits low)
+no_comma_after : (x : ℕ) → x < 2 ^ 64 → parts_at comma (written x) ≡ written x ∷ []
+no_comma_after x fits =
+    slice_split_none (λ b. b == comma) (written x) (no_mark comma x fits (λ r. absurd (omega (arith, r))))
 
 four_parts : (rows : SeatRows) → AreRowsInRange rows → parts_at comma (rows_text rows)
     ≡ written rows.op_rows ∷ written rows.bucket_rows ∷ written rows.bucket_words ∷ written rows.directory_rows ∷ []
 four_parts rows h =
-    mark_after comma rows.op_rows (omega (arith, h.op_rows)) (omega arith) _
-    ∙ ap (λ ps. written rows.op_rows ∷ ps) (mark_after comma rows.bucket_rows
-    (omega (arith, h.bucket_rows)) (omega arith) _
-    ∙ ap (λ ps. written rows.bucket_rows ∷ ps) (mark_after comma rows.bucket_words
-    (omega (arith, h.bucket_words)) (omega arith) _
-    ∙ ap (λ ps. written rows.bucket_words ∷ ps) (no_mark_after comma rows.directory_rows
-    (omega (arith, h.directory_rows)) (omega arith))))
+    comma_after rows.op_rows (omega (arith, h.op_rows)) _
+    ∙ ap (λ ps. written rows.op_rows ∷ ps) (comma_after rows.bucket_rows (omega (arith, h.bucket_rows)) _
+    ∙ ap (λ ps. written rows.bucket_rows ∷ ps) (comma_after rows.bucket_words (omega (arith, h.bucket_words)) _
+    ∙ ap (λ ps. written rows.bucket_words ∷ ps) (no_comma_after rows.directory_rows (omega (arith, h.directory_rows)))))
 
 pub rows_text_back : (rows : SeatRows) → AreRowsInRange rows → rows_of (rows_text rows) ≡ Some rows
 rows_text_back rows h =

@@ -89,7 +89,7 @@ abbrev pub numbers : List Number
 numbers = seats ∷ items ∷ depth ∷ start ∷ seed ∷ capture_number ∷ packets ∷ []
 
 abbrev pub texts : List Text
-texts = codes "hash" ∷ codes "share" ∷ codes "rows" ∷ []
+texts = codes "hash" ∷ codes "share" ∷ codes "rows" ∷ codes "schedule" ∷ codes "stop" ∷ []
 
 -- the command of the program
 unfoldable pub flowdir_app : App

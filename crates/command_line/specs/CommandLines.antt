@@ -12,11 +12,17 @@ use Rattle.step_counts.specs.declared.rows.SeatRows.{SeatRows}
 use Rattle.trace_share.specs.declared.deals.Share.{Share}
 use Rattle.trace_share.specs.declared.deals.Share.TheVariants.{Round, Block, Flow}
 use Rattle.command_line.specs.Command.{Number, capture_number, depth, flowdir_app, items, packets, seats, seed, start}
+use Rattle.command_line.specs.Plays.{colon, most_segments, most_slots, most_steps, star}
 use Rattle.command_line.specs.Texts.{◌>>=◌, comma}
-use Rattle.command_line.specs.Words.{IsInRange, asked_rows, decimal, hashing_of, share_of, start_below}
+use Rattle.command_line.specs.Words.{IsInRange, asked_rows, asked_schedule, asked_stops, decimal, hashing_of}
+use Rattle.command_line.specs.Words.{share_of, start_below}
 use Rattle.command_line.specs.declared.plan.Mode.{Mode}
-use Rattle.command_line.specs.declared.plan.Mode.TheVariants.{Serve, Make, Trial}
+use Rattle.command_line.specs.declared.plan.Mode.TheVariants.{Serve, Play, Make, Trial}
 use Rattle.command_line.specs.declared.plan.Plan.{Plan}
+use Rattle.command_line.specs.declared.plays.Segment.{Segment}
+use Rattle.step_counts.specs.Ranges.{IsWithin}
+use Rattle.std.specs.List.{All, join_with_byte}
+use Rattle.std.specs.Prelude.{◌≡◌, ◌≤◌, ◌+◌, IfSome, length, map, replicate}
 
 -- the plan of `serve` alone
 abbrev pub default_plan : Plan
@@ -29,6 +35,8 @@ default_plan = record {
   hashing = Mix 0;
   share = Round;
   rows = None;
+  schedule = [];
+  stops = None ∷ None ∷ [];
   number = 0;
   packets = 1000;
 }
@@ -37,7 +45,7 @@ default_plan = record {
 abbrev pub faults : List Text → Kinds
 faults words = fault_of flowdir_app words
 
--- ---- a line with each option but that of the rows, for any texts
+-- ---- a line with each option, for any texts
 
 pub record Given : Type 0 where
   pub seats : Text
@@ -52,6 +60,7 @@ pub record Given : Type 0 where
 
 abbrev pub mode_text : Mode → Text
 mode_text Serve = codes "serve"
+mode_text Play = codes "play"
 mode_text Make = codes "make"
 mode_text Trial = codes "trial"
 
@@ -61,12 +70,21 @@ line_with mode g more = mode_text mode ∷ (codes "--seats=" ++ g.seats) ∷ (co
     ∷ (codes "--seed=" ++ g.seed) ∷ (codes "--share=" ++ g.share) ∷ (codes "--number=" ++ g.number)
     ∷ (codes "--packets=" ++ g.packets) ∷ more
 
-abbrev pub rows_words : Option Text → List Text
-rows_words None = []
-rows_words (Some text) = (codes "--rows=" ++ text) ∷ []
+-- the texts that have no default
+pub record Lists : Type 0 where
+  pub rows : Option Text
+  pub schedule : Option Text
+  pub stop : Option Text
 
-abbrev pub line : Mode → Given → Option Text → List Text
-line mode g rows = line_with mode g (rows_words rows)
+-- an option and its text, or nothing
+abbrev pub words_of : Text → Option Text → List Text
+words_of name None = []
+words_of name (Some text) = (name ++ text) ∷ []
+
+abbrev pub line : Mode → Given → Lists → List Text
+line mode g lists =
+    line_with mode g (words_of (codes "--rows=") lists.rows ++ (words_of (codes "--schedule=") lists.schedule
+    ++ words_of (codes "--stop=") lists.stop))
 
 abbrev pub is_in : Number → Text → Bool
 is_in n text = is_unsigned_in n.least n.most text
@@ -77,9 +95,9 @@ tests g = is_in seats g.seats ∷ is_in items g.items ∷ is_in depth g.depth �
     ∷ is_in capture_number g.number ∷ is_in packets g.packets ∷ []
 
 -- the plan of the texts: of those that the mode uses alone
-abbrev pub asked : Mode → Given → Option Text → Option Plan
-asked Serve g rows = do
-  rows ← asked_rows rows
+abbrev pub asked : Mode → Given → Lists → Option Plan
+asked Serve g lists = do
+  rows ← asked_rows lists.rows
   start ← start_below (decimal g.depth) (decimal g.start)
   hashing ← hashing_of g.hash (decimal g.seed)
   share ← share_of g.share
@@ -92,15 +110,38 @@ asked Serve g rows = do
     hashing = hashing;
     share = share;
     rows = rows;
+    schedule = [];
+    stops = replicate (decimal g.seats) None;
     number = 0;
     packets = 1000;
   })
-asked Make g rows = Some (record default_plan {
+asked Play g lists = do
+  rows ← asked_rows lists.rows
+  schedule ← asked_schedule (decimal g.seats) lists.schedule
+  stops ← asked_stops (decimal g.seats) lists.stop
+  start ← start_below (decimal g.depth) (decimal g.start)
+  hashing ← hashing_of g.hash (decimal g.seed)
+  share ← share_of g.share
+  Some (record {
+    mode = Play;
+    seats = decimal g.seats;
+    items = decimal g.items;
+    depth = decimal g.depth;
+    start = start;
+    hashing = hashing;
+    share = share;
+    rows = rows;
+    schedule = schedule;
+    stops = stops;
+    number = 0;
+    packets = 1000;
+  })
+asked Make g lists = Some (record default_plan {
   mode = Make;
   number = decimal g.number;
   packets = decimal g.packets;
 })
-asked Trial g rows = do
+asked Trial g lists = do
   start ← start_below (decimal g.depth) (decimal g.start)
   Some (record {
     mode = Trial;
@@ -111,6 +152,8 @@ asked Trial g rows = do
     hashing = Mix (decimal g.seed);
     share = Flow;
     rows = None;
+    schedule = [];
+    stops = replicate (decimal g.seats) None;
     number = decimal g.number;
     packets = decimal g.packets;
   })
@@ -149,14 +192,52 @@ rows_text rows =
     written rows.op_rows ++ (comma ∷ (written rows.bucket_rows
     ++ (comma ∷ (written rows.bucket_words ++ (comma ∷ written rows.directory_rows)))))
 
+-- I*K, or I*end
+abbrev pub slots_text : Option ℕ → Text
+slots_text None = codes "end"
+slots_text (Some slots) = written slots
+
+abbrev pub segment_text : Segment → Text
+segment_text segment = written segment.seat ++ (star ∷ slots_text segment.slots)
+
+abbrev pub stop_text : ℕ × ℕ → Text
+stop_text stop = written stop.0 ++ (colon ∷ written stop.1)
+
+-- where each seat from one on is stopped, if it is
+abbrev pub stopped_from : (seat : ℕ) → List (Option ℕ) → List (ℕ × ℕ)
+stopped_from seat [] = []
+stopped_from seat (None ∷ stops) = stopped_from (seat + 1) stops
+stopped_from seat (Some steps ∷ stops) = (seat, steps) ∷ stopped_from (seat + 1) stops
+
+-- texts with commas between, where there is one
+abbrev pub joined : List Text → Option Text
+joined [] = None
+joined (text ∷ texts) = Some (join_with_byte comma (text ∷ texts))
+
+abbrev pub lists_of : Plan → Lists
+lists_of p = record {
+  rows = option_map rows_text p.rows;
+  schedule = joined (map segment_text p.schedule);
+  stop = joined (map stop_text (stopped_from 0 p.stops));
+}
+
 abbrev pub line_of : Plan → List Text
-line_of p = line p.mode (given_of p) (option_map rows_text p.rows)
+line_of p = line p.mode (given_of p) (lists_of p)
+
+-- a segment of one of so many seats
+pub record IsAskedSegment (seats : ℕ) (segment : Segment) : Type 0 where
+  pub seat : segment.seat < seats
+  pub slots : IfSome segment.slots (IsWithin 1 most_slots)
 
 -- a plan whose numbers are in their ranges
 pub record IsAskable (p : Plan) : Type 0 where
   pub range : IsInRange p
   pub seed : seed_of p.hashing < 2 ^ 64
   pub number : p.number < 2 ^ 64
+  pub segments : All (IsAskedSegment p.seats) p.schedule
+  pub few : length p.schedule ≤ most_segments
+  pub one_each : length p.stops ≡ p.seats
+  pub stops : All (λ stop. IfSome stop (λ steps. steps ≤ most_steps)) p.stops
 
 -- the plan with what its mode does not use as where no word says it
 abbrev pub as_used : Plan → Mode → Plan
@@ -169,6 +250,22 @@ as_used p Serve = record {
   hashing = p.hashing;
   share = p.share;
   rows = p.rows;
+  schedule = [];
+  stops = replicate p.seats None;
+  number = 0;
+  packets = 1000;
+}
+as_used p Play = record {
+  mode = Play;
+  seats = p.seats;
+  items = p.items;
+  depth = p.depth;
+  start = p.start;
+  hashing = p.hashing;
+  share = p.share;
+  rows = p.rows;
+  schedule = p.schedule;
+  stops = p.stops;
   number = 0;
   packets = 1000;
 }
@@ -182,6 +279,8 @@ as_used p Trial = record {
   hashing = Mix (seed_of p.hashing);
   share = Flow;
   rows = None;
+  schedule = [];
+  stops = replicate p.seats None;
   number = p.number;
   packets = p.packets;
 }

@@ -1,4 +1,5 @@
 pub mod Command
 pub mod Texts
+pub mod Plays
 pub mod Words
 pub mod CommandLines

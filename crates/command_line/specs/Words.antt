@@ -5,7 +5,7 @@
 -- default, where each text that the mode uses is one of the words for it. Of an option that the mode
 -- does not use nothing is looked at: it has its default.
 use Rattle.std.specs.Prelude.{◌≡◌, ◌≤◌, ℕ, Bool, true, false, List, [], Option, Some, None, codes, if◌then◌else◌}
-use Rattle.std.specs.Prelude.{Result, Ok, Err, unwrap_or, IfSome}
+use Rattle.std.specs.Prelude.{Result, Ok, Err, unwrap_or, IfSome, replicate}
 use Rattle.std.specs.Option.{option_map, option_map_or}
 use Rattle.std.specs.Str.{bytes_eq}
 use Rattle.std.specs.Str.Parse.{digits_value, without_leading_plus}
@@ -19,10 +19,12 @@ use Rattle.step_counts.specs.declared.rows.SeatRows.{SeatRows}
 use Rattle.trace_share.specs.declared.deals.Share.{Share}
 use Rattle.trace_share.specs.declared.deals.Share.TheVariants.{Round, Block, Flow}
 use Rattle.command_line.specs.Command.{Number, capture_number, depth, flowdir_app, items, packets, seats, seed, start}
+use Rattle.command_line.specs.Plays.{schedule_of, stops_of}
 use Rattle.command_line.specs.Texts.{◌>>=◌, AreRowsInRange, at_most, rows_of}
 use Rattle.command_line.specs.declared.plan.Mode.{Mode}
 use Rattle.command_line.specs.declared.plan.Mode.TheVariants as mode
 use Rattle.command_line.specs.declared.plan.Plan.{Plan}
+use Rattle.command_line.specs.declared.plays.Segment.{Segment}
 use Rattle.command_line.specs.declared.words.WordsFault.{WordsFault}
 use Rattle.command_line.specs.declared.words.WordsFault.TheVariants as fault
 
@@ -44,20 +46,23 @@ text_in given name default = unwrap_or (given name) default
 
 abbrev pub mode_of : Text → Option Mode
 mode_of text = if bytes_eq text (codes "serve") then Some mode.Serve
+    else (if bytes_eq text (codes "play") then Some mode.Play
     else (if bytes_eq text (codes "make") then Some mode.Make
-    else (if bytes_eq text (codes "trial") then Some mode.Trial else None))
+    else (if bytes_eq text (codes "trial") then Some mode.Trial else None)))
 
 -- ---- what a mode uses
 
 -- the mode has a table: it uses `seats`, `items`, `depth`, `start` and `seed`
 abbrev pub has_table : Mode → Bool
 has_table mode.Serve = true
+has_table mode.Play = true
 has_table mode.Make = false
 has_table mode.Trial = true
 
 -- the mode makes a capture: it uses `number` and `packets`
 abbrev pub makes_capture : Mode → Bool
 makes_capture mode.Serve = false
+makes_capture mode.Play = false
 makes_capture mode.Make = true
 makes_capture mode.Trial = true
 
@@ -78,6 +83,7 @@ hashing_of text seed = if bytes_eq text (codes "mix") then Some (Mix seed)
 
 abbrev pub hashing_in : Mode → Values → Option Hashing
 hashing_in mode.Serve given = hashing_of (text_in given (codes "hash") (codes "mix")) (number_in given seed)
+hashing_in mode.Play given = hashing_of (text_in given (codes "hash") (codes "mix")) (number_in given seed)
 hashing_in mode.Make given = Some (Mix seed.default)
 hashing_in mode.Trial given = Some (Mix (number_in given seed))
 
@@ -89,6 +95,7 @@ share_of text = if bytes_eq text (codes "round") then Some Round
 -- a trial serves by flows
 abbrev pub share_in : Mode → Values → Option Share
 share_in mode.Serve given = share_of (text_in given (codes "share") (codes "round"))
+share_in mode.Play given = share_of (text_in given (codes "share") (codes "round"))
 share_in mode.Make given = Some Round
 share_in mode.Trial given = Some Flow
 
@@ -99,24 +106,52 @@ asked_rows (Some text) = option_map (λ (rows : SeatRows). Some rows) (rows_of t
 
 abbrev pub rows_for : Mode → Values → Option (Option SeatRows)
 rows_for mode.Serve given = asked_rows (given (codes "rows"))
+rows_for mode.Play given = asked_rows (given (codes "rows"))
 rows_for mode.Make given = Some None
 rows_for mode.Trial given = Some None
 
--- the plan of a mode with these rows
-abbrev pub plan_with : Mode → Option SeatRows → Values → Option Plan
-plan_with mode rows given = do
+abbrev pub seats_in : Mode → Values → ℕ
+seats_in mode given = number_if (has_table mode) given seats
+
+-- the schedule of a text, empty where there is no text
+abbrev pub asked_schedule : (seats : ℕ) → Option Text → Option (List Segment)
+asked_schedule n None = Some []
+asked_schedule n (Some text) = schedule_of n text
+
+abbrev pub schedule_for : Mode → (seats : ℕ) → Values → Option (List Segment)
+schedule_for mode.Serve n given = Some []
+schedule_for mode.Play n given = asked_schedule n (given (codes "schedule"))
+schedule_for mode.Make n given = Some []
+schedule_for mode.Trial n given = Some []
+
+-- the stops of a text; no seat is stopped where there is no text
+abbrev pub asked_stops : (seats : ℕ) → Option Text → Option (List (Option ℕ))
+asked_stops n None = Some (replicate n None)
+asked_stops n (Some text) = stops_of n text
+
+abbrev pub stops_in : Mode → (seats : ℕ) → Values → Option (List (Option ℕ))
+stops_in mode.Serve n given = Some (replicate n None)
+stops_in mode.Play n given = asked_stops n (given (codes "stop"))
+stops_in mode.Make n given = Some (replicate n None)
+stops_in mode.Trial n given = Some (replicate n None)
+
+-- the plan of a mode with these rows, this schedule and these stops
+abbrev pub plan_with : Mode → Option SeatRows → List Segment → List (Option ℕ) → Values → Option Plan
+plan_with mode rows schedule stops given = do
   start ← start_in mode given
   hashing ← hashing_in mode given
   share ← share_in mode given
   Some (record {
     mode = mode;
-    seats = number_if (has_table mode) given seats;
+    seats = seats_in mode given;
     items = number_if (has_table mode) given items;
     depth = number_if (has_table mode) given depth;
     start = start;
     hashing = hashing;
     share = share;
     rows = rows;
+    schedule = schedule;
+    stops = stops;
     number = number_if (makes_capture mode) given capture_number;
     packets = number_if (makes_capture mode) given packets;
   })
@@ -126,7 +161,9 @@ abbrev pub plan_of : Values → Option Plan
 plan_of given = do
   mode ← mode_of (text_in given (codes "mode") [])
   rows ← rows_for mode given
-  plan_with mode rows given
+  schedule ← schedule_for mode (seats_in mode given) given
+  stops ← stops_in mode (seats_in mode given) given
+  plan_with mode rows schedule stops given
 
 -- the numbers of the plan are those that a table, and a made capture, may have
 pub record IsInRange (p : Plan) : Type 0 where

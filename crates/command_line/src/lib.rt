@@ -2,7 +2,9 @@
 #![tactic(auto)]
 
 mod plan;
+mod plays;
 mod words;
 
 pub use plan::{Mode, Plan};
+pub use plays::{Schedule, Segment, Stops};
 pub use words::{WordsFault, command_line_laws, read_words};

@@ -1,5 +1,6 @@
 //! What a command line asks for.
 
+use crate::plays::{Schedule, Stops};
 use hash_bits::Hashing;
 use step_counts::SeatRows;
 use trace_share::Share;
@@ -9,6 +10,8 @@ use trace_share::Share;
 pub enum Mode {
     /// Reads a capture, calls the table for each packet, and reports.
     Serve,
+    /// Serves a capture by one given schedule, step by step.
+    Play,
     /// Writes the made capture, and reads nothing.
     Make,
     /// Serves the made capture, with share `flow` and hash `mix`, and prints a summary; reads nothing.
@@ -16,7 +19,7 @@ pub enum Mode {
 }
 
 /// The mode and its settings. A setting that the mode does not use has its default.
-#[derive(Clone, Copy, Debug, PartialEq, Eq)]
+#[derive(Debug, Drop)]
 pub struct Plan {
     pub mode: Mode,
     /// How many callers the table has, 1 to 8.
@@ -32,6 +35,10 @@ pub struct Plan {
     pub share: Share,
     /// The rows of each seat; `None` where they are automatic.
     pub rows: Option<SeatRows>,
+    /// Which seat goes when; empty where no word says it.
+    pub schedule: Schedule,
+    /// Where each seat is stopped, if it is, in the order of the seats.
+    pub stops: Stops,
     /// The number of the made capture.
     pub number: u64,
     /// How many packets the made capture has, 0 to 4,000,000.

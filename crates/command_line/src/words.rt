@@ -1,8 +1,8 @@
 //! The words of a command line, `flowdir MODE [options]` without its first word.
 //!
 //! `clap` states which words a simple command takes, and what it finds in them. The plan is a
-//! function of that: each option's value or its default. The program itself reads only the text
-//! of rows.
+//! function of that: each option's value or its default. The program itself reads only the texts
+//! of rows, of a schedule and of stops.
 
 ghost use Rattle.std.specs.Prelude.{◌≡◌, IfOk, IfErr, [], map, string_bytes};
 ghost use Rattle.std.specs.List.{AllByRecursion};
@@ -20,6 +20,7 @@ use std::alloc::{AllocError, Global};
 mod command;
 mod laws;
 mod options;
+mod plays;
 #[cfg(test)]
 mod tests;
 mod texts;
@@ -31,7 +32,7 @@ pub use laws::command_line_laws;
 #[derive(Clone, Copy, Debug, PartialEq, Eq, thiserror::Error)]
 pub enum WordsFault {
     /// The command does not take the words, or a text that the mode uses is not a word for it.
-    #[error("usage: flowdir serve|make|trial [options]")]
+    #[error("usage: flowdir serve|play|make|trial [options]")]
     Usage,
     #[error("out of memory")]
     Memory,

@@ -1,13 +1,13 @@
 //! What the definitions say of some command lines.
 
-ghost use Rattle.std.specs.Prelude.{◌≡◌, ℕ, List, [], ◌∷◌, ◌++◌, if◌then◌else◌, Option, Some, None, codes, true};
+ghost use Rattle.std.specs.Prelude.{◌≡◌, ℕ, List, [], ◌∷◌, ◌++◌, if◌then◌else◌, Some, None, codes, true};
 ghost use Rattle.std.specs.List.{list_all};
 ghost use Rattle.clap.specs.ValueTests.{is_unsigned_in};
 ghost use Rattle.clap.specs.Walk.{Text};
 ghost use Rattle.clap.specs.Words.{is_simple_and_free};
 ghost use Rattle.command_line.specs.Command.{flowdir_app};
-ghost use Rattle.command_line.specs.CommandLines.{Given, IsAskable, as_used, asked, default_plan, faults, line};
-ghost use Rattle.command_line.specs.CommandLines.{line_of, tests};
+ghost use Rattle.command_line.specs.CommandLines.{Given, IsAskable, Lists, as_used, asked, default_plan, faults};
+ghost use Rattle.command_line.specs.CommandLines.{line, line_of, tests};
 ghost use Rattle.command_line.specs.Words.{decimal, reads};
 ghost use Rattle.command_line.specs.declared.plan.Mode.{Mode};
 ghost use Rattle.command_line.specs.declared.plan.Plan.{Plan};
@@ -27,8 +27,8 @@ pub fn command_line_laws()
     ensures any_items { (t : List ℕ) → reads (codes "serve" ∷ (codes "--items=" ++ t) ∷ [])
         ≡ (if is_unsigned_in 1 16 t
         then Some (record default_plan { items = decimal t }) else None) }
-    ensures any_line { (mode : Mode) (g : Given) (rows : Option Text) → reads (line mode g rows)
-        ≡ (if list_all (λ b. b) (tests g) then asked mode g rows else None) }
+    ensures any_line { (mode : Mode) (g : Given) (lists : Lists) → reads (line mode g lists)
+        ≡ (if list_all (λ b. b) (tests g) then asked mode g lists else None) }
     ensures round_trip { (p : Plan) → IsAskable p → reads (line_of p) ≡ Some (as_used p p.mode) }
     ensures unused { (words : List Text) (p : Plan) → reads words ≡ Some p → as_used p p.mode ≡ p }
     ensures no_words { faults [] ≡ ErrorKind.MissingRequiredArgument ∷ [] }

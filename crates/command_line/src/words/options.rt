@@ -69,4 +69,4 @@ pub static NUMBERS: [NumberOption<'static>; 7] = [
 ];
 
 /// The options with a text.
-pub static TEXTS: [&str; 3] = ["hash", "share", "rows"];
+pub static TEXTS: [&str; 5] = ["hash", "share", "rows", "schedule", "stop"];

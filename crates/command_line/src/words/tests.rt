@@ -1,11 +1,26 @@
-use crate::{Mode, Plan, WordsFault, read_words};
+use crate::{Mode, Plan, Segment, WordsFault, read_words};
 use hash_bits::Hashing;
-use std::alloc::Global;
+use std::alloc::{AllocError, Global};
 use std::test::Fail;
 use step_counts::SeatRows;
 use trace_share::Share;
 
-const DEFAULT: Plan = Plan {
+/// The parts of a plan that are one value each. A schedule and stops have tests of their own.
+#[derive(Clone, Copy, Debug, PartialEq, Eq)]
+struct Wanted {
+    mode: Mode,
+    seats: u32,
+    items: u32,
+    depth: u32,
+    start: u32,
+    hashing: Hashing,
+    share: Share,
+    rows: Option<SeatRows>,
+    number: u64,
+    packets: u32,
+}
+
+const DEFAULT: Wanted = Wanted {
     mode: Mode::Serve,
     seats: 2,
     items: 8,
@@ -18,6 +33,21 @@ const DEFAULT: Plan = Plan {
     packets: 1_000,
 };
 
+fn wanted_of(plan: &Plan) -> Wanted {
+    Wanted {
+        mode: plan.mode,
+        seats: plan.seats,
+        items: plan.items,
+        depth: plan.depth,
+        start: plan.start,
+        hashing: plan.hashing,
+        share: plan.share,
+        rows: plan.rows,
+        number: plan.number,
+        packets: plan.packets,
+    }
+}
+
 /// The rows of one seat, in the order of the words.
 fn rows(op_rows: u64, bucket_rows: u64, bucket_words: u64, directory_rows: u64) -> SeatRows {
     SeatRows {
@@ -28,19 +58,25 @@ fn rows(op_rows: u64, bucket_rows: u64, bucket_words: u64, directory_rows: u64) 
     }
 }
 
-/// The plan of a line's words, which stand apart by one blank; None for `Usage`.
-fn plan_of_line(alloc: Global, line: &str) -> Result<Option<Plan>, WordsFault> {
+/// A line's words, which stand apart by one blank.
+fn words_of(alloc: Global, line: &str) -> Result<Vec<String>, AllocError> {
     let mut words = Vec::new(alloc);
     for word in line.split(' ') {
         let word = String::from_str(alloc, word)?;
-        words.push(word).map_err(|_| WordsFault::Memory)?;
+        words.push(word)?;
     }
+    Ok(words)
+}
+
+/// The plan of a line's words; None for `Usage`.
+fn plan_of_line(alloc: Global, line: &str) -> Result<Option<Wanted>, WordsFault> {
+    let words = words_of(alloc, line)?;
     plan_of(alloc, words.as_slice())
 }
 
-fn plan_of(alloc: Global, words: &[String]) -> Result<Option<Plan>, WordsFault> {
+fn plan_of(alloc: Global, words: &[String]) -> Result<Option<Wanted>, WordsFault> {
     match read_words(alloc, words) {
-        Ok(plan) => Ok(Some(plan)),
+        Ok(plan) => Ok(Some(wanted_of(&plan))),
         Err(WordsFault::Usage) => Ok(None),
         Err(fault) => Err(fault),
     }
@@ -56,14 +92,14 @@ fn settings_in_and_past_their_ranges(rt: HostRuntime) -> Result<(), Fail> {
         ("serve --seats 0", None),
         (
             "serve --seats 1",
-            Some(Plan {
+            Some(Wanted {
                 seats: 1,
                 ..DEFAULT
             }),
         ),
         (
             "serve --seats 8",
-            Some(Plan {
+            Some(Wanted {
                 seats: 8,
                 ..DEFAULT
             }),
@@ -71,14 +107,14 @@ fn settings_in_and_past_their_ranges(rt: HostRuntime) -> Result<(), Fail> {
         ("serve --seats 9", None),
         (
             "serve --items 1",
-            Some(Plan {
+            Some(Wanted {
                 items: 1,
                 ..DEFAULT
             }),
         ),
         (
             "serve --items 16",
-            Some(Plan {
+            Some(Wanted {
                 items: 16,
                 ..DEFAULT
             }),
@@ -87,14 +123,14 @@ fn settings_in_and_past_their_ranges(rt: HostRuntime) -> Result<(), Fail> {
         ("serve --items 17", None),
         (
             "serve --depth 0",
-            Some(Plan {
+            Some(Wanted {
                 depth: 0,
                 ..DEFAULT
             }),
         ),
         (
             "serve --depth 12",
-            Some(Plan {
+            Some(Wanted {
                 depth: 12,
                 ..DEFAULT
             }),
@@ -102,14 +138,14 @@ fn settings_in_and_past_their_ranges(rt: HostRuntime) -> Result<(), Fail> {
         ("serve --depth 13", None),
         (
             "serve --start 10",
-            Some(Plan {
+            Some(Wanted {
                 start: 10,
                 ..DEFAULT
             }),
         ),
         (
             "serve --depth 12 --start 12",
-            Some(Plan {
+            Some(Wanted {
                 depth: 12,
                 start: 12,
                 ..DEFAULT
@@ -121,7 +157,7 @@ fn settings_in_and_past_their_ranges(rt: HostRuntime) -> Result<(), Fail> {
         ("serve --hash mix", Some(DEFAULT)),
         (
             "serve --hash ports",
-            Some(Plan {
+            Some(Wanted {
                 hashing: Hashing::Ports(0),
                 ..DEFAULT
             }),
@@ -129,14 +165,14 @@ fn settings_in_and_past_their_ranges(rt: HostRuntime) -> Result<(), Fail> {
         ("serve --hash Mix", None),
         (
             "serve --seed 7",
-            Some(Plan {
+            Some(Wanted {
                 hashing: Hashing::Mix(7),
                 ..DEFAULT
             }),
         ),
         (
             "serve --seed 18446744073709551615 --hash ports",
-            Some(Plan {
+            Some(Wanted {
                 hashing: Hashing::Ports(u64::MAX),
                 ..DEFAULT
             }),
@@ -145,14 +181,14 @@ fn settings_in_and_past_their_ranges(rt: HostRuntime) -> Result<(), Fail> {
         ("serve --share round", Some(DEFAULT)),
         (
             "serve --share block",
-            Some(Plan {
+            Some(Wanted {
                 share: Share::Block,
                 ..DEFAULT
             }),
         ),
         (
             "serve --share flow",
-            Some(Plan {
+            Some(Wanted {
                 share: Share::Flow,
                 ..DEFAULT
             }),
@@ -195,7 +231,7 @@ fn rows_in_and_past_their_grammar(rt: HostRuntime) -> Result<(), Fail> {
     ];
     for (text, want) in cases {
         let line = format!(in rt.alloc(); "serve --rows={text}")?;
-        let plan = want.map(|rows| Plan {
+        let plan = want.map(|rows| Wanted {
             rows: Some(rows),
             ..DEFAULT
         });
@@ -208,11 +244,11 @@ fn rows_in_and_past_their_grammar(rt: HostRuntime) -> Result<(), Fail> {
 /// has to be one in its range.
 #[test]
 fn options_that_a_mode_does_not_use(rt: HostRuntime) -> Result<(), Fail> {
-    let make = Plan {
+    let make = Wanted {
         mode: Mode::Make,
         ..DEFAULT
     };
-    let trial = Plan {
+    let trial = Wanted {
         mode: Mode::Trial,
         share: Share::Flow,
         ..DEFAULT
@@ -222,16 +258,16 @@ fn options_that_a_mode_does_not_use(rt: HostRuntime) -> Result<(), Fail> {
         ("trial", Some(trial)),
         (
             "make --number 7 --packets 5",
-            Some(Plan {
+            Some(Wanted {
                 number: 7,
                 packets: 5,
                 ..make
             }),
         ),
-        ("make --packets 0", Some(Plan { packets: 0, ..make })),
+        ("make --packets 0", Some(Wanted { packets: 0, ..make })),
         (
             "make --packets 4000000",
-            Some(Plan {
+            Some(Wanted {
                 packets: 4_000_000,
                 ..make
             }),
@@ -239,7 +275,7 @@ fn options_that_a_mode_does_not_use(rt: HostRuntime) -> Result<(), Fail> {
         ("make --packets 4000001", None),
         (
             "make --number 18446744073709551615",
-            Some(Plan {
+            Some(Wanted {
                 number: u64::MAX,
                 ..make
             }),
@@ -253,9 +289,10 @@ fn options_that_a_mode_does_not_use(rt: HostRuntime) -> Result<(), Fail> {
         ("make --seats 9", None),
         ("serve --number 7 --packets 5", Some(DEFAULT)),
         ("serve --packets 4000001", None),
+        ("serve --schedule 9 --stop 9", Some(DEFAULT)),
         (
             "trial --number 7 --packets 5000",
-            Some(Plan {
+            Some(Wanted {
                 number: 7,
                 packets: 5_000,
                 ..trial
@@ -263,7 +300,7 @@ fn options_that_a_mode_does_not_use(rt: HostRuntime) -> Result<(), Fail> {
         ),
         (
             "trial --seats 3 --items 4 --depth 6 --start 5",
-            Some(Plan {
+            Some(Wanted {
                 seats: 3,
                 items: 4,
                 depth: 6,
@@ -274,16 +311,152 @@ fn options_that_a_mode_does_not_use(rt: HostRuntime) -> Result<(), Fail> {
         ("trial --depth 4 --start 5", None),
         (
             "trial --seed 9 --hash ports --share block --rows 1,2,3,4",
-            Some(Plan {
+            Some(Wanted {
                 hashing: Hashing::Mix(9),
                 ..trial
             }),
         ),
-        ("trial --hash no --share none --rows 1", Some(trial)),
+        (
+            "trial --hash no --share none --rows 1 --schedule x --stop x",
+            Some(trial),
+        ),
+        (
+            "play --seats 3 --rows 1,2,3,4 --hash ports --seed 5 --share block --number 7",
+            Some(Wanted {
+                mode: Mode::Play,
+                seats: 3,
+                rows: Some(rows(1, 2, 3, 4)),
+                hashing: Hashing::Ports(5),
+                share: Share::Block,
+                ..DEFAULT
+            }),
+        ),
+        ("play --depth 4 --start 5", None),
+        ("play --hash no", None),
     ];
     for (line, want) in cases {
         assert_eq!(rt; plan_of_line(rt.alloc(), line)?, want, "{line}");
     }
+    Ok(())
+}
+
+/// The segments and the stops that a line of `play` asks for; None for `Usage`.
+fn plays_of(
+    alloc: Global,
+    line: &str,
+) -> Result<Option<(Vec<Segment>, Vec<Option<u32>>)>, WordsFault> {
+    let words = words_of(alloc, line)?;
+    match read_words(alloc, words.as_slice()) {
+        Ok(plan) => {
+            let segments = Vec::from_slice(alloc, plan.schedule.as_slice())?;
+            let stops = Vec::from_slice(alloc, plan.stops.as_slice())?;
+            Ok(Some((segments, stops)))
+        }
+        Err(WordsFault::Usage) => Ok(None),
+        Err(fault) => Err(fault),
+    }
+}
+
+/// `I*K` is K steps of seat I, `I*end` is seat I to the end of its calls.
+#[test]
+fn schedules_as_they_are_written(rt: HostRuntime) -> Result<(), Fail> {
+    let alloc = rt.alloc();
+    let one = [Segment {
+        seat: 1,
+        slots: Some(1_000_000),
+    }];
+    let two = [
+        Segment {
+            seat: 1,
+            slots: Some(12),
+        },
+        Segment {
+            seat: 0,
+            slots: None,
+        },
+    ];
+    let none: [Option<u32>; 2] = [None, None];
+    for (line, want) in [
+        ("play", &[][..]),
+        ("play --schedule 1*1000000", &one[..]),
+        ("play --schedule 1*12,0*end", &two[..]),
+        ("play --schedule=01*0000000012,0*end", &two[..]),
+        ("serve --schedule 1*12,0*end", &[][..]),
+    ] {
+        let Some((segments, stops)) = plays_of(alloc, line)? else {
+            return Err(Fail::from("refused"));
+        };
+        assert_eq!(rt; segments.as_slice(), want, "{line}");
+        assert_eq!(rt; stops.as_slice(), &none[..], "{line}");
+    }
+    Ok(())
+}
+
+/// What is in neither grammar, and what is at its ends.
+#[test]
+fn plays_in_and_past_their_grammar(rt: HostRuntime) -> Result<(), Fail> {
+    let alloc = rt.alloc();
+    let cases = [
+        ("play --schedule 2*1", false),
+        ("play --seats 3 --schedule 2*1", true),
+        ("play --seats 1 --schedule 1*1", false),
+        ("play --schedule 0*0", false),
+        ("play --schedule 0*1000001", false),
+        ("play --schedule 0*1,", false),
+        ("play --schedule ,0*1", false),
+        ("play --schedule=", false),
+        ("play --schedule 0", false),
+        ("play --schedule 0*", false),
+        ("play --schedule *1", false),
+        ("play --schedule 0*1*1", false),
+        ("play --schedule 0*End", false),
+        ("play --schedule 0*+1", false),
+        ("play --schedule 0*00000000001", false),
+        ("play --stop 0:0", true),
+        ("play --stop 0:1000000000,1:5", true),
+        ("play --stop 0:1000000001", false),
+        ("play --stop 0:1,0:2", false),
+        ("play --stop 0:1,0:1", false),
+        ("play --stop 1:1,0:2,1:1", false),
+        ("play --stop 2:1", false),
+        ("play --stop 0:end", false),
+        ("play --stop 0", false),
+        ("play --stop=", false),
+    ];
+    for (line, taken) in cases {
+        assert_eq!(rt; plays_of(alloc, line)?.is_some(), taken, "{line}");
+    }
+    Ok(())
+}
+
+/// A schedule has up to 1,000 segments.
+#[test]
+fn segments_up_to_their_number(rt: HostRuntime) -> Result<(), Fail> {
+    let alloc = rt.alloc();
+    let mut line = String::from_str(alloc, "play --schedule=0*1")?;
+    for _ in 1..1_000 {
+        line.push_str(",1*end")?;
+    }
+    let found = plays_of(alloc, line.as_str())?.map(|plays| plays.0.len());
+    assert_eq!(rt; found, Some(1_000));
+    line.push_str(",1*1")?;
+    assert_eq!(rt; plays_of(alloc, line.as_str())?.is_some(), false);
+    Ok(())
+}
+
+/// Each seat has its place among the stops, in whatever order they are written.
+#[test]
+fn stops_by_seat(rt: HostRuntime) -> Result<(), Fail> {
+    let alloc = rt.alloc();
+    let line = "play --seats 4 --stop 3:1000000000,1:0";
+    let Some((segments, stops)) = plays_of(alloc, line)? else {
+        return Err(Fail::from("refused"));
+    };
+    assert_eq!(rt; segments.len(), 0);
+    assert_eq!(rt;
+        stops.as_slice(),
+        &[None, Some(0), None, Some(1_000_000_000)][..]
+    );
     Ok(())
 }
 
@@ -292,7 +465,7 @@ fn options_that_a_mode_does_not_use(rt: HostRuntime) -> Result<(), Fail> {
 #[test]
 fn lines_that_are_taken_or_not(rt: HostRuntime) -> Result<(), Fail> {
     let alloc = rt.alloc();
-    let three = Some(Plan {
+    let three = Some(Wanted {
         items: 3,
         ..DEFAULT
     });
@@ -348,7 +521,10 @@ fn lines_that_are_taken_or_not(rt: HostRuntime) -> Result<(), Fail> {
 fn faults_as_text(rt: HostRuntime) -> Result<(), Fail> {
     let alloc = rt.alloc();
     let usage = format!(in alloc; "{}", WordsFault::Usage)?;
-    assert_eq!(rt; usage.as_str(), "usage: flowdir serve|make|trial [options]");
+    assert_eq!(rt;
+        usage.as_str(),
+        "usage: flowdir serve|play|make|trial [options]"
+    );
     let memory = format!(in alloc; "{}", WordsFault::Memory)?;
     assert_eq!(rt; memory.as_str(), "out of memory");
     Ok(())

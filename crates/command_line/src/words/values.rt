@@ -2,19 +2,22 @@
 //!
 //! An option that its mode does not use has no effect, and its text is not looked at.
 
-ghost use Rattle.std.specs.Prelude.{◌≡◌, ◌≤◌, IfOk, IfSome};
+ghost use Rattle.std.specs.Prelude.{◌≡◌, ◌<◌, ◌≤◌, IfOk, IfSome, None, replicate};
 ghost use Rattle.std.specs.List.{AllByRecursion};
 ghost use Rattle.std.specs.Option.{option_map};
 ghost use Rattle.clap.specs.Words.{first_value, found_of};
+ghost use Rattle.step_counts.specs.Ranges.{IsWithin};
 ghost use Rattle.command_line.specs.Command.{depth, number_of, numbers, Passes};
 ghost use Rattle.command_line.specs.Texts.{AreRowsInRange};
-ghost use Rattle.command_line.specs.Words.{asked_rows, has_table, hashing_in, hashing_of, makes_capture, mode_of};
-ghost use Rattle.command_line.specs.Words.{number_if, number_in};
-ghost use Rattle.command_line.specs.Words.{plan_of, plan_with, rows_for, share_in, share_of, start_in, text_in};
-ghost use Rattle.command_line.specs.Words.{IsInRange};
+ghost use Rattle.command_line.specs.Words.{asked_rows, asked_schedule, asked_stops, has_table, hashing_in};
+ghost use Rattle.command_line.specs.Words.{hashing_of, makes_capture, mode_of, number_if, number_in};
+ghost use Rattle.command_line.specs.Words.{plan_of, plan_with, rows_for, schedule_for, seats_in, share_in};
+ghost use Rattle.command_line.specs.Words.{share_of, start_in, stops_in, text_in, IsInRange};
 
 use crate::plan::{Mode, Plan};
+use crate::plays::{Schedule, Stops};
 use crate::words::options::{DEPTH, ITEMS, NUMBER, NumberOption, PACKETS, SEATS, SEED, START};
+use crate::words::plays::{schedule_of, stops_of};
 use crate::words::texts::rows_of;
 use clap::ArgMatches;
 use hash_bits::Hashing;
@@ -54,6 +57,8 @@ fn mode_of(text: &str) -> Option<Mode>
 {
     if text == "serve" {
         Some(Mode::Serve)
+    } else if text == "play" {
+        Some(Mode::Play)
     } else if text == "make" {
         Some(Mode::Make)
     } else if text == "trial" {
@@ -68,7 +73,7 @@ fn has_table(mode: Mode) -> bool
     ensures { result ≡ has_table mode }
 {
     match mode {
-        Mode::Serve | Mode::Trial => true,
+        Mode::Serve | Mode::Play | Mode::Trial => true,
         Mode::Make => false,
     }
 }
@@ -78,7 +83,7 @@ fn makes_capture(mode: Mode) -> bool
     ensures { result ≡ makes_capture mode }
 {
     match mode {
-        Mode::Serve => false,
+        Mode::Serve | Mode::Play => false,
         Mode::Make | Mode::Trial => true,
     }
 }
@@ -131,7 +136,10 @@ fn hashing_in(mode: Mode, matches: &ArgMatches<'_>) -> Option<Hashing>
     ensures { result ≡ hashing_in mode (first_value (found_of matches.now)) }
 {
     match mode {
-        Mode::Serve => hashing_of(text(matches, "hash", "mix"), number(matches, &SEED)),
+        Mode::Serve | Mode::Play => hashing_of(
+            text(matches, "hash", "mix"),
+            number(matches, &SEED),
+        ),
         Mode::Make => Some(Hashing::Mix(SEED.default)),
         Mode::Trial => Some(Hashing::Mix(number(matches, &SEED))),
     }
@@ -155,7 +163,7 @@ fn share_in(mode: Mode, matches: &ArgMatches<'_>) -> Option<Share>
     ensures { result ≡ share_in mode (first_value (found_of matches.now)) }
 {
     match mode {
-        Mode::Serve => share_of(text(matches, "share", "round")),
+        Mode::Serve | Mode::Play => share_of(text(matches, "share", "round")),
         Mode::Make => Some(Share::Round),
         Mode::Trial => Some(Share::Flow),
     }
@@ -185,16 +193,108 @@ fn rows_for(
     ensures fits { IfOk result (λ rows. IfSome rows (λ r. IfSome r AreRowsInRange)) }
 {
     match mode {
-        Mode::Serve => asked_rows(alloc, matches.get_str("rows")),
+        Mode::Serve | Mode::Play => asked_rows(alloc, matches.get_str("rows")),
         Mode::Make | Mode::Trial => Ok(Some(None)),
     }
 }
 
+fn seats_in(mode: Mode, matches: &ArgMatches<'_>) -> u32
+    requires { AllByRecursion (Passes (found_of matches.now)) numbers }
+    ensures seats { result ≡ seats_in mode (first_value (found_of matches.now)) }
+    ensures within { IsWithin 1 8 result }
+{
+    number_if(has_table(mode), matches, &SEATS) as u32
+}
+
+/// The schedule of a text, empty where there is no text.
+fn asked_schedule(
+    alloc: Global,
+    seats: u32,
+    text: Option<&str>,
+) -> Result<Option<Schedule>, AllocError>
+    requires { 0 < seats }
+    ensures { IfOk result (λ s. s ≡ asked_schedule seats (option_map (λ t. t.now) text.entry)) }
+{
+    match text {
+        Some(text) => match schedule_of(alloc, seats, text)? {
+            Some(segments) => Ok(Some(Schedule::new(segments))),
+            None => Ok(None),
+        },
+        None => Ok(Some(Schedule::new(Vec::new(alloc)))),
+    }
+}
+
+fn schedule_for(
+    alloc: Global,
+    mode: Mode,
+    seats: u32,
+    matches: &ArgMatches<'_>,
+) -> Result<Option<Schedule>, AllocError>
+    requires { 0 < seats }
+    ensures { IfOk result (λ s. s
+        ≡ schedule_for mode seats (first_value (found_of matches.now))) }
+{
+    match mode {
+        Mode::Play => asked_schedule(alloc, seats, matches.get_str("schedule")),
+        Mode::Serve | Mode::Make | Mode::Trial => asked_schedule(alloc, seats, None),
+    }
+}
+
+/// No seat is stopped.
+fn no_stops(alloc: Global, seats: u32) -> Result<Stops, AllocError>
+    ensures { IfOk result (λ s. s ≡ replicate seats None) }
+{
+    let mut steps = Vec::new(alloc);
+    for _ in 0..seats {
+        steps.push(None)?;
+    }
+    Ok(Stops::new(steps))
+}
+
+/// The stops of a text; no seat is stopped where there is no text.
+fn asked_stops(alloc: Global, seats: u32, text: Option<&str>) -> Result<Option<Stops>, AllocError>
+    requires { 0 < seats }
+    ensures { IfOk result (λ s. s ≡ asked_stops seats (option_map (λ t. t.now) text.entry)) }
+{
+    match text {
+        Some(text) => match stops_of(alloc, seats, text)? {
+            Some(steps) => Ok(Some(Stops::new(steps))),
+            None => Ok(None),
+        },
+        None => {
+            let stops = no_stops(alloc, seats)?;
+            Ok(Some(stops))
+        }
+    }
+}
+
+fn stops_in(
+    alloc: Global,
+    mode: Mode,
+    seats: u32,
+    matches: &ArgMatches<'_>,
+) -> Result<Option<Stops>, AllocError>
+    requires { 0 < seats }
+    ensures { IfOk result (λ s. s ≡ stops_in mode seats (first_value (found_of matches.now))) }
+{
+    match mode {
+        Mode::Play => asked_stops(alloc, seats, matches.get_str("stop")),
+        Mode::Serve | Mode::Make | Mode::Trial => asked_stops(alloc, seats, None),
+    }
+}
+
 /// The plan of the mode, with rows that can be asked for.
-fn plan_with(mode: Mode, rows: Option<SeatRows>, matches: &ArgMatches<'_>) -> Option<Plan>
+fn plan_with(
+    mode: Mode,
+    rows: Option<SeatRows>,
+    schedule: Schedule,
+    stops: Stops,
+    matches: &ArgMatches<'_>,
+) -> Option<Plan>
     requires passes { AllByRecursion (Passes (found_of matches.now)) numbers }
     requires rows { IfSome rows AreRowsInRange }
-    ensures plan { result ≡ plan_with mode rows (first_value (found_of matches.now)) }
+    ensures plan { result
+        ≡ plan_with mode rows schedule stops (first_value (found_of matches.now)) }
     ensures fits { IfSome result IsInRange }
 {
     let start = start_in(mode, matches)?;
@@ -204,13 +304,15 @@ fn plan_with(mode: Mode, rows: Option<SeatRows>, matches: &ArgMatches<'_>) -> Op
     let makes = makes_capture(mode);
     Some(Plan {
         mode,
-        seats: number_if(table, matches, &SEATS) as u32,
+        seats: seats_in(mode, matches),
         items: number_if(table, matches, &ITEMS) as u32,
         depth: number_if(table, matches, &DEPTH) as u32,
         start,
         hashing,
         share,
         rows,
+        schedule,
+        stops,
         number: number_if(makes, matches, &NUMBER),
         packets: number_if(makes, matches, &PACKETS) as u32,
     })
@@ -222,11 +324,18 @@ pub fn plan_of(alloc: Global, matches: &ArgMatches<'_>) -> Result<Option<Plan>, 
     ensures plan { IfOk result (λ p. p ≡ plan_of (first_value (found_of matches.now))) }
     ensures fits { IfOk result (λ p. IfSome p IsInRange) }
 {
-    match mode_of(text(matches, "mode", "")) {
-        Some(mode) => match rows_for(alloc, mode, matches)? {
-            Some(rows) => Ok(plan_with(mode, rows, matches)),
-            None => Ok(None),
-        },
-        None => Ok(None),
-    }
+    let Some(mode) = mode_of(text(matches, "mode", "")) else {
+        return Ok(None);
+    };
+    let Some(rows) = rows_for(alloc, mode, matches)? else {
+        return Ok(None);
+    };
+    let seats = seats_in(mode, matches);
+    let Some(schedule) = schedule_for(alloc, mode, seats, matches)? else {
+        return Ok(None);
+    };
+    let Some(stops) = stops_in(alloc, mode, seats, matches)? else {
+        return Ok(None);
+    };
+    Ok(plan_with(mode, rows, schedule, stops, matches))
 }

