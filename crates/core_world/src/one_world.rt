@@ -4,7 +4,7 @@ ghost use Rattle.std.specs.Prelude.{◌≡◌, ℕ, ◌^◌, ◌<◌, All, Err, 
 ghost use Rattle.plain_map.specs.declared.leaves.OpenFault.TheVariants.{NoRoom};
 ghost use Rattle.bucket_states.specs.Parts.{HasDistinctKeys};
 ghost use Rattle.word_rows.specs.Shape.{AreBelow};
-ghost use Rattle.core_model.specs.Setup.{IsFirstWithoutRoom, IsPair, IsSetup, rules_of};
+ghost use Rattle.core_model.specs.Setup.{IsFirstWithoutRoom, IsPair, IsSetup, rules_of, settings_of};
 ghost use Rattle.core_model.specs.Worlds.{IsEvent, seat_in};
 ghost use Rattle.word_rows.specs.LayoutView.{shape_of};
 ghost use Rattle.core_world.specs.Values.{IsMoment, opened, rests, setup_at, setup_of, stepped_of, with_event};
@@ -113,6 +113,13 @@ impl CoreWorld {
         ensures { IsMoment self.now }
     {
         let _ = &self.layout;
+    }
+
+    /// The settings of the table.
+    pub fn settings(&self) -> Settings
+        ensures { result ≡ settings_of self.now.setup }
+    {
+        *self.layout.settings()
     }
 
     /// Whether the seat is between two calls.

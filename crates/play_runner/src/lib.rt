@@ -2,7 +2,11 @@
 #![tactic(auto)]
 
 mod counts;
+mod ending;
+mod hands;
 mod playing;
+mod slots;
+mod turns;
 mod values;
 
 pub use counts::most_steps;

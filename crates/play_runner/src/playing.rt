@@ -5,6 +5,8 @@ ghost use Rattle.core_model.specs.Schedules.{CanPlay, play_of};
 ghost use Rattle.core_world.specs.Values.{opened};
 ghost use Rattle.play_runner.specs.Played.{IsPlayed, as_segment};
 
+use crate::ending::ended;
+use crate::turns::Playing;
 use crate::values::{Played, Segment};
 use core_world::CoreWorld;
 use plain_map::Call;
@@ -27,5 +29,12 @@ pub fn play(
     ensures { IfOk result (IsPlayed core.setup
         (play_of core.setup (map (λ own. own.items) calls.now) stops.now (map as_segment schedule.now))) }
 {
-    Err(AllocError)
+    let mut playing = Playing::new(alloc, core, calls, stops)?;
+    for segment in schedule {
+        playing.run_segment(segment)?;
+    }
+    playing.run_rounds()?;
+    let unbegun = playing.unbegun();
+    let Playing { core, outcomes, .. } = playing;
+    ended(alloc, core, outcomes, unbegun)
 }
