@@ -12,7 +12,8 @@ use Rattle.core_model.specs.Setup.{Setup, IsSetup, seats_of, settings_of}
 use Rattle.core_model.specs.SeatStates.{Stand, Idle, InFlight, SeatState, fresh_seat}
 use Rattle.core_model.specs.Worlds.{World, IsRun, world_after, seat_in}
 use Rattle.core_model.specs.Schedules.{Hand, Play, Segment, IsPlayable, CanPlay, PlaysAreRuns, PlaysEnd, empty_hand, hand_of, is_stopped, has_ended, call_steps, most_slots, slot, slots, with_events, events_of_slot, hand_after_slot, run_segment, run_round, run_rounds, first_hands, first_play, scheduled, play_of}
-use Rattle.core_schedules.proofs.Slots.{ArePlayable, left_at, IsDealt, IsGood, MayFly, SlotKeeps, slot_keeps, may_fly, some_steps}
+use Rattle.core_schedules.specs.Good.{ArePlayable, IsDealt, IsGood}
+use Rattle.core_schedules.proofs.Slots.{left_at, MayFly, SlotKeeps, slot_keeps, may_fly, some_steps}
 
 -- calls of which each can be played
 are_playable : (calls : List (ℕ × Call)) → All IsPlayable calls → ArePlayable calls
@@ -74,7 +75,7 @@ module _ (setup : Setup) where
   IsWithin n play seat = (is_stopped (hand_of play seat) ≡ true) ⊎ (left_in play seat ≤ n)
 
   -- a stopped seat does nothing
-  stopped_stays : (seat : ℕ) (play : Play) → is_stopped (hand_of play seat) ≡ true → slot setup seat play ≡ play
+  pub stopped_stays : (seat : ℕ) (play : Play) → is_stopped (hand_of play seat) ≡ true → slot setup seat play ≡ play
   stopped_stays seat play e =
       ap (λ (b : Bool). cond b play (with_events setup play seat
       (events_of_slot setup seat (seat_in play.world seat).account (hand_of play seat) (seat_in play.world seat).stand)

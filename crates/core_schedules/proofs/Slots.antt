@@ -19,25 +19,12 @@ use Rattle.core_model.specs.Fits.{most_steps}
 use Rattle.core_model.specs.Steps.{IsOnWord}
 use Rattle.core_fits.proofs.Whole.{every_step_fits}
 use Rattle.core_bounds.proofs.WorldSteps.{step_same, step_other}
-
--- calls that can be played, one by one
-abbrev pub ArePlayable : List (ℕ × Call) → Type 0
-ArePlayable [] = Unit {0}
-ArePlayable (begin ∷ calls) = IsPlayable begin × ArePlayable calls
-
--- one where a call is under way
-abbrev pub under_way : Stand → ℕ
-under_way Idle = 0
-under_way (InFlight flight phase) = 1
+use Rattle.core_schedules.specs.Good.{ArePlayable, under_way, CanCountOn, IsDealt, IsGood}
 
 -- the most slots that a seat can need which stands so, and has so many calls left
 abbrev pub left_at : (most : ℕ) → (calls : ℕ) → Stand → ℕ
 left_at most calls Idle = calls * most
 left_at most calls (InFlight flight phase) = calls * most + (most - flight.steps)
-
--- so many calls can still be counted
-abbrev pub CanCountOn : SeatState → (calls : ℕ) → Type 0
-CanCountOn state calls = length state.account.records + under_way state.stand + calls ≤ 2 ^ 32 - 1
 
 -- events follow on events
 pub events_on : (setup : Setup) (w : World) (front back : List Event) → AreEvents setup w front →
@@ -50,7 +37,7 @@ module _ (setup : Setup) (seat : ℕ) (h : seat < seats_of setup) where
   most = call_steps (settings_of setup)
 
   -- an event of the seat is its act
-  acts : (w : World) (begin : Option (ℕ × Call)) →
+  pub acts : (w : World) (begin : Option (ℕ × Call)) →
       happens setup w (record { seat = seat; begin = begin })
       ≡ act setup w seat (seat_in w seat).account (seat_in w seat).stand begin
   acts w begin =
@@ -81,13 +68,13 @@ module _ (setup : Setup) (seat : ℕ) (h : seat < seats_of setup) where
   module _ (w : World) (account : Account) (long : length w.seats ≡ seats_of setup)
       (is : seat_in w seat ≡ record { account = account; stand = Idle }) where
     -- an idle seat begins its call or is refused
-    begins : (begin : ℕ × Call) →
+    pub begins : (begin : ℕ × Call) →
         happens setup w (record { seat = seat; begin = Some begin })
         ≡ begin_or_refuse setup w seat account begin.0 begin.1 (refusal_of setup seat account begin.1)
     begins begin = acts w (Some begin)
         ∙ ap (λ (s : SeatState). act setup w seat s.account s.stand (Some begin)) is
 
-    refuses : (begin : ℕ × Call) (o : Option Full) → is_some o ≡ true →
+    pub refuses : (begin : ℕ × Call) (o : Option Full) → is_some o ≡ true →
         begin_or_refuse setup w seat account begin.0 begin.1 o ≡ w
     refuses begin (Some full) e = refl
     refuses begin None e = absurd (false≢true e)
@@ -99,7 +86,7 @@ module _ (setup : Setup) (seat : ℕ) (h : seat < seats_of setup) where
     steps begin None e = refl
 
     -- the event of a call that can be played
-    event_is : (begin : ℕ × Call) → IsPlayable begin → length account.records < 2 ^ 32 - 1 →
+    pub event_is : (begin : ℕ × Call) → IsPlayable begin → length account.records < 2 ^ 32 - 1 →
         IsEvent setup w (record { seat = seat; begin = Some begin })
     event_is begin p few = record {
       seat = h;
@@ -211,19 +198,6 @@ module _ (setup : Setup) (seat : ℕ) (h : seat < seats_of setup) where
       let long = length-append account.records (record_of seat flight reply place ∷ []) in
       (omega (arith, long), omega (arith, k))
   flies account flight word calls k Stuck n = absurd (n refl)
-
--- what is dealt to a seat can be played on
-pub record IsDealt (state : SeatState) (hand : Hand) : Type 0 where
-  pub calls : ArePlayable hand.calls
-  pub few : CanCountOn state (length hand.calls)
-
--- a play whose events are a run
-pub record IsGood (setup : Setup) (play : Play) : Type 0 where
-  pub run : IsRun setup play.events
-  pub world_is : play.world ≡ world_after setup play.events
-  pub long : length play.world.seats ≡ seats_of setup
-  pub hands : length play.hands ≡ seats_of setup
-  pub dealt : (seat : ℕ) → seat < seats_of setup → IsDealt (seat_in play.world seat) (hand_of play seat)
 
 -- what the events of one slot make of a world, and of the hand
 pub record Slotted (setup : Setup) (w : World) (seat : ℕ) (events : List Event) (hand : Hand)
