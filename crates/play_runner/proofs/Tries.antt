@@ -1,0 +1,172 @@
+-- The calls that an idle seat tries in one slot.
+use Rattle.std.proofs.Common.{◌≡◌, ℕ, ◌+◌, ◌-◌, ◌^◌, ◌<◌, ◌≤◌, Bool, true, false, cond, not, ◌||◌, List, [], ◌∷◌, ◌++◌, map, length, Option, Some, None, fold, refl, sym, ap, ◌∙◌, subst, arith, append-nil, append_assoc}
+use Rattle.std.specs.List.{list_any}
+use Rattle.plain_map.specs.declared.calls.Call.{Call}
+use Rattle.core_model.specs.declared.events.Event.{Event}
+use Rattle.core_model.specs.Setup.{Setup, seats_of}
+use Rattle.std.proofs.lemmas.Bool.{false≢true}
+use Rattle.core_model.specs.SeatStates.{Account, Stand, Idle, InFlight, SeatState}
+use Rattle.core_model.specs.Worlds.{FitsStand, IsEvent, World, happens, refusal_of, seat_in}
+use Rattle.core_model.specs.Schedules as S
+use Rattle.core_model.specs.Schedules.{events_of_slot, hand_after_slot, is_refused, one_begins, tried_of, untried_of, with_step}
+use Rattle.core_schedules.specs.Good.{ArePlayable}
+use Rattle.core_schedules.proofs.Slots as slots
+use Rattle.core_world.specs.Values.{CoreValue, rests, with_event}
+use Rattle.play_runner.specs.Plays.{IsAtSlot, TookSlot, with_all}
+
+-- a seat begins this call, or is refused
+abbrev pub beginning : (seat : ℕ) → ℕ × Call → Event
+beginning seat begin = record { seat = seat; begin = Some begin }
+
+-- the table after an idle seat has tried these calls
+abbrev pub after_tries : Setup → (seat : ℕ) → Account → List Event → World → List (ℕ × Call) → CoreValue
+after_tries setup seat account events w calls =
+    with_all (record { setup = setup; events = events; world = w })
+    (map (beginning seat) (tried_of (is_refused setup seat account) calls))
+
+-- and its hand
+abbrev pub hand_after : Setup → (seat : ℕ) → Account → Option ℕ → List (ℕ × Call) → S.Hand
+hand_after setup seat account may calls =
+    hand_after_slot setup seat account (record { calls = calls; may = may }) Idle
+
+-- how far the tries are, with these calls left: the calls before them were refused, so that nothing has changed
+pub record AreTrying (before now : CoreValue) (seat : ℕ) (hand : S.Hand) (left : List (ℕ × Call)) : Type 0 where
+  pub setup_is : now.setup ≡ before.setup
+  pub world_is : now.world ≡ before.world
+  pub core_is : after_tries before.setup seat (seat_in before.world seat).account now.events now.world left
+      ≡ after_tries before.setup seat (seat_in before.world seat).account before.events before.world hand.calls
+  pub hand_is : hand_after before.setup seat (seat_in before.world seat).account hand.may left
+      ≡ hand_after before.setup seat (seat_in before.world seat).account hand.may hand.calls
+  pub playable : ArePlayable left
+  pub few : length (seat_in before.world seat).account.records + length left ≤ 2 ^ 32 - 1
+
+module _ (before : CoreValue) (seat : ℕ) (hand : S.Hand) (h : seat < seats_of before.setup)
+    (long : length before.world.seats ≡ seats_of before.setup)
+    (idle : (seat_in before.world seat).stand ≡ Idle) where
+  abbrev account : Account
+  account = (seat_in before.world seat).account
+
+  is : seat_in before.world seat ≡ record { account = account; stand = Idle }
+  is = λ i. record { account = (seat_in before.world seat).account; stand = idle i }
+
+  -- the hand by whether the next call is refused
+  abbrev hand_by : Option ℕ → ℕ × Call → List (ℕ × Call) → Bool → S.Hand
+  hand_by may begin left b =
+      let calls : List (ℕ × Call) = cond b (untried_of (is_refused before.setup seat account) left) left in
+      cond (not b || one_begins (is_refused before.setup seat account) left)
+      (with_step (record { calls = calls; may = may })) (record { calls = calls; may = may })
+
+  -- the next call may begin
+  pub may_begin : (now : CoreValue) (begin : ℕ × Call) (left : List (ℕ × Call)) →
+      AreTrying before now seat hand (begin ∷ left) → IsEvent now.setup now.world (beginning seat begin)
+  may_begin now begin left t =
+      subst (λ (setup : Setup). IsEvent setup now.world (beginning seat begin)) (sym t.setup_is)
+      (subst (λ (w : World). IsEvent before.setup w (beginning seat begin)) (sym t.world_is)
+      (slots.event_is before.setup seat h before.world account long is begin t.playable.0 (omega (arith, t.few))))
+
+  -- it is refused
+  pub goes_past : (now : CoreValue) (begin : ℕ × Call) (left : List (ℕ × Call)) →
+      AreTrying before now seat hand (begin ∷ left) → is_refused before.setup seat account begin.1 ≡ true →
+      AreTrying before (with_event now (beginning seat begin)) seat hand left
+  goes_past now begin left t e = record {
+    setup_is = t.setup_is;
+    world_is = ap (λ (setup : Setup). happens setup now.world (beginning seat begin)) t.setup_is
+        ∙ ap (λ (w : World). happens before.setup w (beginning seat begin)) t.world_is
+        ∙ slots.begins before.setup seat h before.world account long is begin
+        ∙ slots.refuses before.setup seat h before.world account long is begin
+        (refusal_of before.setup seat account begin.1) e;
+    core_is = (λ i. record {
+          setup = before.setup;
+          events = append_assoc now.events (beginning seat begin ∷ []) later i;
+          world = fold (happens before.setup) (happens (t.setup_is i) now.world (beginning seat begin)) later;
+        })
+        ∙ ap (λ (b : Bool). with_all (record { setup = before.setup; events = now.events; world = now.world })
+        (map (beginning seat) (cond b (begin ∷ tried_of (is_refused before.setup seat account) left) (begin ∷ []))))
+        (sym e)
+        ∙ t.core_is;
+    hand_is = ap (hand_by hand.may begin left) (sym e) ∙ t.hand_is;
+    playable = t.playable.1;
+    few = omega (arith, t.few);
+  }
+    where
+      later : List Event
+      later = map (beginning seat) (tried_of (is_refused before.setup seat account) left)
+
+  -- it begins
+  pub begins_one : (now : CoreValue) (begin : ℕ × Call) (left : List (ℕ × Call)) →
+      AreTrying before now seat hand (begin ∷ left) → is_refused before.setup seat account begin.1 ≡ false →
+      TookSlot before (with_event now (beginning seat begin)) seat hand
+      (with_step (record { calls = left; may = hand.may }))
+  begins_one now begin left t e = record {
+    after_is = (λ i. record {
+          setup = t.setup_is i;
+          events = now.events ++ beginning seat begin ∷ [];
+          world = happens (t.setup_is i) now.world (beginning seat begin);
+        })
+        ∙ ap (λ (b : Bool). with_all (record { setup = before.setup; events = now.events; world = now.world })
+        (map (beginning seat) (cond b (begin ∷ tried_of (is_refused before.setup seat account) left) (begin ∷ []))))
+        (sym e)
+        ∙ t.core_is
+        ∙ ap (λ (stand : Stand). with_all before (events_of_slot before.setup seat account hand stand)) (sym idle);
+    left_is = ap (hand_by hand.may begin left) (sym e) ∙ t.hand_is
+        ∙ ap (hand_after_slot before.setup seat account hand) (sym idle);
+  }
+
+  -- none is left
+  pub none_left : (now : CoreValue) → AreTrying before now seat hand [] →
+      TookSlot before now seat hand (record { calls = []; may = hand.may })
+  none_left now t = record {
+    after_is = (λ i. record { setup = t.setup_is i; events = sym (append-nil now.events) i; world = now.world })
+        ∙ t.core_is
+        ∙ ap (λ (stand : Stand). with_all before (events_of_slot before.setup seat account hand stand)) (sym idle);
+    left_is = t.hand_is ∙ ap (hand_after_slot before.setup seat account hand) (sym idle);
+  }
+
+-- before the first
+pub all_left : (before : CoreValue) (seat : ℕ) (hand : S.Hand) → IsAtSlot before seat hand →
+    AreTrying before before seat hand hand.calls
+all_left before seat hand at = record {
+  setup_is = refl;
+  world_is = refl;
+  core_is = refl;
+  hand_is = refl;
+  playable = at.dealt.calls;
+  few = omega (arith, at.dealt.few);
+}
+
+-- a seat that rests is idle
+pub idle_at : (stand : Stand) → rests stand ≡ true → stand ≡ Idle
+idle_at Idle e = refl
+idle_at (InFlight flight phase) e = absurd (false≢true e)
+
+-- another may take its next step
+pub may_go : (core : CoreValue) (seat : ℕ) → seat < seats_of core.setup →
+    rests (seat_in core.world seat).stand ≡ false →
+    IsEvent core.setup core.world (record { seat = seat; begin = None })
+may_go core seat h e = record {
+  seat = h;
+  begin = fits (seat_in core.world seat).account (seat_in core.world seat).stand e;
+}
+  where
+    fits : (account : Account) (stand : Stand) → rests stand ≡ false → FitsStand account stand None
+    fits own Idle e = absurd (false≢true (sym e))
+    fits own (InFlight flight phase) e = refl
+
+-- and that is its slot
+pub goes_one : (core : CoreValue) (seat : ℕ) (hand : S.Hand) → rests (seat_in core.world seat).stand ≡ false →
+    TookSlot core (with_event core (record { seat = seat; begin = None })) seat hand (with_step hand)
+goes_one core seat hand e = record {
+  after_is = go (seat_in core.world seat).stand e;
+  left_is = left (seat_in core.world seat).stand e;
+}
+  where
+    go : (stand : Stand) → rests stand ≡ false →
+        with_event core (record { seat = seat; begin = None })
+        ≡ with_all core (events_of_slot core.setup seat (seat_in core.world seat).account hand stand)
+    go Idle e = absurd (false≢true (sym e))
+    go (InFlight flight phase) e = refl
+
+    left : (stand : Stand) → rests stand ≡ false →
+        with_step hand ≡ hand_after_slot core.setup seat (seat_in core.world seat).account hand stand
+    left Idle e = absurd (false≢true (sym e))
+    left (InFlight flight phase) e = refl
