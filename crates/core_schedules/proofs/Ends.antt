@@ -1,5 +1,5 @@
 -- Every play is a run, and in the end each seat has made its calls or is stopped.
-use Rattle.std.proofs.Common.{◌≡◌, ◌≢◌, ℕ, zero, suc, ◌+◌, ◌-◌, ◌*◌, ◌^◌, ◌<◌, ◌≤◌, ◌⊎◌, Bool, true, false, cond, not, ◌||◌, nat_lt, List, [], ◌∷◌, map, length, get_or, Option, Some, None, fold, sum_by, inl, inr, refl, sym, ap, ◌∙◌, subst, arith, add-mul, one-mul, suc-mul, All}
+use Rattle.std.proofs.Common.{◌≡◌, ◌≢◌, ℕ, zero, suc, ◌+◌, ◌-◌, ◌*◌, ◌^◌, ◌<◌, ◌≤◌, ◌⊎◌, Bool, true, false, cond, not, ◌||◌, nat_lt, List, [], ◌∷◌, length, get_or, Option, None, fold, sum_by, inl, inr, refl, sym, ap, ◌∙◌, subst, arith, add-mul, one-mul, suc-mul, All}
 use Rattle.std.specs.List.{range_with_len}
 use Rattle.std.specs.Option.{option_map_or}
 use Rattle.std.proofs.lemmas.List.{get_or_past, get_or-replicate, length-replicate}
@@ -8,12 +8,12 @@ use Rattle.std.proofs.lemmas.List.FromFn.{get_or-map-range_with_len, length-map-
 use Rattle.std.proofs.lemmas.List.Sums.{get_or-le-sum_by}
 use Rattle.std.proofs.lemmas.Bool.{cases_eq, cases_lt}
 use Rattle.plain_map.specs.declared.calls.Call.{Call}
-use Rattle.core_model.specs.Setup.{Setup, IsSetup, seats_of, settings_of}
+use Rattle.core_model.specs.Setup.{Setup, seats_of, settings_of}
 use Rattle.core_model.specs.SeatStates.{Stand, Idle, InFlight, SeatState, fresh_seat}
-use Rattle.core_model.specs.Worlds.{World, IsRun, world_after, seat_in}
-use Rattle.core_model.specs.Schedules.{Hand, Play, Segment, IsPlayable, CanPlay, PlaysAreRuns, PlaysEnd, empty_hand, hand_of, is_stopped, has_ended, call_steps, most_slots, slot, slots, with_events, events_of_slot, hand_after_slot, run_segment, run_round, run_rounds, first_hands, first_play, scheduled, play_of}
+use Rattle.core_model.specs.Worlds.{World, seat_in}
+use Rattle.core_model.specs.Schedules.{Hand, Play, Segment, IsPlayable, CanPlay, PlaysAreRuns, PlaysEnd, empty_hand, hand_of, is_stopped, has_ended, call_steps, most_slots, slot, slots, with_events, events_of_slot, hand_after_slot, run_segment, run_round, run_rounds, first_play, scheduled, play_of}
 use Rattle.core_schedules.specs.Good.{ArePlayable, IsDealt, IsGood}
-use Rattle.core_schedules.proofs.Slots.{left_at, MayFly, SlotKeeps, slot_keeps, may_fly, some_steps}
+use Rattle.core_schedules.proofs.Slots.{left_at, MayFly, slot_keeps, may_fly, some_steps}
 
 -- calls of which each can be played
 are_playable : (calls : List (ℕ × Call)) → All IsPlayable calls → ArePlayable calls

@@ -1,12 +1,10 @@
 -- Slots that are skipped: they leave the play as it is.
-use Rattle.std.proofs.Common.{◌≡◌, ℕ, zero, suc, ◌+◌, ◌<◌, Bool, true, false, cond, List, [], ◌∷◌, ◌++◌, length, get_or, set, fold, refl, sym, ap, ◌∙◌, subst, arith, append-nil}
+use Rattle.std.proofs.Common.{◌≡◌, ℕ, zero, suc, ◌+◌, ◌<◌, Bool, true, false, cond, [], fold, refl, sym, ap, ◌∙◌, arith, append-nil}
 use Rattle.std.specs.List.{range_with_len}
 use Rattle.std.proofs.lemmas.List.{set-get_or}
-use Rattle.plain_map.specs.declared.calls.Call.{Call}
-use Rattle.core_model.specs.declared.events.Event.{Event}
 use Rattle.core_model.specs.Setup.{Setup, seats_of}
-use Rattle.core_model.specs.SeatStates.{Account, Stand, Idle, InFlight, SeatState}
-use Rattle.core_model.specs.Worlds.{World, seat_in}
+use Rattle.core_model.specs.SeatStates.{Account, Stand, Idle}
+use Rattle.core_model.specs.Worlds.{seat_in}
 use Rattle.core_model.specs.Schedules.{Hand, Play, empty_hand, events_of_slot, hand_after_slot, hand_of, is_stopped, run_round, run_rounds, slot, slots, with_events}
 
 -- with no event and the same hand

@@ -1,5 +1,5 @@
 -- The calls that end, event by event.
-use Rattle.std.proofs.Common.{◌≡◌, ℕ, Bool, true, false, List, [], ◌∷◌, ◌++◌, Option, Some, None, is_some, fold, refl, sym, ap, ◌∙◌, append-nil, append_assoc}
+use Rattle.std.proofs.Common.{◌≡◌, ℕ, List, [], ◌∷◌, ◌++◌, Option, Some, None, is_some, fold, refl, sym, ap, ◌∙◌, append-nil, append_assoc}
 use Rattle.plain_map.specs.declared.calls.Call.{Call}
 use Rattle.plain_map.specs.declared.full.Full.{Full}
 use Rattle.plain_map.specs.declared.records.Record.{Record}
@@ -7,7 +7,7 @@ use Rattle.trace_share.specs.declared.outcome.Outcome.{Outcome}
 use Rattle.core_model.specs.declared.events.Event.{Event}
 use Rattle.core_model.specs.Setup.{Setup}
 use Rattle.core_model.specs.SeatStates.{Account, Idle, SeatState}
-use Rattle.core_model.specs.Worlds.{World, happens, opening_world, seat_in, world_after}
+use Rattle.core_model.specs.Worlds.{World, happens, opening_world, seat_in}
 use Rattle.core_model.specs.Schedules.{is_refused}
 use Rattle.core_world.specs.Values.{CoreValue, IsMoment, new_record, refused_at, stepped_of, told_of, with_event}
 use Rattle.play_runner.specs.Played.{outcome_in, outcomes_from, outcomes_of}

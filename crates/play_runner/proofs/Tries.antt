@@ -1,18 +1,20 @@
 -- The calls that an idle seat tries in one slot.
-use Rattle.std.proofs.Common.{◌≡◌, ℕ, ◌+◌, ◌-◌, ◌^◌, ◌<◌, ◌≤◌, Bool, true, false, cond, not, ◌||◌, List, [], ◌∷◌, ◌++◌, map, length, Option, Some, None, fold, refl, sym, ap, ◌∙◌, subst, arith, append-nil, append_assoc}
-use Rattle.std.specs.List.{list_any}
+use Rattle.std.proofs.Common.{◌≡◌, ℕ, ◌+◌, ◌-◌, ◌^◌, ◌<◌, ◌≤◌, Bool, true, false, cond, not, ◌||◌, List, [], ◌∷◌, ◌++◌, map, length, drop, get_or, suc, Option, Some, None, fold, refl, sym, ap, ◌∙◌, subst, arith, append-nil, append_assoc}
 use Rattle.plain_map.specs.declared.calls.Call.{Call}
 use Rattle.core_model.specs.declared.events.Event.{Event}
 use Rattle.core_model.specs.Setup.{Setup, seats_of}
+use Rattle.std.proofs.Math.Seq.{drop-cons}
 use Rattle.std.proofs.lemmas.Bool.{false≢true}
-use Rattle.core_model.specs.SeatStates.{Account, Stand, Idle, InFlight, SeatState}
+use Rattle.std.proofs.lemmas.List.{drop_all}
+use Rattle.core_model.specs.SeatStates.{Account, Stand, Idle, InFlight}
 use Rattle.core_model.specs.Worlds.{FitsStand, IsEvent, World, happens, refusal_of, seat_in}
 use Rattle.core_model.specs.Schedules as S
 use Rattle.core_model.specs.Schedules.{events_of_slot, hand_after_slot, is_refused, one_begins, tried_of, untried_of, with_step}
 use Rattle.core_schedules.specs.Good.{ArePlayable}
 use Rattle.core_schedules.proofs.Slots as slots
-use Rattle.core_world.specs.Values.{CoreValue, rests, with_event}
-use Rattle.play_runner.specs.Plays.{IsAtSlot, TookSlot, with_all}
+use Rattle.core_world.specs.Values.{CoreValue, rests, stepped_of, with_event}
+use Rattle.play_runner.specs.Plays.{IsAtSlot, TookSlot, was_refused, with_all}
+use Rattle.play_runner.proofs.Outcomes.{refused_is}
 
 -- a seat begins this call, or is refused
 abbrev pub beginning : (seat : ℕ) → ℕ × Call → Event
@@ -76,10 +78,10 @@ module _ (before : CoreValue) (seat : ℕ) (hand : S.Hand) (h : seat < seats_of 
         ∙ slots.refuses before.setup seat h before.world account long is begin
         (refusal_of before.setup seat account begin.1) e;
     core_is = (λ i. record {
-          setup = before.setup;
-          events = append_assoc now.events (beginning seat begin ∷ []) later i;
-          world = fold (happens before.setup) (happens (t.setup_is i) now.world (beginning seat begin)) later;
-        })
+      setup = before.setup;
+      events = append_assoc now.events (beginning seat begin ∷ []) later i;
+      world = fold (happens before.setup) (happens (t.setup_is i) now.world (beginning seat begin)) later;
+    })
         ∙ ap (λ (b : Bool). with_all (record { setup = before.setup; events = now.events; world = now.world })
         (map (beginning seat) (cond b (begin ∷ tried_of (is_refused before.setup seat account) left) (begin ∷ []))))
         (sym e)
@@ -99,10 +101,10 @@ module _ (before : CoreValue) (seat : ℕ) (hand : S.Hand) (h : seat < seats_of 
       (with_step (record { calls = left; may = hand.may }))
   begins_one now begin left t e = record {
     after_is = (λ i. record {
-          setup = t.setup_is i;
-          events = now.events ++ beginning seat begin ∷ [];
-          world = happens (t.setup_is i) now.world (beginning seat begin);
-        })
+      setup = t.setup_is i;
+      events = now.events ++ beginning seat begin ∷ [];
+      world = happens (t.setup_is i) now.world (beginning seat begin);
+    })
         ∙ ap (λ (b : Bool). with_all (record { setup = before.setup; events = now.events; world = now.world })
         (map (beginning seat) (cond b (begin ∷ tried_of (is_refused before.setup seat account) left) (begin ∷ []))))
         (sym e)
@@ -133,6 +135,74 @@ all_left before seat hand at = record {
   playable = at.dealt.calls;
   few = omega (arith, at.dealt.few);
 }
+
+-- the next call, and those after it
+next_of : (before : CoreValue) (seat : ℕ) (hand : S.Hand) (now : CoreValue) (i : ℕ) (d : ℕ × Call) →
+    AreTrying before now seat hand (drop i hand.calls) → i < length hand.calls →
+    AreTrying before now seat hand (get_or hand.calls i d ∷ drop (suc i) hand.calls)
+next_of before seat hand now i d t h = subst (AreTrying before now seat hand) (drop-cons hand.calls i d h) t
+
+-- what is told of it
+answer_is : (before : CoreValue) (seat : ℕ) (hand : S.Hand) → (seat_in before.world seat).stand ≡ Idle →
+    (now : CoreValue) (i : ℕ) (d : ℕ × Call) (refused : Bool) → AreTrying before now seat hand (drop i hand.calls) →
+    refused ≡ was_refused (stepped_of now.setup now.world (beginning seat (get_or hand.calls i d))) →
+    refused ≡ is_refused before.setup seat (seat_in before.world seat).account (get_or hand.calls i d).1
+answer_is before seat hand idle now i d refused t told =
+    told
+    ∙ ap (λ (setup : Setup). was_refused (stepped_of setup now.world (beginning seat (get_or hand.calls i d))))
+    t.setup_is
+    ∙ ap (λ (w : World). was_refused (stepped_of before.setup w (beginning seat (get_or hand.calls i d)))) t.world_is
+    ∙ refused_is before.setup before.world seat (seat_in before.world seat).account (get_or hand.calls i d)
+    (λ j. record { account = (seat_in before.world seat).account; stand = idle j })
+
+-- of the calls from this one on the first is refused
+pub past_one : (before : CoreValue) (seat : ℕ) (hand : S.Hand) → IsAtSlot before seat hand →
+    (seat_in before.world seat).stand ≡ Idle → (now after : CoreValue) (i : ℕ) (d : ℕ × Call) (refused : Bool) →
+    AreTrying before now seat hand (drop i hand.calls) → i < length hand.calls →
+    after ≡ with_event now (beginning seat (get_or hand.calls i d)) →
+    refused ≡ was_refused (stepped_of now.setup now.world (beginning seat (get_or hand.calls i d))) →
+    refused ≡ true → AreTrying before after seat hand (drop (i + 1) hand.calls)
+past_one before seat hand at idle now after i d refused t h is told e =
+    subst (λ (core : CoreValue). AreTrying before core seat hand (drop (i + 1) hand.calls)) (sym is)
+    (subst (λ (n : ℕ). AreTrying before (with_event now (beginning seat (get_or hand.calls i d))) seat hand
+    (drop n hand.calls)) (let one : suc i ≡ i + 1 = omega arith in one)
+    (goes_past before seat hand at.inside at.long idle now (get_or hand.calls i d) (drop (suc i) hand.calls)
+    (next_of before seat hand now i d t h) (sym (answer_is before seat hand idle now i d refused t told) ∙ e)))
+
+-- or begins
+pub one_begun : (before : CoreValue) (seat : ℕ) (hand : S.Hand) → IsAtSlot before seat hand →
+    (seat_in before.world seat).stand ≡ Idle → (now after : CoreValue) (i : ℕ) (d : ℕ × Call) (refused : Bool) →
+    AreTrying before now seat hand (drop i hand.calls) → i < length hand.calls →
+    after ≡ with_event now (beginning seat (get_or hand.calls i d)) →
+    refused ≡ was_refused (stepped_of now.setup now.world (beginning seat (get_or hand.calls i d))) →
+    refused ≡ false → (left : S.Hand) → left ≡ with_step (record { calls = drop (i + 1) hand.calls; may = hand.may }) →
+    TookSlot before after seat hand left
+one_begun before seat hand at idle now after i d refused t h is told e left left_is =
+    subst (λ (x : S.Hand). TookSlot before after seat hand x) (sym left_is)
+    (subst (λ (core : CoreValue). TookSlot before core seat hand
+    (with_step (record { calls = drop (i + 1) hand.calls; may = hand.may }))) (sym is)
+    (subst (λ (n : ℕ). TookSlot before (with_event now (beginning seat (get_or hand.calls i d))) seat hand
+    (with_step (record { calls = drop n hand.calls; may = hand.may }))) (let one : suc i ≡ i + 1 = omega arith in one)
+    (begins_one before seat hand at.inside at.long idle now (get_or hand.calls i d) (drop (suc i) hand.calls)
+    (next_of before seat hand now i d t h) (sym (answer_is before seat hand idle now i d refused t told) ∙ e))))
+
+-- it may begin
+pub one_may_begin : (before : CoreValue) (seat : ℕ) (hand : S.Hand) → IsAtSlot before seat hand →
+    (seat_in before.world seat).stand ≡ Idle → (now : CoreValue) (i : ℕ) (d : ℕ × Call) →
+    AreTrying before now seat hand (drop i hand.calls) → i < length hand.calls →
+    IsEvent now.setup now.world (beginning seat (get_or hand.calls i d))
+one_may_begin before seat hand at idle now i d t h =
+    may_begin before seat hand at.inside at.long idle now (get_or hand.calls i d) (drop (suc i) hand.calls)
+    (next_of before seat hand now i d t h)
+
+-- none is left
+pub all_tried : (before : CoreValue) (seat : ℕ) (hand : S.Hand) → IsAtSlot before seat hand →
+    (seat_in before.world seat).stand ≡ Idle → (now : CoreValue) (i : ℕ) →
+    AreTrying before now seat hand (drop i hand.calls) → length hand.calls ≤ i →
+    TookSlot before now seat hand (record { calls = []; may = hand.may })
+all_tried before seat hand at idle now i t h =
+    none_left before seat hand at.inside at.long idle now
+    (subst (AreTrying before now seat hand) (drop_all i hand.calls h) t)
 
 -- a seat that rests is idle
 pub idle_at : (stand : Stand) → rests stand ≡ true → stand ≡ Idle

@@ -1,5 +1,5 @@
 -- What the seats have still to do, as contracts see it.
-use Rattle.std.specs.Prelude.{◌≡◌, ℕ, ◌-◌, ◌^◌, ◌≤◌, [], List, map, length, sum_by, Option, None, slice_index_or}
+use Rattle.std.specs.Prelude.{ℕ, ◌-◌, ◌^◌, ◌≤◌, [], List, map, length, sum_by, Option, None, slice_index_or}
 use Rattle.std.specs.List.{range_with_len}
 use Rattle.step_counts.specs.declared.settings.Settings.{Settings}
 use Rattle.plain_map.specs.declared.calls.Call.{Call}

@@ -1,1 +1,4 @@
 pub mod Played
+pub mod Hands
+pub mod Told
+pub mod Plays

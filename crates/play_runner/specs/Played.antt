@@ -1,14 +1,10 @@
 -- What a play comes to: its calls that ended, those that were under way and those that were not begun, and the table
 -- that it leaves.
-use Rattle.std.specs.Prelude.{◌≡◌, ℕ, max, List, [], ◌∷◌, ◌++◌, map, fold, count_by, length, Bool, true, false, ◌==◌, if◌then◌else◌, Option, Some, None, IsPermutation}
-use Rattle.std.specs.Option.{option_map}
+use Rattle.std.specs.Prelude.{◌≡◌, ℕ, max, List, [], ◌∷◌, ◌++◌, fold, length, Bool, if◌then◌else◌, Option, Some, None, IsPermutation}
 use Rattle.std.specs.List.Sorted.{IsSortedByKey}
 use Rattle.std.specs.Ordering.{nat_cmp}
 use Rattle.plain_map.specs.declared.calls.Call.{Call}
 use Rattle.plain_map.specs.declared.full.Full.{Full}
-use Rattle.plain_map.specs.declared.keys.Pair.{Pair}
-use Rattle.plain_map.specs.declared.records.Pending.{Pending}
-use Rattle.plain_map.specs.declared.records.CallId.{CallId}
 use Rattle.plain_map.specs.Keys.{key_cmp}
 use Rattle.plain_map.specs.History.{ids_of}
 use Rattle.trace_share.specs.declared.outcome.Outcome.{Outcome}

@@ -1,8 +1,7 @@
 -- How far a play is, as contracts see it.
-use Rattle.std.specs.Prelude.{◌≡◌, ℕ, ◌<◌, ◌++◌, List, [], ◌∷◌, map, length, fold, Bool, true, false}
-use Rattle.plain_map.specs.declared.calls.Call.{Call}
+use Rattle.std.specs.Prelude.{◌≡◌, ℕ, ◌<◌, ◌++◌, List, length, fold, Bool, true, false}
 use Rattle.core_model.specs.declared.events.Event.{Event}
-use Rattle.core_model.specs.Setup.{Setup, seats_of}
+use Rattle.core_model.specs.Setup.{seats_of}
 use Rattle.core_model.specs.SeatStates.{Idle}
 use Rattle.core_model.specs.Worlds.{happens, seat_in}
 use Rattle.core_model.specs.Schedules as S
@@ -11,10 +10,8 @@ use Rattle.core_schedules.specs.Good.{IsDealt, IsGood}
 use Rattle.core_world.specs.declared.values.Stepped.{Stepped}
 use Rattle.core_world.specs.declared.values.Stepped.TheVariants.{Going, Ended, Refused}
 use Rattle.core_world.specs.Values.{CoreValue}
-use Rattle.trace_share.specs.declared.outcome.Outcome.{Outcome}
-use Rattle.play_runner.specs.declared.hands.Hand.{Hand}
 use Rattle.play_runner.specs.declared.turns.Playing.{Playing}
-use Rattle.play_runner.specs.Hands.{as_hand, as_hands}
+use Rattle.play_runner.specs.Hands.{as_hands}
 use Rattle.play_runner.specs.Told.{AreTold, play_with}
 
 -- the call that came with the event was refused

@@ -108,16 +108,25 @@ impl<'a> Playing<'a> {
         self.hand(seat).most_slots(&self.core.settings())
     }
 
+    // As many slots as a segment has.
+    fn slots_in(&self, segment: &Segment) -> u64
+        requires { IsPlaying self.now }
+        ensures { result ≡ option_map_or (λ many. many) segment.now.slots
+            (most_slots (settings_of self.now.core.setup) (hand_of (play_in self.now) segment.now.seat)) }
+    {
+        match segment.slots {
+            Some(many) => u64::from(many),
+            None => self.most_slots(segment.seat),
+        }
+    }
+
     /// One segment of a schedule.
     pub(crate) fn run_segment(&mut self, segment: &Segment) -> Result<(), AllocError>
         requires { IsPlaying self.old }
         ensures { OnOk result (HasCome self.old self.new
             (run_segment self.old.core.setup (play_in self.old) (as_segment segment.now))) }
     {
-        let many = match segment.slots {
-            Some(many) => u64::from(many),
-            None => self.most_slots(segment.seat),
-        };
+        let many = self.slots_in(segment);
         self.slots(segment.seat, many)
     }
 
