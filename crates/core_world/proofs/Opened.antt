@@ -1,25 +1,20 @@
 -- The fields stand for the world of the opening.
-use Rattle.std.proofs.Common.{◌≡◌, ℕ, zero, suc, ◌+◌, List, [], ◌∷◌, ◌++◌, map, length, get_or, set, replicate, refl, sym, ap, ◌∙◌, subst, arith, length-set}
+use Rattle.std.proofs.Common.{◌≡◌, ℕ, zero, suc, ◌+◌, List, [], ◌∷◌, ◌++◌, map, length, get_or, set, replicate, refl, sym, ap, ◌∙◌, arith, length-set}
 use Rattle.std.specs.List.{range_with_len}
-use Rattle.std.specs.Prelude.{None, Some, Option, MatchOption, Vec, is_some}
-use Rattle.std.proofs.Common.{Global}
-use Rattle.std.proofs.lemmas.Bool.{false≢true}
+use Rattle.std.specs.Prelude.{None}
 use Rattle.std.proofs.lemmas.List.{length-replicate, get_or-replicate}
 use Rattle.std.proofs.lemmas.List.FromFn.{get_or-map-range_with_len, length-map-range_with_len, map-range_with_len_more}
 use Rattle.plain_map.specs.declared.records.Record.{Record}
 use Rattle.word_rows.specs.Shape.{Shape}
 use Rattle.word_rows.specs.Places.{place, word_count}
 use Rattle.core_model.specs.declared.events.Put.{Put}
-use Rattle.core_model.specs.Setup.{Setup, IsSetup, seats_of}
+use Rattle.core_model.specs.Setup.{Setup, seats_of}
 use Rattle.core_model.specs.SeatStates.{SeatState, fresh_seat}
 use Rattle.core_model.specs.Opening.{opening_directory}
 use Rattle.core_model.specs.Stores.{directory_words, leaf_puts, row_puts, with_puts}
 use Rattle.word_rows.specs.declared.addresses.Address.TheVariants.{DirectoryWord}
 use Rattle.core_model.specs.Program.{Program}
 use Rattle.core_model.specs.Worlds.{first_leaves, opening_words, opening_world}
-use Rattle.core_history.proofs.RowLemmas.{bucket_row_sound}
-use Rattle.core_rounds.proofs.Opened.{opens}
-use Rattle.core_values.specs.Openings.{IsOpening}
 use Rattle.step_machine.specs.Programs.{resting}
 use Rattle.core_world.specs.Moments.{AreResting, StandsIn, program_of}
 
@@ -37,13 +32,6 @@ opening_long setup =
     (leaf_puts setup (λ _. None) 0 0 (first_leaves setup) ++ row_puts (DirectoryWord 0) 0
     (directory_words None (opening_directory setup.shape.settings.start (first_leaves setup))))
     ∙ length-replicate (word_count setup.shape) 0
-
--- each of its leaves can be spelled
-pub spelled : (setup : Setup) → IsSetup setup → IsOpening setup
-spelled setup s = λ i d h.
-    (bucket_row_sound setup (get_or (first_leaves setup) i d).bucket.prefix (get_or (first_leaves setup) i d).bucket.depth
-    None (get_or (first_leaves setup) i d).bucket tt
-    ((opens setup s).good i d h).0 ((opens setup s).small (λ k e lt. (s.pairs k e lt).value) i d h) refl refl).spells.0
 
 -- fresh seats have no records
 pub no_records : (n : ℕ) → replicate n [] ≡ map (λ (state : SeatState). state.account.records) (replicate n fresh_seat)
@@ -66,25 +54,6 @@ opening_stands setup words programs is are =
           ∙ get_or-map-range_with_len (resting bare) 0 (seats_of setup) seat seat d h (omega arith)
           ∙ ap (program_of setup seat) (sym (get_or-replicate (seats_of setup) seat fresh_seat fresh_seat h));
     }
-
--- what a plain opening tells of its words
-abbrev pub Told : Setup → Option (Vec ℕ Global) → Type 0
-Told setup words = MatchOption words (IsSetup setup → ¬ IsOpening setup) (λ ws. ws.items ≡ opening_words setup)
-
--- it has words where the table can be opened
-pub none_is_wrong : (setup at : Setup) (words : Option (Vec ℕ Global)) → IsSetup setup → at ≡ setup → words ≡ None →
-    Told at words → ⊥
-none_is_wrong setup at None s is e told = told (subst IsSetup (sym is) s) (spelled at (subst IsSetup (sym is) s))
-none_is_wrong setup at (Some ws) s is e told = absurd (some_none e)
-  where
-    some_none : Some ws ≡ None → ⊥
-    some_none q = false≢true (sym (ap is_some q))
-
--- all of them
-pub some_is_long : (setup : Setup) (words : Option (Vec ℕ Global)) (ws : Vec ℕ Global) → words ≡ Some ws →
-    Told setup words → length ws.items ≡ word_count setup.shape
-some_is_long setup words ws is told =
-    ap (λ (xs : List ℕ). length xs) (subst (Told setup) is told) ∙ opening_long setup
 
 -- one seat more that rests
 pub one_more : (setup : Setup) (programs : List Program) (seat : ℕ) (p : Program) →

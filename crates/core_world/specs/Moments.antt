@@ -1,10 +1,7 @@
 -- Words and programs at a moment of a run, and what one event makes of them.
 use Rattle.std.specs.Prelude.{◌≡◌, ℕ, ◌<◌, List, ◌++◌, length, map, slice_index_or, flat_map, option_to_list, Vec, vec_len, vec_capacity}
 use Rattle.std.specs.List.{range_with_len}
-use Rattle.hash_bits.specs.declared.hashing.Hashing.{Hashing}
-use Rattle.step_counts.specs.declared.settings.Settings.{Settings}
 use Rattle.plain_map.specs.declared.records.Record.{Record}
-use Rattle.plain_map.specs.declared.rules.Rules.{Rules}
 use Rattle.plain_map.specs.declared.records.Pending.{Pending}
 use Rattle.word_rows.specs.Shape.{Shape}
 use Rattle.word_rows.specs.Places.{word_count}
@@ -66,7 +63,3 @@ pending_of_all programs = flat_map (λ p. option_to_list (pending_in p)) program
 -- the programs of seats that have made no call
 abbrev pub AreResting : Setup → List Program → Type 0
 AreResting setup programs = programs ≡ map (resting setup) (range_with_len 0 (seats_of setup))
-
--- the rules of a table
-abbrev pub rules_for : Settings → Hashing → Rules
-rules_for settings hashing = record { items = settings.items; depth = settings.depth; hashing = hashing }

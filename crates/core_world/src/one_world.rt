@@ -5,18 +5,19 @@ ghost use Rattle.plain_map.specs.declared.leaves.OpenFault.TheVariants.{NoRoom};
 ghost use Rattle.bucket_states.specs.Parts.{HasDistinctKeys};
 ghost use Rattle.word_rows.specs.Shape.{AreBelow};
 ghost use Rattle.core_model.specs.Setup.{IsFirstWithoutRoom, IsPair, IsSetup, rules_of, settings_of};
-ghost use Rattle.core_model.specs.Worlds.{IsEvent, seat_in};
+ghost use Rattle.core_model.specs.Worlds.{IsEvent, opening_words, seat_in};
 ghost use Rattle.word_rows.specs.LayoutView.{shape_of};
 ghost use Rattle.core_world.specs.Values.{IsMoment, opened, rests, setup_at, setup_of, stepped_of, with_event};
 
 use crate::happening::happen_at;
 use crate::logs::{note, reserve_in};
-use crate::openings::{copied_pairs, find_room, first_logs, first_seats, first_words};
+use crate::openings::{copied_pairs, first_logs, first_seats};
 use crate::reading::{begun_of, pairs_of};
 use crate::values::{CoreEnd, Stepped};
 use closed_words::{ClosedLeaf, Starts, closed_depth, closed_leaves};
 use core_model::Event;
 use hash_bits::Hashing;
+use opening_words::first_words;
 use plain_map::{OpenFault, Pair, Pending, Record};
 use std::alloc::{AllocError, Global};
 use std::marker::Model;
@@ -75,25 +76,26 @@ impl CoreWorld {
         ensures no_room { (place : ℕ) → result ≡ Err (NoRoom place) →
             IsFirstWithoutRoom (rules_of (setup_of settings.now hashing rows.now first.now)) first.now place }
     {
-        find_room(alloc, settings, hashing, first)?;
         let layout = Layout::new(settings, rows);
-        match CoreWorld::of_opening(alloc, layout, hashing, first) {
+        let words = first_words(alloc, &layout, hashing, first)?;
+        match CoreWorld::of_words(alloc, layout, hashing, first, words) {
             Ok(core) => Ok(core),
             Err(_) => Err(OpenFault::Memory),
         }
     }
 
-    // A table that can be opened so.
-    fn of_opening(
+    // A table that has opened with these words.
+    fn of_words(
         alloc: Global,
         layout: Layout,
         hashing: Hashing,
         first: &[Pair],
+        words: Vec<u64>,
     ) -> Result<CoreWorld, AllocError>
         requires setup { IsSetup (setup_at (shape_of layout) hashing first.now) }
+        requires words { words.items ≡ opening_words (setup_at (shape_of layout) hashing first.now) }
         ensures { IfOk result (λ core. core ≡ opened (setup_at (shape_of layout) hashing first.now)) }
     {
-        let words = first_words(alloc, layout, hashing, first)?;
         let seats = first_seats(alloc, layout, hashing)?;
         let logs = first_logs(alloc, layout.settings().seats)?;
         let first = copied_pairs(alloc, first)?;

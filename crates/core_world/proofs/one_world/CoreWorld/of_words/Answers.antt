@@ -10,7 +10,7 @@ use Rattle.core_model.specs.Worlds.{IsRun, opening_words, world_after}
 use Rattle.core_world.specs.Values.{setup_at}
 use Rattle.core_world.specs.Moments.{StandsIn}
 use Rattle.core_world.proofs.Opened.{no_records, opening_stands}
-use Rattle.core_world.proofs.one_world.CoreWorld.of_opening.Goals as goal
+use Rattle.core_world.proofs.one_world.CoreWorld.of_words.Goals as goal
 
 -- no records of so many seats
 abbrev none_for : ℕ → List (List Record)
@@ -22,13 +22,12 @@ invariant_of-result c =
     let same : setup_at (shape_of c.args.layout) c.args.hashing c.args.first.now ≡ setup =
     ap (setup_at (shape_of c.args.layout) c.args.hashing) (sym c.in_ok-first.ensures) in
     let none : [] ≡ c.new.result.items = sym c.new.ensures.items in
-    let words : c.in_ok-words.words.items ≡ opening_words setup =
-    c.in_ok-words.ensures.words ∙ ap opening_words same in
+    let words : c.args.words.items ≡ opening_words setup = c.requires.words ∙ ap opening_words same in
     record {
       run = subst (IsRun setup) none (record { opened = subst IsSetup same c.requires.setup; follow = tt });
-      stands = subst (λ (events : List Event). StandsIn setup (world_after setup events) c.in_ok-words.words.items
+      stands = subst (λ (events : List Event). StandsIn setup (world_after setup events) c.args.words.items
           c.in_ok-seats.seats.items) none
-          (opening_stands setup c.in_ok-words.words.items c.in_ok-seats.seats.items words c.in_ok-seats.ensures);
+          (opening_stands setup c.args.words.items c.in_ok-seats.seats.items words c.in_ok-seats.ensures);
       logs_are = subst (λ (events : List Event). map (λ log. log.items) c.in_ok-logs.logs.items
           ≡ map (λ (state : SeatState). state.account.records) (world_after setup events).seats) none
           (c.in_ok-logs.ensures
