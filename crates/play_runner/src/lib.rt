@@ -6,6 +6,8 @@ mod ending;
 mod hands;
 mod playing;
 mod slots;
+#[cfg(test)]
+mod tests;
 mod turns;
 mod values;
 
