@@ -2,6 +2,7 @@
 use Rattle.std.proofs.Common.{◌≡◌, ◌<◌, ◌≤◌, ℕ, suc, ◌+◌, List, [], ◌∷◌, ◌++◌, length, Option, Some, None, IfSome, sym, ◌∙◌, ap, subst, refl, append_assoc, append-nil, length-append, arith}
 use Rattle.std.specs.List.{All}
 use Rattle.std.proofs.lemmas.List.Elements.{All-append, All-cons, All-head, All-nil, All-tail, All-weaker}
+use Rattle.core_model.specs.Setup.{IsKey}
 use Rattle.flow_keys.specs.FlowText.{HasText}
 use Rattle.plain_map.specs.Calls.{key_in}
 use Rattle.plain_map.specs.Serving.{IsAskable}
@@ -48,7 +49,7 @@ ascending_more (one ∷ calls) call up later = (
 wider : (first last further : ℕ) (call : ℕ × Call) → last ≤ further → IsBetween first last call →
     IsBetween first further call
 wider first last further call more is =
-    record { above = is.above; upto = omega (arith, is.upto); askable = is.askable; text = is.text }
+    record { above = is.above; upto = omega (arith, is.upto); askable = is.askable; text = is.text; key = is.key }
 
 -- none yet
 pub AreBetween-none : (first : ℕ) → AreBetween first first []
@@ -57,7 +58,7 @@ AreBetween-none first = record { ascend = tt; each = All-nil _; few = omega arit
 -- the next packet's call stands behind the others, where it makes one
 pub AreBetween-more :
     (first last number : ℕ) (calls : List (ℕ × Call)) (made : Option Call) → AreBetween first last calls →
-    number ≡ last + 1 → IfSome made (λ (call : Call). IsAskable call × HasText (key_in call)) →
+    number ≡ last + 1 → IfSome made (λ (call : Call). IsAskable call × HasText (key_in call) × IsKey (key_in call)) →
     AreBetween first number (calls ++ numbered number made)
 AreBetween-more first last number calls None are next fits =
     subst (AreBetween first number) (sym (append-nil calls))
@@ -70,7 +71,7 @@ AreBetween-more first last number calls None are next fits =
 AreBetween-more first last number calls (Some call) are next fits =
     let asked : ℕ × Call = (number, call) in
     let here : IsBetween first number asked =
-    record { above = omega (arith, are.few); upto = omega arith; askable = fits.0; text = fits.1 } in
+    record { above = omega (arith, are.few); upto = omega arith; askable = fits.0; text = fits.1; key = fits.2 } in
     record {
       ascend = ascending_more calls asked are.ascend
           (All-weaker (IsBetween first last) (λ (other : ℕ × Call). other.0 < number)

@@ -23,7 +23,7 @@ use Rattle.trace_runner.specs.declared.progress.Progress.{Progress}
 use Rattle.trace_runner.specs.declared.stop.Stop.{Stop}
 use Rattle.trace_runner.specs.declared.stop.Stop.TheVariants.{Memory, NotPut}
 use Rattle.trace_runner.specs.Batches.{AreOfBatches, IsOfBatch, batch_count, batch_length}
-use Rattle.trace_runner.specs.Input.{Begins, packets_of}
+use Rattle.trace_runner.specs.Input.{Begins, packet_limit, packets_of}
 use Rattle.trace_runner.specs.Reading.{AreBetween, EndsCalls, HasCalls, HaveCome, HaveEnded, IsBetween}
 use Rattle.trace_runner.specs.Served.{ServedArePromised, IsServiceOf, lines_so_far, run_report}
 use Rattle.trace_runner.specs.Headline.{IsFront, IsFrontOf, IsReportOf, Leaves, Reports, TookFor, status_of}
@@ -135,7 +135,7 @@ HaveFirst-none first =
 pub Reports-done :
     (plan : Plan) (bytes : List ℕ) (left : Option (List ℕ)) (many : ℕ) (calls : List (ℕ × Call)) (ending : Ending)
     (text : List ℕ) →
-    EndsCalls bytes left many calls ending → IsReportOf plan many calls ending text →
+    EndsCalls packet_limit bytes left many calls ending → IsReportOf plan many calls ending text →
     Reports plan bytes left ending text
 Reports-done plan bytes left many calls ending text ends is = (
   ends.0,

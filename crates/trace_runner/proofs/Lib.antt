@@ -9,3 +9,7 @@ pub mod PrintLemmas
 pub mod EndLemmas
 pub mod ExactLemmas
 pub mod TrialLemmas
+pub mod DealtLemmas
+pub mod PlayTexts
+pub mod PlayLemmas
+pub mod RightPlays

@@ -13,10 +13,10 @@ use Rattle.pcap_reader.specs.Reading.{Reading, GivesRecord, OfInput, OnInputFaul
 use Rattle.plain_map.specs.declared.calls.Call.{Call}
 use Rattle.report_text.specs.declared.parts.Ending.{Ending}
 use Rattle.report_text.specs.declared.parts.Ending.TheVariants.{ReadFault, Limit, Fault}
-use Rattle.trace_runner.specs.Input.{Serves, TakesFew, packet_limit, packets_of}
+use Rattle.trace_runner.specs.Input.{ServesUpTo, TakesFew, packets_of}
 use Rattle.trace_runner.specs.PacketCalls.{MakesCall, MakeCalls, numbered}
 use Rattle.trace_runner.specs.Endings.{ending_at}
-use Rattle.trace_runner.specs.Reading.{EndsCalls, HasCalls, HasRead, HaveCome, HaveEnded, MeetsEnding, TakesCall}
+use Rattle.trace_runner.specs.Reading.{EndsCalls, HasCalls, HasRead, HaveCome, HaveEndedUpTo, MeetsEnding, TakesCall}
 use Rattle.pcap_reader.proofs.CaptureFacts.{head_front}
 use Rattle.trace_runner.proofs.CallLemmas.{MakeCalls-more}
 use Rattle.trace_runner.proofs.InputLemmas.{HasRead-next}
@@ -127,67 +127,67 @@ HaveCome-more first before after old new all calls more many come given took sam
 
 -- the packets of the records so far are all
 EndsCalls-ended :
-    (bytes : List ℕ) (old new : Reading) (before after : Option (List ℕ)) (calls : List (ℕ × Call)) (many : ℕ)
+    (most : ℕ) (bytes : List ℕ) (old new : Reading) (before after : Option (List ℕ)) (calls : List (ℕ × Call)) (many : ℕ)
     (ending : Ending) →
-    HasCalls bytes old before many calls → many ≤ packet_limit → MeetsEnding old new before after ending →
-    EndsCalls bytes after many calls ending
-EndsCalls-ended bytes old new before after calls many ending has few meets = (
+    HasCalls bytes old before many calls → many ≤ most → MeetsEnding old new before after ending →
+    EndsCalls most bytes after many calls ending
+EndsCalls-ended most bytes old new before after calls many ending has few meets = (
   packets_of has.0,
-  Serves-ended bytes old new before after has.0 ending has.1
-      (subst (λ (n : ℕ). n ≤ packet_limit) (sym has.3) few) meets,
+  Serves-ended most bytes old new before after has.0 ending has.1
+      (subst (λ (n : ℕ). n ≤ most) (sym has.3) few) meets,
   has.2,
   length-map has.0 (λ (saved : Saved). saved.packet) ∙ has.3,
 )
 
 pub HaveEnded-ended :
-    (first before after : Option (List ℕ)) (old new : Reading) (calls : List (ℕ × Call)) (many : ℕ)
+    (most : ℕ) (first before after : Option (List ℕ)) (old new : Reading) (calls : List (ℕ × Call)) (many : ℕ)
     (ending : Ending) →
-    HaveCome first before old many calls → many ≤ packet_limit → MeetsEnding old new before after ending →
+    HaveCome first before old many calls → many ≤ most → MeetsEnding old new before after ending →
     Took before after (λ taken. MeetsEnding old new (Some taken) (Some []) ending) →
-    HaveEnded first after many calls ending
-HaveEnded-ended first before after old new calls many ending come few meets took =
+    HaveEndedUpTo most first after many calls ending
+HaveEnded-ended most first before after old new calls many ending come few meets took =
     let front : List ℕ = come.took.0 in
     record {
-      told = λ bytes is. EndsCalls-ended bytes old new before after calls many ending (come.told bytes is) few meets;
+      told = λ bytes is. EndsCalls-ended most bytes old new before after calls many ending (come.told bytes is) few meets;
       took = (
         front ++ took.0,
         Consumes-trans first before after front took.0 come.took.1 took.1,
-        EndsCalls-ended (front ++ took.0) old new (Some took.0) (Some []) calls many ending
+        EndsCalls-ended most (front ++ took.0) old new (Some took.0) (Some []) calls many ending
             (HasCalls-longer front took.0 old many calls come.took.2) few took.2,
       );
     }
 
 -- one more record is whole than are served
 EndsCalls-limit :
-    (bytes : List ℕ) (old new : Reading) (before after : Option (List ℕ)) (calls : List (ℕ × Call)) (limit : ℕ) →
-    HasCapture bytes → HoldsFront bytes → HasCalls bytes old before packet_limit calls →
-    GivesRecord old new (to_come old before) (to_come new after) → new.order ≡ old.order → limit ≡ packet_limit →
-    EndsCalls bytes after packet_limit calls (Limit limit)
-EndsCalls-limit bytes old new before after calls limit capture front has given same is = (
+    (most : ℕ) (bytes : List ℕ) (old new : Reading) (before after : Option (List ℕ)) (calls : List (ℕ × Call)) (limit : ℕ) →
+    HasCapture bytes → HoldsFront bytes → HasCalls bytes old before most calls →
+    GivesRecord old new (to_come old before) (to_come new after) → new.order ≡ old.order → limit ≡ most →
+    EndsCalls most bytes after most calls (Limit limit)
+EndsCalls-limit most bytes old new before after calls limit capture front has given same is = (
   packets_of has.0,
-  Serves-limit bytes old new before after has.0 limit capture front has.1 given same has.3 is,
+  Serves-limit most bytes old new before after has.0 limit capture front has.1 given same has.3 is,
   has.2,
   length-map has.0 (λ (saved : Saved). saved.packet) ∙ has.3,
 )
 
 pub HaveEnded-limit :
-    (first before after : Option (List ℕ)) (old new : Reading) (calls : List (ℕ × Call)) (limit : ℕ) →
+    (most : ℕ) (first before after : Option (List ℕ)) (old new : Reading) (calls : List (ℕ × Call)) (limit : ℕ) →
     ((bytes : List ℕ) → HasCapture bytes) → ((bytes : List ℕ) → HoldsFront bytes) →
-    HaveCome first before old packet_limit calls →
+    HaveCome first before old most calls →
     GivesRecord old new (to_come old before) (to_come new after) →
     Took before after (λ taken. GivesRecord old new (to_come old (Some taken)) (to_come new (Some []))) →
-    new.order ≡ old.order → limit ≡ packet_limit → HaveEnded first after packet_limit calls (Limit limit)
-HaveEnded-limit first before after old new calls limit capture held come given took same is =
+    new.order ≡ old.order → limit ≡ most → HaveEndedUpTo most first after most calls (Limit limit)
+HaveEnded-limit most first before after old new calls limit capture held come given took same is =
     let front : List ℕ = come.took.0 in
     let bytes : List ℕ = front ++ took.0 in
     record {
-      told = λ bytes told. EndsCalls-limit bytes old new before after calls limit (capture bytes) (held bytes)
+      told = λ bytes told. EndsCalls-limit most bytes old new before after calls limit (capture bytes) (held bytes)
           (come.told bytes told) given same is;
       took = (
         bytes,
         Consumes-trans first before after front took.0 come.took.1 took.1,
-        EndsCalls-limit bytes old new (Some took.0) (Some []) calls limit (capture bytes) (held bytes)
-            (HasCalls-longer front took.0 old packet_limit calls come.took.2) took.2 same is,
+        EndsCalls-limit most bytes old new (Some took.0) (Some []) calls limit (capture bytes) (held bytes)
+            (HasCalls-longer front took.0 old most calls come.took.2) took.2 same is,
       );
     }
 
@@ -251,36 +251,36 @@ HaveCome-start first now reading head come start took =
 -- ---- an input that could not be opened
 
 -- it serves no packets
-none_served : (bytes : List ℕ) (after : Option (List ℕ)) (ending : Ending) → Serves bytes after [] ending →
-    EndsCalls bytes after 0 [] ending
-none_served bytes after ending serves = ([], serves, refl, refl)
+none_served : (most : ℕ) (bytes : List ℕ) (after : Option (List ℕ)) (ending : Ending) →
+    ServesUpTo most bytes after [] ending → EndsCalls most bytes after 0 [] ending
+none_served most bytes after ending serves = ([], serves, refl, refl)
 
-fault_served : (bytes : List ℕ) (after : Option (List ℕ)) (found : CaptureFault) (ending : Ending) →
+fault_served : (most : ℕ) (bytes : List ℕ) (after : Option (List ℕ)) (found : CaptureFault) (ending : Ending) →
     Some (Fault found) ≡ Some ending → ShowsFault bytes found × TakesFew bytes after [] →
-    EndsCalls bytes after 0 [] ending
-fault_served bytes after found ending is shown =
+    EndsCalls most bytes after 0 [] ending
+fault_served most bytes after found ending is shown =
     let same : Fault found ≡ ending = cc in
-    subst (EndsCalls bytes after 0 []) same
-    (none_served bytes after (Fault found) (Serves-refused bytes after found shown.0 shown.1))
+    subst (EndsCalls most bytes after 0 []) same
+    (none_served most bytes after (Fault found) (Serves-refused most bytes after found shown.0 shown.1))
 
 stopped :
-    (bytes : List ℕ) (after : Option (List ℕ)) (found : CaptureFault) (ending : Ending) →
+    (most : ℕ) (bytes : List ℕ) (after : Option (List ℕ)) (found : CaptureFault) (ending : Ending) →
     ending_at found ≡ Some ending → OnInputFault found (ShowsFault bytes found × TakesFew bytes after []) →
-    OnReadFault found (TakesFewer FILE_HEAD (Some bytes) after) → EndsCalls bytes after 0 [] ending
-stopped bytes after fault.ReadFault ending is shown takes =
+    OnReadFault found (TakesFewer FILE_HEAD (Some bytes) after) → EndsCalls most bytes after 0 [] ending
+stopped most bytes after fault.ReadFault ending is shown takes =
     let same : ReadFault ≡ ending = cc in
-    subst (EndsCalls bytes after 0 []) same
-    (none_served bytes after ReadFault (Serves-none bytes takes.taken after takes.fewer takes.told))
-stopped bytes after fault.Memory ending is shown takes = absurd (cc)
-stopped bytes after (fault.ShortHeader have) ending is shown takes =
-    fault_served bytes after (fault.ShortHeader have) ending is shown
-stopped bytes after (fault.Magic found) ending is shown takes =
-    fault_served bytes after (fault.Magic found) ending is shown
-stopped bytes after (fault.Version major minor) ending is shown takes =
-    fault_served bytes after (fault.Version major minor) ending is shown
-stopped bytes after (fault.LinkType found) ending is shown takes =
-    fault_served bytes after (fault.LinkType found) ending is shown
-stopped bytes after (fault.RecordLength offset found) ending is shown takes = absurd shown.0
+    subst (EndsCalls most bytes after 0 []) same
+    (none_served most bytes after ReadFault (Serves-none most bytes takes.taken after takes.fewer takes.told))
+stopped most bytes after fault.Memory ending is shown takes = absurd (cc)
+stopped most bytes after (fault.ShortHeader have) ending is shown takes =
+    fault_served most bytes after (fault.ShortHeader have) ending is shown
+stopped most bytes after (fault.Magic found) ending is shown takes =
+    fault_served most bytes after (fault.Magic found) ending is shown
+stopped most bytes after (fault.Version major minor) ending is shown takes =
+    fault_served most bytes after (fault.Version major minor) ending is shown
+stopped most bytes after (fault.LinkType found) ending is shown takes =
+    fault_served most bytes after (fault.LinkType found) ending is shown
+stopped most bytes after (fault.RecordLength offset found) ending is shown takes = absurd shown.0
 
 -- what follows from two facts of a fault of the input
 on_both : {P Q R : Type 0} (fault : CaptureFault) → OnInputFault fault P → OnInputFault fault Q → (P → Q → R) →
@@ -304,49 +304,49 @@ on_told first bytes found is shown =
 
 -- what was taken of it
 taken_fault :
-    (first after : Option (List ℕ)) (found : CaptureFault) (ending : Ending) → Some (Fault found) ≡ Some ending →
-    Took first after (IsRefusedOn found) → Took first after (λ taken. EndsCalls taken (Some []) 0 [] ending)
-taken_fault first after found ending is took = (
+    (most : ℕ) (first after : Option (List ℕ)) (found : CaptureFault) (ending : Ending) → Some (Fault found) ≡ Some ending →
+    Took first after (IsRefusedOn found) → Took first after (λ taken. EndsCalls most taken (Some []) 0 [] ending)
+taken_fault most first after found ending is took = (
   took.0,
   took.1,
-  fault_served took.0 (Some []) found ending is (took.2.0, TakesFew-all took.0 took.2.1),
+  fault_served most took.0 (Some []) found ending is (took.2.0, TakesFew-all took.0 took.2.1),
 )
 
 stopped_took :
-    (first after : Option (List ℕ)) (found : CaptureFault) (ending : Ending) → ending_at found ≡ Some ending →
+    (most : ℕ) (first after : Option (List ℕ)) (found : CaptureFault) (ending : Ending) → ending_at found ≡ Some ending →
     OnInputFault found (Took first after (IsRefusedOn found)) → OnReadFault found (TakesFewer FILE_HEAD first after) →
-    Took first after (λ taken. EndsCalls taken (Some []) 0 [] ending)
-stopped_took first after fault.ReadFault ending is took takes = (
+    Took first after (λ taken. EndsCalls most taken (Some []) 0 [] ending)
+stopped_took most first after fault.ReadFault ending is took takes = (
   takes.taken,
   takes.told,
-  stopped takes.taken (Some []) fault.ReadFault ending is tt
+  stopped most takes.taken (Some []) fault.ReadFault ending is tt
       (record { taken = takes.taken; fewer = takes.fewer; told = sym (append-nil takes.taken) }),
 )
-stopped_took first after fault.Memory ending is took takes = absurd (cc)
-stopped_took first after (fault.ShortHeader have) ending is took takes =
-    taken_fault first after (fault.ShortHeader have) ending is took
-stopped_took first after (fault.Magic found) ending is took takes =
-    taken_fault first after (fault.Magic found) ending is took
-stopped_took first after (fault.Version major minor) ending is took takes =
-    taken_fault first after (fault.Version major minor) ending is took
-stopped_took first after (fault.LinkType found) ending is took takes =
-    taken_fault first after (fault.LinkType found) ending is took
-stopped_took first after (fault.RecordLength offset found) ending is took takes = absurd took.2.0
+stopped_took most first after fault.Memory ending is took takes = absurd (cc)
+stopped_took most first after (fault.ShortHeader have) ending is took takes =
+    taken_fault most first after (fault.ShortHeader have) ending is took
+stopped_took most first after (fault.Magic found) ending is took takes =
+    taken_fault most first after (fault.Magic found) ending is took
+stopped_took most first after (fault.Version major minor) ending is took takes =
+    taken_fault most first after (fault.Version major minor) ending is took
+stopped_took most first after (fault.LinkType found) ending is took takes =
+    taken_fault most first after (fault.LinkType found) ending is took
+stopped_took most first after (fault.RecordLength offset found) ending is took takes = absurd took.2.0
 
 pub HaveEnded-stopped :
-    (first after : Option (List ℕ)) (found : CaptureFault) (ending : Ending) → ending_at found ≡ Some ending →
+    (most : ℕ) (first after : Option (List ℕ)) (found : CaptureFault) (ending : Ending) → ending_at found ≡ Some ending →
     OnInputFault found (OfInput first (λ (bytes : List ℕ). ShowsFault bytes found)) →
     OnInputFault found (Took first after (IsRefusedOn found)) → OnReadFault found (TakesFewer FILE_HEAD first after) →
-    HaveEnded first after 0 [] ending
-HaveEnded-stopped first after found ending is shown took takes =
+    HaveEndedUpTo most first after 0 [] ending
+HaveEnded-stopped most first after found ending is shown took takes =
     record {
       told = λ bytes told.
           let here : OnInputFault found (Took (Some bytes) after (IsRefusedOn found)) =
           subst (λ (known : Option (List ℕ)). OnInputFault found (Took known after (IsRefusedOn found))) told took in
           let fewer : OnReadFault found (TakesFewer FILE_HEAD (Some bytes) after) =
           subst (λ (known : Option (List ℕ)). OnReadFault found (TakesFewer FILE_HEAD known after)) told takes in
-          stopped bytes after found ending is
+          stopped most bytes after found ending is
           (on_both found (on_told first bytes found told shown) here
           (λ seen there. (seen, TakesFew-none bytes there.0 after there.1 there.2.1))) fewer;
-      took = stopped_took first after found ending is took takes;
+      took = stopped_took most first after found ending is took takes;
     }

@@ -11,8 +11,7 @@ use Rattle.pcap_reader.specs.Laws.{BeginsWith, HasCapture, HoldsFront}
 use Rattle.pcap_reader.specs.Reading.{Reading, GivesRecord, to_come}
 use Rattle.report_text.specs.declared.parts.Ending.{Ending}
 use Rattle.report_text.specs.declared.parts.Ending.TheVariants.{Done, ReadFault, Limit, Fault}
-use Rattle.trace_runner.specs.declared.intake.TheConstants.{PACKET_LIMIT}
-use Rattle.trace_runner.specs.Input.{HoldsTaken, HoldsUntil, Serves, TakesFew, packets_of}
+use Rattle.trace_runner.specs.Input.{HoldsTaken, HoldsUntil, ServesUpTo, TakesFew, packets_of}
 use Rattle.trace_runner.specs.Reading.{HasRead, MeetsEnding}
 use Rattle.trace_runner.proofs.InputLemmas.{HasRead-next, HasRead-ends, lose_front}
 use Rattle.trace_runner.proofs.TakenLemmas.{HasFileHead-front, TakesFew-held, TakesFew-none, taken_of, drop-taken_of, taken_of-whole}
@@ -46,10 +45,10 @@ held_at_end bytes old new before after records ending read meets =
 
 -- a read failed: what was taken is a capture that ends in a cut record
 taken-capture :
-    (bytes : List ℕ) (old new : Reading) (before after : Option (List ℕ)) (records : List Saved) →
+    (most : ℕ) (bytes : List ℕ) (old new : Reading) (before after : Option (List ℕ)) (records : List Saved) →
     HasRead bytes old before records → MeetsEnding old new before after ReadFault →
-    length records ≤ PACKET_LIMIT → HoldsTaken bytes after (packets_of records)
-taken-capture bytes old new before after records read meets few =
+    length records ≤ most → HoldsTaken most bytes after (packets_of records)
+taken-capture most bytes old new before after records read meets few =
     let left = held_at_end bytes old new before after records ReadFault read meets in
     let taken : List ℕ = taken_of bytes records new.pending in
     let behind : drop FILE_HEAD taken ≡ flat_map bytes_of records ++ new.pending =
@@ -72,30 +71,32 @@ taken-capture bytes old new before after records read meets few =
 
 -- where the reading of an input ends, these are the packets before it
 holds_ended :
-    (bytes : List ℕ) (old new : Reading) (before after : Option (List ℕ)) (records : List Saved) (ending : Ending) →
-    HasRead bytes old before records → length records ≤ PACKET_LIMIT → MeetsEnding old new before after ending →
-    HoldsUntil bytes after (packets_of records) ending
-holds_ended bytes old new before after records (Done rest) read few meets =
+    (most : ℕ) (bytes : List ℕ) (old new : Reading) (before after : Option (List ℕ)) (records : List Saved)
+    (ending : Ending) →
+    HasRead bytes old before records → length records ≤ most → MeetsEnding old new before after ending →
+    HoldsUntil most bytes after (packets_of records) ending
+holds_ended most bytes old new before after records (Done rest) read few meets =
     let left : (others : List ℕ) × (before ≡ Some others) × (read.more ≡ old.pending ++ others) =
     left_is_told old before read.more read.told in (
       (records, HasRead-ends bytes old before records (Ok rest) read meets.ends.0, few, refl),
       meets.ends.1 (some_told before left.0 left.1),
     )
-holds_ended bytes old new before after records (Fault fault) read few meets =
+holds_ended most bytes old new before after records (Fault fault) read few meets =
     (records, HasRead-ends bytes old before records (Err fault) read meets.ends, few, refl)
-holds_ended bytes old new before after records ReadFault read few meets =
-    taken-capture bytes old new before after records read meets few
-holds_ended bytes old new before after records (Limit limit) read few meets = absurd meets.ends
+holds_ended most bytes old new before after records ReadFault read few meets =
+    taken-capture most bytes old new before after records read meets few
+holds_ended most bytes old new before after records (Limit limit) read few meets = absurd meets.ends
 
 -- where the reading of an input ends, the packets of the records so far are served
 pub Serves-ended :
-    (bytes : List ℕ) (old new : Reading) (before after : Option (List ℕ)) (records : List Saved) (ending : Ending) →
-    HasRead bytes old before records → length records ≤ PACKET_LIMIT → MeetsEnding old new before after ending →
-    Serves bytes after (packets_of records) ending
-Serves-ended bytes old new before after records ending read few meets =
+    (most : ℕ) (bytes : List ℕ) (old new : Reading) (before after : Option (List ℕ)) (records : List Saved)
+    (ending : Ending) →
+    HasRead bytes old before records → length records ≤ most → MeetsEnding old new before after ending →
+    ServesUpTo most bytes after (packets_of records) ending
+Serves-ended most bytes old new before after records ending read few meets =
     let left = held_at_end bytes old new before after records ending read meets in
     record {
-      holds = holds_ended bytes old new before after records ending read few meets;
+      holds = holds_ended most bytes old new before after records ending read few meets;
       takes = TakesFew-held bytes old.order records new.pending left.0 read.more after read.head.begins.whole read.each
           read.whole left.2 left.1 meets.none.room;
     }
@@ -118,12 +119,13 @@ takes_further bytes old new before after records read given =
 
 -- where one more record is whole than are served, those before it are
 pub Serves-limit :
-    (bytes : List ℕ) (old new : Reading) (before after : Option (List ℕ)) (records : List Saved) (limit : ℕ) →
+    (most : ℕ) (bytes : List ℕ) (old new : Reading) (before after : Option (List ℕ)) (records : List Saved)
+    (limit : ℕ) →
     HasCapture bytes → HoldsFront bytes →
     HasRead bytes old before records → GivesRecord old new (to_come old before) (to_come new after) →
     new.order ≡ old.order →
-    length records ≡ PACKET_LIMIT → limit ≡ PACKET_LIMIT → Serves bytes after (packets_of records) (Limit limit)
-Serves-limit bytes old new before after records limit capture front read given same many is =
+    length records ≡ most → limit ≡ most → ServesUpTo most bytes after (packets_of records) (Limit limit)
+Serves-limit most bytes old new before after records limit capture front read given same many is =
     let further : HasRead bytes new after (records ++ given.saved ∷ []) =
     HasRead-next bytes old new before after records read given same in
     let begins : BeginsWith bytes (records ++ given.saved ∷ []) further.more =
@@ -131,9 +133,9 @@ Serves-limit bytes old new before after records limit capture front read given s
     let more : (others : List Saved) × (capture.0 ≡ (records ++ given.saved ∷ []) ++ others) =
     front (records ++ given.saved ∷ []) capture.0 further.more capture.1 begins capture.2 in
     let all : capture.0 ≡ records ++ (given.saved ∷ more.0) = more.1 ∙ append_assoc records (given.saved ∷ []) more.0 in
-    let longer : PACKET_LIMIT < length capture.0 =
+    let longer : most < length capture.0 =
     omega (arith, ap length all, length-append records (given.saved ∷ more.0), many) in
-    let served : take PACKET_LIMIT capture.0 ≡ records =
+    let served : take most capture.0 ≡ records =
     ap (λ (n : ℕ). take n capture.0) (sym many) ∙ ap (take (length records)) all
     ∙ take-append_seam records (given.saved ∷ more.0) in
     record {
@@ -143,9 +145,9 @@ Serves-limit bytes old new before after records limit capture front read given s
 
 -- an input whose file head shows a fault serves no packet
 pub Serves-refused :
-    (bytes : List ℕ) (left : Option (List ℕ)) (fault : CaptureFault) → ShowsFault bytes fault →
-    TakesFew bytes left [] → Serves bytes left [] (Fault fault)
-Serves-refused bytes left fault shown takes =
+    (most : ℕ) (bytes : List ℕ) (left : Option (List ℕ)) (fault : CaptureFault) → ShowsFault bytes fault →
+    TakesFew bytes left [] → ServesUpTo most bytes left [] (Fault fault)
+Serves-refused most bytes left fault shown takes =
     record {
       holds = (
         [],
@@ -158,10 +160,10 @@ Serves-refused bytes left fault shown takes =
 
 -- a read that failed before the file head was there leaves no packet to serve
 pub Serves-none :
-    (bytes taken : List ℕ) (after : Option (List ℕ)) → length taken < FILE_HEAD → Consumes (Some bytes) after taken →
-    Serves bytes after [] ReadFault
-Serves-none bytes taken None fewer lost = absurd lost
-Serves-none bytes taken (Some others) fewer lost =
+    (most : ℕ) (bytes taken : List ℕ) (after : Option (List ℕ)) → length taken < FILE_HEAD →
+    Consumes (Some bytes) after taken → ServesUpTo most bytes after [] ReadFault
+Serves-none most bytes taken None fewer lost = absurd lost
+Serves-none most bytes taken (Some others) fewer lost =
     record {
       holds = (
         taken,

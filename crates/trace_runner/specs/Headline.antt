@@ -73,10 +73,15 @@ code_of status.WriteFault = 4
 code_of status.BadCapture = 5
 code_of status.Limit = 6
 
--- the status that a capture of these records with this ending is answered with, where nothing fails
-abbrev pub status_for : List Saved → Result ℕ CaptureFault → Status
-status_for records ending = if nat_lt packet_limit (length records) then status.Limit
+-- the status that a capture of these records with this ending is answered with, where no more than so many are taken
+-- and nothing fails
+abbrev pub status_up_to : (most : ℕ) → List Saved → Result ℕ CaptureFault → Status
+status_up_to most records ending = if nat_lt most (length records) then status.Limit
     else (if is_ok ending then status.Done else status.BadCapture)
+
+-- where as many are taken as `serve` takes
+abbrev pub status_for : List Saved → Result ℕ CaptureFault → Status
+status_for records ending = status_up_to packet_limit records ending
 
 -- ---- what a run leaves
 

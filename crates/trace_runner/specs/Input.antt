@@ -16,18 +16,20 @@ packet_limit = 4000000
 abbrev pub packets_of : List Saved → List (List ℕ)
 packets_of records = map (λ saved. saved.packet) records
 
--- the bytes are a capture with this ending, with no more records than are served, which are these packets
-abbrev pub HoldsPackets : List ℕ → List (List ℕ) → Result ℕ CaptureFault → Type 0
-HoldsPackets bytes packets ending =
-    (records : List Saved) × Capture bytes records ending × (length records ≤ packet_limit)
-    × (packets ≡ packets_of records)
+-- the bytes are a capture with this ending, with no more records than so many, which are these packets
+abbrev pub HoldsUpTo : (most : ℕ) → List ℕ → List (List ℕ) → Result ℕ CaptureFault → Type 0
+HoldsUpTo most bytes packets ending =
+    (records : List Saved) × Capture bytes records ending × (length records ≤ most) × (packets ≡ packets_of records)
 
--- the bytes are a capture of more records than are served, and these packets are those that are
-abbrev pub HoldsMore : List ℕ → List (List ℕ) → Type 0
-HoldsMore bytes packets =
-    (records : List Saved) × (ending : Result ℕ CaptureFault) × Capture bytes records ending
-    × (packet_limit < length records)
-    × (packets ≡ packets_of (take packet_limit records))
+-- with no more than `serve` takes
+abbrev pub HoldsPackets : List ℕ → List (List ℕ) → Result ℕ CaptureFault → Type 0
+HoldsPackets bytes packets ending = HoldsUpTo packet_limit bytes packets ending
+
+-- the bytes are a capture of more records than so many, and these packets are the first so many
+abbrev pub HoldsMore : (most : ℕ) → List ℕ → List (List ℕ) → Type 0
+HoldsMore most bytes packets =
+    (records : List Saved) × (ending : Result ℕ CaptureFault) × Capture bytes records ending × (most < length records)
+    × (packets ≡ packets_of (take most records))
 
 -- how many bytes the file head and the records of these packets are
 abbrev pub served_length : List (List ℕ) → ℕ
@@ -43,23 +45,27 @@ pub record TakesFew (bytes : List ℕ) (left : Option (List ℕ)) (packets : Lis
   pub few : length taken ≤ served_length packets + buffer_length
 
 -- of the bytes some were taken, and these packets are those that are whole in them
-abbrev pub HoldsTaken : List ℕ → Option (List ℕ) → List (List ℕ) → Type 0
-HoldsTaken bytes left packets =
+abbrev pub HoldsTaken : (most : ℕ) → List ℕ → Option (List ℕ) → List (List ℕ) → Type 0
+HoldsTaken most bytes left packets =
     (taken : List ℕ) × (others : List ℕ) × (ending : Result ℕ CaptureFault) × (bytes ≡ taken ++ others)
-    × (left ≡ Some others)
-    × HoldsPackets taken packets ending
+    × (left ≡ Some others) × HoldsUpTo most taken packets ending
 
--- the bytes, of which these are left, hold these packets, and have this ending
-abbrev pub HoldsUntil : List ℕ → Option (List ℕ) → List (List ℕ) → Ending → Type 0
-HoldsUntil bytes left packets (Done rest) = HoldsPackets bytes packets (Ok rest) × (left ≡ Some [])
-HoldsUntil bytes left packets (Fault fault) = HoldsPackets bytes packets (Err fault)
-HoldsUntil bytes left packets (Limit limit) = HoldsMore bytes packets × (limit ≡ packet_limit)
-HoldsUntil bytes left packets ReadFault = HoldsTaken bytes left packets
+-- the bytes, of which these are left, hold these packets, where no more than so many are taken, and have this ending
+abbrev pub HoldsUntil : (most : ℕ) → List ℕ → Option (List ℕ) → List (List ℕ) → Ending → Type 0
+HoldsUntil most bytes left packets (Done rest) = HoldsUpTo most bytes packets (Ok rest) × (left ≡ Some [])
+HoldsUntil most bytes left packets (Fault fault) = HoldsUpTo most bytes packets (Err fault)
+HoldsUntil most bytes left packets (Limit limit) = HoldsMore most bytes packets × (limit ≡ most)
+HoldsUntil most bytes left packets ReadFault = HoldsTaken most bytes left packets
 
--- Of an input with these bytes, of which these are left, these packets are served, and so it ended.
-pub record Serves (bytes : List ℕ) (left : Option (List ℕ)) (packets : List (List ℕ)) (ending : Ending) : Type 0 where
-  pub holds : HoldsUntil bytes left packets ending
+-- Of an input with these bytes, of which these are left, these packets are served, so many at most, and so it ended.
+pub record ServesUpTo (most : ℕ) (bytes : List ℕ) (left : Option (List ℕ)) (packets : List (List ℕ)) (ending : Ending) :
+    Type 0 where
+  pub holds : HoldsUntil most bytes left packets ending
   pub takes : TakesFew bytes left packets
+
+-- as many as `serve` takes
+abbrev pub Serves : List ℕ → Option (List ℕ) → List (List ℕ) → Ending → Type 0
+Serves bytes left packets ending = ServesUpTo packet_limit bytes left packets ending
 
 -- these are the first packets of an input with these bytes
 abbrev pub IsFirst : List ℕ → List (List ℕ) → Type 0

@@ -5,4 +5,5 @@ pub mod Endings
 pub mod Reading
 pub mod Served
 pub mod Headline
+pub mod Playing
 pub mod Progress

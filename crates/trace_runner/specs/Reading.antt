@@ -8,10 +8,11 @@ use Rattle.report_text.specs.declared.parts.Ending.{Ending}
 use Rattle.report_text.specs.declared.parts.Ending.TheVariants.{Done, ReadFault, Limit, Fault}
 use Rattle.plain_map.specs.Calls.{key_in}
 use Rattle.plain_map.specs.Serving.{IsAskable}
+use Rattle.core_model.specs.Setup.{IsKey}
 use Rattle.flow_keys.specs.FlowText.{HasText}
 use Rattle.pcap_reader.specs.declared.fault.CaptureFault.{CaptureFault}
 use Rattle.trace_runner.specs.PacketCalls.{MakeCalls, MakesCall, numbered}
-use Rattle.trace_runner.specs.Input.{Serves, packets_of}
+use Rattle.trace_runner.specs.Input.{ServesUpTo, packet_limit, packets_of}
 
 -- the bytes still to come are a remainder with this ending
 abbrev pub EndsWith : Reading → Option (List ℕ) → Result ℕ CaptureFault → Type 0
@@ -51,10 +52,12 @@ HasCalls bytes reading left many calls =
     (records : List Saved) × HasRead bytes reading left records × MakeCalls 1 (packets_of records) calls
     × (length records ≡ many)
 
--- an input with these bytes, of which these are left, ended so behind so many packets, which make these calls
-abbrev pub EndsCalls : List ℕ → Option (List ℕ) → ℕ → List (ℕ × Call) → Ending → Type 0
-EndsCalls bytes left many calls ending =
-    (packets : List (List ℕ)) × Serves bytes left packets ending × MakeCalls 1 packets calls × (length packets ≡ many)
+-- an input with these bytes, of which these are left, ended so behind so many packets, which make these calls, where no
+-- more than `most` are taken
+abbrev pub EndsCalls : (most : ℕ) → List ℕ → Option (List ℕ) → ℕ → List (ℕ × Call) → Ending → Type 0
+EndsCalls most bytes left many calls ending =
+    (packets : List (List ℕ)) × ServesUpTo most bytes left packets ending × MakeCalls 1 packets calls
+    × (length packets ≡ many)
 
 -- So far has an input been read, of which these bytes were left at first, and these are now: where they are told, and
 -- by what was taken of them.
@@ -63,17 +66,23 @@ pub record HaveCome (first now : Option (List ℕ)) (reading : Reading) (many : 
   pub told : (bytes : List ℕ) → first ≡ Some bytes → HasCalls bytes reading now many calls
   pub took : Took first now (λ taken. HasCalls taken reading (Some []) many calls)
 
--- and so it ended
-pub record HaveEnded (first now : Option (List ℕ)) (many : ℕ) (calls : List (ℕ × Call)) (ending : Ending) : Type 0 where
-  pub told : (bytes : List ℕ) → first ≡ Some bytes → EndsCalls bytes now many calls ending
-  pub took : Took first now (λ taken. EndsCalls taken (Some []) many calls ending)
+-- and so it ended, where no more packets than `most` are taken
+pub record HaveEndedUpTo (most : ℕ) (first now : Option (List ℕ)) (many : ℕ) (calls : List (ℕ × Call))
+    (ending : Ending) : Type 0 where
+  pub told : (bytes : List ℕ) → first ≡ Some bytes → EndsCalls most bytes now many calls ending
+  pub took : Took first now (λ taken. EndsCalls most taken (Some []) many calls ending)
 
--- a call of a packet behind the one number and up to the other, which can be asked and printed
+-- as many as `serve` takes
+abbrev pub HaveEnded : (first now : Option (List ℕ)) → (many : ℕ) → List (ℕ × Call) → Ending → Type 0
+HaveEnded first now many calls ending = HaveEndedUpTo packet_limit first now many calls ending
+
+-- a call of a packet behind the one number and up to the other, which can be asked, printed and kept
 pub record IsBetween (first last : ℕ) (call : ℕ × Call) : Type 0 where
   pub above : first < call.0
   pub upto : call.0 ≤ last
   pub askable : IsAskable call.1
   pub text : HasText (key_in call.1)
+  pub key : IsKey (key_in call.1)
 
 -- each call is of a later packet than those before it
 abbrev pub Ascending : List (ℕ × Call) → Type 0

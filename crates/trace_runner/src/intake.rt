@@ -6,7 +6,7 @@ ghost use Rattle.pcap_reader.specs.Reading.{IsAtStart};
 ghost use Rattle.plain_map.specs.declared.calls.Call.{Call};
 ghost use Rattle.report_text.specs.Report.{IsEnding};
 ghost use Rattle.trace_runner.specs.Endings.{ending_at, OnEnds};
-ghost use Rattle.trace_runner.specs.Reading.{AreBetween, HaveCome, HaveEnded};
+ghost use Rattle.trace_runner.specs.Reading.{AreBetween, HaveCome, HaveEndedUpTo};
 
 use crate::steps::{keep_call, read_on, read_past};
 use edge_traits::Source;
@@ -15,8 +15,11 @@ use plain_map::Call;
 use report_text::Ending;
 use std::alloc::{AllocError, Global};
 
-/// How many packets a run serves at most.
+/// How many packets `serve` takes at most.
 pub const PACKET_LIMIT: u32 = 4_000_000;
+
+/// How many packets `play` takes at most.
+pub const PLAY_LIMIT: u32 = 200;
 
 /// How many packets a batch has; the last one may have fewer.
 pub const BATCH: u32 = 2_048;
@@ -43,7 +46,8 @@ pub(crate) fn open<S: Source>(alloc: Global, source: &mut S) -> Result<Reader, U
     ensures start { IfOk result IsAtStart }
     ensures come { IfOk result (λ reader. HaveCome (S.left source.old) (S.left source.new) reader 0 []) }
     ensures ending { IfErr result (λ fault. OnEnds fault IsEnding) }
-    ensures ended { IfErr result (λ fault. OnEnds fault (HaveEnded (S.left source.old) (S.left source.new) 0 [])) }
+    ensures ended { IfErr result (λ fault. OnEnds fault (λ ending. (limit : ℕ) →
+        HaveEndedUpTo limit (S.left source.old) (S.left source.new) 0 [] ending)) }
     ensures read_fault { result ≡ Err (Unopened.Ends Ending.ReadFault) →
         Rose (S.faults source.old) (S.faults source.new) }
     ensures counted { S.faults source.old ≤ S.faults source.new }
@@ -57,35 +61,37 @@ pub(crate) fn open<S: Source>(alloc: Global, source: &mut S) -> Result<Reader, U
     }
 }
 
-/// Reads the packets of a batch, behind so many that were read before.
+/// Reads the packets of a batch, behind so many that were read before. No more than `limit` are taken in all.
 ///
 /// The calls are put into a list that is empty. Want of memory comes from it.
 pub(crate) fn read_batch<S: Source>(
     reader: &mut Reader,
     source: &mut S,
     before: u32,
+    limit: u32,
     calls: &mut Vec<(u32, Call)>,
 ) -> Result<Part, AllocError>
     requires going { reader.old.ended ≡ false }
     requires given { reader.old.given ≡ before }
-    requires few { before < PACKET_LIMIT }
+    requires few { before < limit }
+    requires limited { limit ≤ PACKET_LIMIT }
     requires none { calls.old.items ≡ [] }
     ensures read { IfOk result (λ part. (first : Option (List ℕ)) (all : List (ℕ × Call)) →
         HaveCome first (S.left source.old) reader.old before all →
         MatchOption part.ending
         (HaveCome first (S.left source.new) reader.new (before + part.packets) (all ++ calls.new.items))
-        (HaveEnded first (S.left source.new) (before + part.packets) (all ++ calls.new.items))) }
+        (HaveEndedUpTo limit first (S.left source.new) (before + part.packets) (all ++ calls.new.items))) }
     ensures between { IfOk result (λ part. AreBetween before (before + part.packets) calls.new.items) }
     ensures goes_on { IfOk result (λ part. IfNone part.ending ((reader.new.ended ≡ false)
         × (reader.new.given ≡ before + part.packets) × (part.packets ≡ BATCH)
-        × (before + part.packets < PACKET_LIMIT))) }
-    ensures few_packets { IfOk result (λ part. (part.packets ≤ BATCH) × (before + part.packets ≤ PACKET_LIMIT)) }
+        × (before + part.packets < limit))) }
+    ensures few_packets { IfOk result (λ part. (part.packets ≤ BATCH) × (before + part.packets ≤ limit)) }
     ensures ending { IfOk result (λ part. IfSome part.ending IsEnding) }
     ensures read_fault { IfOk result (λ part. part.ending ≡ Some Ending.ReadFault →
         Rose (S.faults source.old) (S.faults source.new)) }
     ensures counted { S.faults source.old ≤ S.faults source.new }
 {
-    let most = BATCH.min(PACKET_LIMIT - before);
+    let most = BATCH.min(limit - before);
     for packets in 0..most {
         if let Some(ending) = read_on(reader, source) {
             return Ok(Part {
@@ -95,7 +101,7 @@ pub(crate) fn read_batch<S: Source>(
         }
         keep_call(reader, before + packets + 1, calls)?;
     }
-    if before + most < PACKET_LIMIT {
+    if before + most < limit {
         return Ok(Part {
             packets: most,
             ending: None,
@@ -103,7 +109,7 @@ pub(crate) fn read_batch<S: Source>(
     }
     Ok(Part {
         packets: most,
-        ending: Some(read_past(reader, source)),
+        ending: Some(read_past(reader, source, limit)),
     })
 }
 

@@ -1,9 +1,14 @@
-//! What holds of batches that were served.
+//! What holds of batches that were served, and of plays.
 
+ghost use Rattle.trace_runner.specs.Playing.{PlaysAreRight};
 ghost use Rattle.trace_runner.specs.Served.{ServedArePromised};
 
 use batch_answers::answer_laws;
 use batch_runner::served_laws;
+use core_book::cover_laws;
+use core_bounds::step_laws;
+use core_orders::{end_laws, order_laws, warrant_laws};
+use core_schedules::schedule_laws;
 
 /// Whatever the interleaving, batches that were served keep all that is promised of them.
 pub fn serving_laws()
@@ -11,4 +16,17 @@ pub fn serving_laws()
 {
     served_laws();
     answer_laws();
+}
+
+/// Every play is a run of its table, in the end of which each seat has made its calls or is stopped, and its one order is
+/// right.
+pub fn playing_laws()
+    ensures { PlaysAreRight }
+{
+    schedule_laws();
+    order_laws();
+    end_laws();
+    warrant_laws();
+    cover_laws();
+    step_laws();
 }

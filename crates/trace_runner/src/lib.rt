@@ -4,6 +4,7 @@
 mod intake;
 mod laws;
 mod making;
+mod playing;
 mod printing;
 mod progress;
 mod running;
@@ -13,8 +14,8 @@ mod steps;
 mod stop;
 mod trying;
 
-pub use intake::{BATCH, PACKET_LIMIT};
-pub use laws::serving_laws;
+pub use intake::{BATCH, PACKET_LIMIT, PLAY_LIMIT};
+pub use laws::{playing_laws, serving_laws};
 pub use running::run;
 pub use status::Status;
 

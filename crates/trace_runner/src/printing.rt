@@ -113,7 +113,11 @@ pub(crate) fn finish<K: Sink>(
 }
 
 /// A line for each session that is left.
-fn put_sessions(alloc: Global, text: &mut Vec<u8>, pairs: &[Pair]) -> Result<(), AllocError>
+pub(crate) fn put_sessions(
+    alloc: Global,
+    text: &mut Vec<u8>,
+    pairs: &[Pair],
+) -> Result<(), AllocError>
     requires { All (λ pair. HasText pair.key) pairs.now }
     ensures { OnOk result (text.new.items ≡ text.old.items ++ flat_map session_line pairs.now) }
 {

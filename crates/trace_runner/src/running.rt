@@ -5,11 +5,13 @@ ghost use Rattle.edge_traits.specs.Edge.{Rose};
 ghost use Rattle.pcap_reader.specs.Capture.{Capture, Saved};
 ghost use Rattle.pcap_reader.specs.declared.fault.CaptureFault.{CaptureFault};
 ghost use Rattle.command_line.specs.declared.plan.Plan.{Plan as APlan};
-ghost use Rattle.command_line.specs.declared.plan.Mode.TheVariants.{Make, Serve, Trial};
+ghost use Rattle.command_line.specs.declared.plan.Mode.TheVariants.{Make, Play, Serve, Trial};
 ghost use Rattle.command_line.specs.Words.{IsInRange, reads};
-ghost use Rattle.trace_runner.specs.Headline.{LeavesAll, LeavesMade, LeavesTried, status_for};
+ghost use Rattle.trace_runner.specs.Headline.{LeavesAll, LeavesMade, LeavesTried, status_for, status_up_to};
+ghost use Rattle.trace_runner.specs.Playing.{LeavesPlayed, play_limit};
 
 use crate::making::make;
+use crate::playing::play;
 use crate::serving::serve;
 use crate::status::Status;
 use crate::trying::try_plan;
@@ -23,8 +25,9 @@ use std::thread::Threads;
 ///
 /// `serve` reads a capture from the source, up to its fault or to one packet more than `PACKET_LIMIT`, 2,048 packets at
 /// a time. The calls of these are served by seats in threads of their own, and their lines are put into the sink before
-/// the next are read. `make` puts a made capture, and `trial` serves it and puts how many
-/// calls had each reply. The gate is passed before each call, and told of each answer.
+/// the next are read. `play` reads a capture of up to `PLAY_LIMIT` packets, whose calls are made step by step, by one
+/// schedule, and puts the report at once. `make` puts a made capture, and `trial` serves it and puts how many calls had
+/// each reply. The gate is passed before each call that is served, and told of each answer.
 pub fn run<R: Threads + Sync, S: Source, K: Sink, G: Gate + Sync>(
     rt: &R,
     alloc: Global,
@@ -46,6 +49,18 @@ pub fn run<R: Threads + Sync, S: Source, K: Sink, G: Gate + Sync>(
         ¬ Rose (S.faults source.old) (S.faults source.new) →
         ¬ Rose (K.faults sink.old) (K.faults sink.new) →
         (result ≡ status_for records ending) ⊎ (result ≡ Status.Memory) }
+
+    // `play`: what is put is the report of one play of the capture's calls, by the schedule and the stops of the words.
+    ensures played { (plan : APlan) → reads (map string_bytes words.now) ≡ Some plan → plan.mode ≡ Play →
+        LeavesPlayed plan (S.left source.old) (S.left source.new) (K.put sink.old) (K.put sink.new) result }
+
+    // Where nothing fails, here too the capture decides.
+    ensures exact_play { (plan : APlan) (bytes : List ℕ) (records : List Saved) (ending : Result ℕ CaptureFault) →
+        reads (map string_bytes words.now) ≡ Some plan → plan.mode ≡ Play →
+        S.left source.old ≡ Some bytes → Capture bytes records ending →
+        ¬ Rose (S.faults source.old) (S.faults source.new) →
+        ¬ Rose (K.faults sink.old) (K.faults sink.new) →
+        (result ≡ status_up_to play_limit records ending) ⊎ (result ≡ Status.Memory) }
 
     // `make`: what is put is the made capture, and nothing is read.
     ensures made { (plan : APlan) → reads (map string_bytes words.now) ≡ Some plan → plan.mode ≡ Make →
@@ -86,6 +101,8 @@ fn run_plan<R: Threads + Sync, S: Source, K: Sink, G: Gate + Sync>(
     requires { IsInRange plan.now }
     ensures headline { plan.now.mode ≡ Serve →
         LeavesAll plan.now (S.left source.old) (S.left source.new) (K.put sink.old) (K.put sink.new) result }
+    ensures played { plan.now.mode ≡ Play →
+        LeavesPlayed plan.now (S.left source.old) (S.left source.new) (K.put sink.old) (K.put sink.new) result }
     ensures made { plan.now.mode ≡ Make →
         LeavesMade plan.now (K.put sink.old) (K.put sink.new) result × (source.new ≡ source.old) }
     ensures tried { plan.now.mode ≡ Trial →
@@ -97,6 +114,7 @@ fn run_plan<R: Threads + Sync, S: Source, K: Sink, G: Gate + Sync>(
 {
     match plan.mode {
         Mode::Serve => serve(rt, alloc, plan, source, sink, gate),
+        Mode::Play => play(alloc, plan, source, sink),
         Mode::Make => make(alloc, plan, sink),
         Mode::Trial => try_plan(rt, alloc, plan, sink, gate),
     }

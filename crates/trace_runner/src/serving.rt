@@ -168,7 +168,7 @@ fn serve_packets<R: Threads + Sync, S: Source, K: Sink, G: Gate + Sync>(
     let mut packets = 0;
     'batches: loop {
         calls.clear();
-        let part = read_batch(reader, source, packets, &mut calls)?;
+        let part = read_batch(reader, source, packets, PACKET_LIMIT, &mut calls)?;
         match part.ending {
             Some(ending) => {
                 let last = Last {

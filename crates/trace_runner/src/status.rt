@@ -44,7 +44,7 @@ impl Status {
     pub fn complaint(self) -> Option<&'static str> {
         match self {
             Status::Memory => Some("flowdir: out of memory"),
-            Status::Usage => Some("flowdir: usage: flowdir serve|make|trial [options]"),
+            Status::Usage => Some("flowdir: usage: flowdir serve|play|make|trial [options]"),
             Status::ReadFault => Some("flowdir: read fault"),
             Status::WriteFault => Some("flowdir: write fault"),
             Status::Done | Status::BadCapture | Status::Limit => None,

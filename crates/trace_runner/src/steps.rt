@@ -6,17 +6,17 @@ ghost use Rattle.flow_keys.specs.FlowText.{HasText};
 ghost use Rattle.plain_map.specs.declared.calls.Call.{Call};
 ghost use Rattle.plain_map.specs.Calls.{key_in};
 ghost use Rattle.plain_map.specs.Serving.{IsAskable};
+ghost use Rattle.core_model.specs.Setup.{IsKey};
 ghost use Rattle.pcap_reader.specs.Reading.{GivesRecord, Took, to_come};
 ghost use Rattle.report_text.specs.Report.{IsEnding};
 ghost use Rattle.trace_runner.specs.PacketCalls.{MakesCall};
-ghost use Rattle.trace_runner.specs.Reading.{AreBetween, HaveCome, HaveEnded, MeetsEnding, TakesCall};
+ghost use Rattle.trace_runner.specs.Reading.{AreBetween, HaveCome, HaveEndedUpTo, MeetsEnding, TakesCall};
 
-use crate::intake::PACKET_LIMIT;
 use edge_traits::Source;
 use flow_keys::call_of;
 use packet_heads::heads;
 use pcap_reader::{CaptureFault, Item, Reader, capture_front, every_capture};
-use plain_map::Call;
+use plain_map::{Call, Key};
 use report_text::Ending;
 use std::alloc::AllocError;
 
@@ -46,13 +46,13 @@ pub(crate) fn read_on<S: Source>(reader: &mut Reader, source: &mut S) -> Option<
     }
 }
 
-/// Reads on behind the last packet that is served, which is how the input ends.
-pub(crate) fn read_past<S: Source>(reader: &mut Reader, source: &mut S) -> Ending
+/// Reads on behind the last of so many packets that are taken, which is how the input ends.
+pub(crate) fn read_past<S: Source>(reader: &mut Reader, source: &mut S, limit: u32) -> Ending
     requires going { reader.old.ended ≡ false }
     requires few { reader.old.given < 2 ^ 32 - 1 }
     ensures ended { (first : Option (List ℕ)) (calls : List (ℕ × Call)) →
-        HaveCome first (S.left source.old) reader.old PACKET_LIMIT calls →
-        HaveEnded first (S.left source.new) PACKET_LIMIT calls result }
+        HaveCome first (S.left source.old) reader.old limit calls →
+        HaveEndedUpTo limit first (S.left source.new) limit calls result }
     ensures ending { IsEnding result }
     ensures read_fault { result ≡ Ending.ReadFault → Rose (S.faults source.old) (S.faults source.new) }
     ensures counted { S.faults source.old ≤ S.faults source.new }
@@ -62,7 +62,7 @@ pub(crate) fn read_past<S: Source>(reader: &mut Reader, source: &mut S) -> Endin
     match read_on(reader, source) {
         Some(ending) => ending,
         None => Ending::Limit {
-            limit: u64::from(PACKET_LIMIT),
+            limit: u64::from(limit),
         },
     }
 }
@@ -70,13 +70,28 @@ pub(crate) fn read_past<S: Source>(reader: &mut Reader, source: &mut S) -> Endin
 /// The call of the packet with this number, or `None` where it makes none.
 fn call_in(packet: &[u8], number: u32) -> Option<Call>
     ensures made { MakesCall number packet.now result }
-    ensures fits { IfSome result (λ call. IsAskable call × HasText (key_in call)) }
+    ensures fits { IfSome result (λ call. IsAskable call × HasText (key_in call) × IsKey (key_in call)) }
 {
     match heads(packet) {
-        Some(heads) => Some(call_of(&heads, number)),
+        Some(heads) => {
+            let call = call_of(&heads, number);
+            has_words(call.key());
+            Some(call)
+        }
         None => None,
     }
 }
+
+// A key has two words of 64 bits.
+fn has_words(key: &Key)
+    ensures { IsKey key.now }
+{
+    are_words(key.k0, key.k1);
+}
+
+fn are_words(one: u64, two: u64)
+    ensures { (one < 2 ^ 64) × (two < 2 ^ 64) }
+{}
 
 /// Keeps the call of the packet that was read last and has this number, where it makes one.
 pub(crate) fn keep_call(

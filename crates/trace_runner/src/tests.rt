@@ -7,6 +7,7 @@ mod endings;
 mod gates;
 mod limits;
 mod made;
+mod plays;
 mod served;
 mod splits;
 
@@ -73,7 +74,7 @@ fn statuses_as_codes_and_complaints(rt: HostRuntime) {
         (
             Status::Usage,
             2,
-            Some("flowdir: usage: flowdir serve|make|trial [options]"),
+            Some("flowdir: usage: flowdir serve|play|make|trial [options]"),
         ),
         (Status::ReadFault, 3, Some("flowdir: read fault")),
         (Status::WriteFault, 4, Some("flowdir: write fault")),

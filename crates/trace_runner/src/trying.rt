@@ -106,7 +106,7 @@ fn try_packets<R: Threads + Sync, S: Source, G: Gate + Sync>(
     let mut packets = 0;
     'batches: loop {
         calls.clear();
-        let part = read_batch(reader, source, packets, &mut calls)?;
+        let part = read_batch(reader, source, packets, PACKET_LIMIT, &mut calls)?;
         match part.ending {
             Some(ending) => {
                 let numbers = (packets, part.packets);

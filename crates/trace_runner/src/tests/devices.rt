@@ -142,7 +142,7 @@ fn wrong_words_touch_nothing(rt: HostRuntime) -> Result<(), Fail> {
         "serve --seats 9",
         "serve --depth 4 --start 5",
         "serve --rows 1,2,3",
-        "play",
+        "replay",
         "",
     ];
     for line in lines {

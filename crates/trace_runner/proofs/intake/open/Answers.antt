@@ -8,7 +8,7 @@ returns-in-Ok-clause-come g c =
     c.in-Ok.ensures.head c.in-Ok.ensures.bytes c.in-Ok.ensures.start c.in-Ok.ensures.took
 
 pub returns-in-Some-clause-ended : goal.returns-in-Some-clause-ended
-returns-in-Some-clause-ended g c =
-    HaveEnded-stopped (g.S.Source.left c.args.source.now) (g.S.Source.left c.open.new.source) c.in-Err.fault
+returns-in-Some-clause-ended g c = λ limit.
+    HaveEnded-stopped limit (g.S.Source.left c.args.source.now) (g.S.Source.left c.open.new.source) c.in-Err.fault
     c.in-Some.ending (sym c.ending_at.ensures ∙ c.in-Some.is) c.in-Err.ensures.fault c.in-Err.ensures.took_fault
     c.in-Err.ensures.interrupted

@@ -1,13 +1,12 @@
 -- The loop's facts say how far the input was read; the lemmas say what one packet more, or an ending, makes of it.
 use Rattle.std.proofs.Common.{◌≡◌, ◌+◌, ◌++◌, ℕ, ap, subst, ◌∙◌, arith}
-use Rattle.trace_runner.specs.declared.intake.TheConstants.{PACKET_LIMIT}
-use Rattle.trace_runner.specs.Reading.{AreBetween, HaveCome, HaveEnded}
+use Rattle.trace_runner.specs.Reading.{AreBetween, HaveCome, HaveEndedUpTo}
 use Rattle.trace_runner.proofs.ReadingLemmas.{HaveCome-more, HaveEnded-ended}
 use Rattle.trace_runner.proofs.intake.read_batch.Goals as goal
 
 pub returns-in-Some-clause-read : goal.returns-in-Some-clause-read
 returns-in-Some-clause-read g c = λ first all come.
-    HaveEnded-ended first (g.S.Source.left c.loop-packets.source) (g.S.Source.left c.read_on.new.source)
+    HaveEnded-ended c.args.limit first (g.S.Source.left c.loop-packets.source) (g.S.Source.left c.read_on.new.source)
     c.loop-packets.reader c.read_on.new.reader (all ++ c.loop-packets.calls.items)
     (c.args.before + c.loop-packets.packets) c.in-Some.ending (c.loop-packets.invariant.read first all come)
     (omega arith) c.in-Some.ensures.ended c.in-Some.ensures.took_end
@@ -33,20 +32,20 @@ loop-packets-preserved g c =
           c.in_ok-keep_call.ensures.kept);
     }
 
-pub returns-then-before-most-lt-PACKET_LIMIT-clause-read : goal.returns-then-before-most-lt-PACKET_LIMIT-clause-read
-returns-then-before-most-lt-PACKET_LIMIT-clause-read g c = λ first all come.
+pub returns-then-before-most-lt-limit-clause-read : goal.returns-then-before-most-lt-limit-clause-read
+returns-then-before-most-lt-limit-clause-read g c = λ first all come.
     let all_read : c.loop-packets.packets ≡ c.min-most.result = omega arith in
     subst (λ (n : ℕ). HaveCome first (g.S.Source.left c.loop-packets.source) c.loop-packets.reader (c.args.before + n)
     (all ++ c.loop-packets.calls.items)) all_read (c.loop-packets.invariant.read first all come)
 
 pub returns-clause-read : goal.returns-clause-read
 returns-clause-read g c = λ first all come.
-    let all_read : c.args.before + c.loop-packets.packets ≡ PACKET_LIMIT = omega arith in
-    let here : HaveCome first (g.S.Source.left c.loop-packets.source) c.loop-packets.reader PACKET_LIMIT
+    let all_read : c.args.before + c.loop-packets.packets ≡ c.args.limit = omega arith in
+    let here : HaveCome first (g.S.Source.left c.loop-packets.source) c.loop-packets.reader c.args.limit
     (all ++ c.loop-packets.calls.items) =
     subst (λ (n : ℕ). HaveCome first (g.S.Source.left c.loop-packets.source) c.loop-packets.reader n
     (all ++ c.loop-packets.calls.items)) all_read (c.loop-packets.invariant.read first all come) in
-    let last : PACKET_LIMIT ≡ c.args.before + c.min-most.result = omega arith in
-    subst (λ (n : ℕ). HaveEnded first (g.S.Source.left c.read_past.new.source) n
+    let last : c.args.limit ≡ c.args.before + c.min-most.result = omega arith in
+    subst (λ (n : ℕ). HaveEndedUpTo c.args.limit first (g.S.Source.left c.read_past.new.source) n
     (all ++ c.loop-packets.calls.items) c.read_past.result) last
     (c.read_past.ensures.ended first (all ++ c.loop-packets.calls.items) here)

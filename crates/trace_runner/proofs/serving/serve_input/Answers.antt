@@ -1,8 +1,9 @@
 -- The head line is held, and nothing was put.
-use Rattle.std.proofs.Common.{◌++◌, [], ap, subst, ◌∙◌}
+use Rattle.std.proofs.Common.{ℕ, ◌++◌, [], ap, subst, ◌∙◌}
 use Rattle.report_text.specs.Report.{head_line}
 use Rattle.trace_runner.specs.Endings.{OnEnds}
-use Rattle.trace_runner.specs.Reading.{HaveEnded}
+use Rattle.trace_runner.specs.Input.{packet_limit}
+use Rattle.trace_runner.specs.Reading.{HaveEnded, HaveEndedUpTo}
 use Rattle.trace_runner.proofs.PrintLemmas.{HasPut-none}
 use Rattle.trace_runner.proofs.EndLemmas.{Keeps-same, LeavesBy-memory, LeavesBy-nothing}
 use Rattle.trace_runner.proofs.serving.serve_input.Goals as goal
@@ -34,7 +35,8 @@ returns-in-Ends-clause-leaves g c =
     let first = g.S.Source.left c.args.source.now in
     let left = g.S.Source.left c.open.new.source in
     let ended : HaveEnded first left 0 [] c.in-Ends.ending =
-    subst (λ fault. OnEnds fault (HaveEnded first left 0 [])) c.in-Ends.is c.in-Err.ensures.ended in
+    subst (λ fault. OnEnds fault (λ ending. (limit : ℕ) → HaveEndedUpTo limit first left 0 [] ending)) c.in-Ends.is
+    c.in-Err.ensures.ended packet_limit in
     c.serve_none.ensures.leaves c.args.plan.now first left (g.K.Sink.put c.args.sink.now)
     c.service_of-service.ensures.asks
     (HasPut-none c.args.plan.now c.service_of-service.result (g.K.Sink.put c.args.sink.now) c.head_text.new.out.items

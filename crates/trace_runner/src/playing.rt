@@ -1,0 +1,309 @@
+//! Mode `play`: a capture is read whole, its calls are made by a schedule, and the report is put at once.
+
+ghost use Rattle.std.specs.Prelude.{◌≡◌, ◌≤◌, ◌<◌, ◌^◌, ℕ, [], ◌++◌, length, map, flat_map, vec_len, All, IfOk, OnOk, Some};
+ghost use Rattle.std.specs.Option.{ForSome};
+ghost use Rattle.edge_traits.specs.Edge.{Rose};
+ghost use Rattle.flow_keys.specs.FlowText.{HasText};
+ghost use Rattle.plain_map.specs.Calls.{key_in};
+ghost use Rattle.word_rows.specs.Shape.{AreBelow};
+ghost use Rattle.report_text.specs.Report.{IsEnding, batch_lines, call_in, outcome_line, pending_line, session_line};
+ghost use Rattle.core_model.specs.Schedules.{CanPlay};
+ghost use Rattle.core_world.specs.Values.{opened};
+ghost use Rattle.play_runner.specs.Played.{IsPlayed, as_segment};
+ghost use Rattle.batch_rows.specs.BatchRows.{updates_in_calls};
+ghost use Rattle.batch_runner.specs.Served.{shares_of};
+ghost use Rattle.command_line.specs.Words.{IsInRange};
+ghost use Rattle.trace_runner.specs.declared.intake.TheConstants.{PLAY_LIMIT};
+ghost use Rattle.trace_runner.specs.Reading.{AreBetween, HaveEndedUpTo};
+ghost use Rattle.trace_runner.specs.Served.{IsServiceOf};
+ghost use Rattle.trace_runner.specs.Playing.{IsPlayOf, LeavesPlayed, play_head, play_in, play_setup, play_tail, played_lines, ranges_for, refusals_in, schedule_in};
+
+use crate::intake::{PLAY_LIMIT, Unopened, open, read_batch};
+use crate::laws::playing_laws;
+use crate::printing::put_sessions;
+use crate::serving::service_of;
+use crate::status::Status;
+use batch_runner::Service;
+use command_line::Plan;
+use core_world::CoreWorld;
+use edge_traits::{Failed, Sink, Source, write_all};
+use plain_map::{Call, OpenFault, Pending};
+use play_runner::{Played, Segment, most_steps};
+use report_text::{
+    Ending, Head, Tail, head_text, order_text, outcome_text, pending_text, tail_text,
+};
+use std::alloc::{AllocError, Global};
+use step_counts::{SeatRows, Settings, automatic_rows, bound};
+use trace_share::{Outcome, deal};
+
+/// Plays the source's packets as the plan says, and puts the report into the sink.
+pub(crate) fn play<S: Source, K: Sink>(
+    alloc: Global,
+    plan: &Plan,
+    source: &mut S,
+    sink: &mut K,
+) -> Status
+    requires { IsInRange plan.now }
+    ensures leaves { LeavesPlayed plan.now (S.left source.old) (S.left source.new)
+        (K.put sink.old) (K.put sink.new) result }
+    ensures read_fault { result ≡ Status.ReadFault → Rose (S.faults source.old) (S.faults source.new) }
+    ensures write_fault { result ≡ Status.WriteFault → Rose (K.faults sink.old) (K.faults sink.new) }
+    ensures no_usage { result ≡ Status.Usage → ⊥ }
+    ensures counted { (S.faults source.old ≤ S.faults source.new) × (K.faults sink.old ≤ K.faults sink.new) }
+{
+    let Ok(input) = read_input(alloc, source) else {
+        return Status::Memory;
+    };
+    match report_of(alloc, plan, &input) {
+        Ok(text) => match write_all(sink, &text) {
+            Ok(()) => Status::of_ending(&input.ending),
+            Err(Failed) => Status::WriteFault,
+        },
+        Err(_memory) => Status::Memory,
+    }
+}
+
+/// A whole input.
+#[derive(Drop)]
+struct Input {
+    /// How many packets were read whole.
+    packets: u32,
+    /// Their calls.
+    calls: Vec<(u32, Call)>,
+    ending: Ending,
+}
+
+/// Reads an input, up to its end or to one packet more than are taken.
+fn read_input<S: Source>(alloc: Global, source: &mut S) -> Result<Input, AllocError>
+    ensures ended { IfOk result (λ input. HaveEndedUpTo PLAY_LIMIT (S.left source.old) (S.left source.new)
+        input.packets input.calls.items input.ending) }
+    ensures between { IfOk result (λ input. AreBetween 0 input.packets input.calls.items) }
+    ensures few { IfOk result (λ input. input.packets ≤ PLAY_LIMIT) }
+    ensures ending { IfOk result (λ input. IsEnding input.ending) }
+    ensures read_fault { IfOk result (λ input. input.ending ≡ Ending.ReadFault →
+        Rose (S.faults source.old) (S.faults source.new)) }
+    ensures counted { S.faults source.old ≤ S.faults source.new }
+{
+    let mut calls = Vec::new(alloc);
+    match open(alloc, source) {
+        Ok(mut reader) => {
+            let part = read_batch(&mut reader, source, 0, PLAY_LIMIT, &mut calls)?;
+            match part.ending {
+                Some(ending) => Ok(Input {
+                    packets: part.packets,
+                    calls,
+                    ending,
+                }),
+                None => unreachable!(),
+            }
+        }
+        Err(Unopened::Ends(ending)) => Ok(Input {
+            packets: 0,
+            calls,
+            ending,
+        }),
+        Err(Unopened::Memory) => Err(AllocError),
+    }
+}
+
+/// The report of a play of an input's calls.
+fn report_of(alloc: Global, plan: &Plan, input: &Input) -> Result<Vec<u8>, AllocError>
+    requires range { IsInRange plan.now }
+    requires between { AreBetween 0 input.now.packets input.now.calls.items }
+    requires few { input.now.packets ≤ PLAY_LIMIT }
+    requires ending { IsEnding input.now.ending }
+    ensures { IfOk result (λ text. IsPlayOf plan.now input.now.packets input.now.calls.items input.now.ending
+        text.items) }
+{
+    playing_laws();
+    let service = service_of(plan);
+    let played = play_calls(alloc, plan, &service, &input.calls)?;
+    let mut text = Vec::new(alloc);
+    head_text(alloc, &mut text, &play_head(plan))?;
+    put_played(alloc, &mut text, plan.seats, &played)?;
+    put_sessions(alloc, &mut text, &played.pairs)?;
+    tail_text(alloc, &mut text, &play_tail(&service, input, &played))?;
+    Ok(text)
+}
+
+/// What the calls come to, where seats make them by the plan's schedule and stops.
+fn play_calls(
+    alloc: Global,
+    plan: &Plan,
+    service: &Service,
+    calls: &[(u32, Call)],
+) -> Result<Played, AllocError>
+    requires asks { IsServiceOf plan.now service.now }
+    requires given { ForSome service.now.rows (AreBelow (2 ^ 32)) }
+    requires between { AreBetween 0 PLAY_LIMIT calls.now }
+    ensures can { CanPlay (play_setup service.now calls.now) (shares_of service.now calls.now) }
+    ensures played { IfOk result (IsPlayed (play_setup service.now calls.now) (play_in plan.now service.now calls.now)) }
+{
+    let shares = deal(alloc, service.share, service.settings.seats, calls)?;
+    let rows = ranges_for(alloc, &service.settings, service.rows, &shares)?;
+    let core = match CoreWorld::new(alloc, &service.settings, service.hashing, &rows, &[]) {
+        Ok(core) => core,
+        Err(OpenFault::Memory) => return Err(AllocError),
+        Err(OpenFault::NoRoom { .. }) => unreachable!(),
+    };
+    let schedule = schedule_in(alloc, plan)?;
+    play_runner::play(alloc, core, &shares, plan.stops.as_slice(), &schedule)
+}
+
+/// The rows of each seat: those that are given, and else those that suffice for its updates.
+fn ranges_for(
+    alloc: Global,
+    settings: &Settings,
+    given: Option<SeatRows>,
+    shares: &[Vec<(u32, Call)>],
+) -> Result<Vec<SeatRows>, AllocError>
+    requires given { ForSome given (AreBelow (2 ^ 32)) }
+    requires few { All (λ share. vec_len share ≤ PLAY_LIMIT) shares.now }
+    ensures rows { IfOk result (λ rows. rows.items
+        ≡ ranges_for settings.now given (map (λ share. share.items) shares.now)) }
+    ensures below { IfOk result (λ rows. All (AreBelow (2 ^ 32)) rows.items) }
+{
+    if let Some(given) = given {
+        return vec![in alloc; given; shares.len()];
+    }
+    let mut rows = Vec::with_capacity(alloc, shares.len())?;
+    for share in shares {
+        rows.push(automatic_rows(settings, updates_of(share)))?;
+    }
+    Ok(rows)
+}
+
+/// How many of these calls are updates.
+fn updates_of(calls: &[(u32, Call)]) -> u32
+    requires few { length calls.now ≤ PLAY_LIMIT }
+    ensures count { result ≡ updates_in_calls calls.now }
+    ensures few { result ≤ PLAY_LIMIT }
+{
+    let mut updates = 0;
+    for asked in calls {
+        if !matches!(asked.1, Call::Lookup(_)) {
+            updates += 1;
+        }
+    }
+    updates
+}
+
+/// The segments of the plan's schedule.
+fn schedule_in(alloc: Global, plan: &Plan) -> Result<Vec<Segment>, AllocError>
+    ensures { IfOk result (λ segments. map as_segment segments.items ≡ schedule_in plan.now) }
+{
+    let told = plan.schedule.as_slice();
+    let mut segments = Vec::with_capacity(alloc, told.len())?;
+    for segment in told {
+        segments.push(Segment {
+            seat: segment.seat,
+            slots: segment.slots,
+        })?;
+    }
+    Ok(segments)
+}
+
+/// Appends the lines of the calls that ended, of those that were under way, and of the order.
+fn put_played(
+    alloc: Global,
+    text: &mut Vec<u8>,
+    seats: u32,
+    played: &Played,
+) -> Result<(), AllocError>
+    requires seats { seats ≤ 8 }
+    requires ended { All (λ ended. HasText (key_in (call_in ended.1))) played.now.outcomes.items }
+    requires under_way { All (λ begun. HasText (key_in begun.call)) played.now.pending.items }
+    ensures { OnOk result (text.new.items ≡ text.old.items ++ batch_lines seats (played_lines played.now)) }
+{
+    put_outcomes(alloc, text, seats, &played.outcomes)?;
+    put_pending(alloc, text, seats, &played.pending)?;
+    order_text(alloc, text, &played.order)
+}
+
+/// A line for each call that ended.
+fn put_outcomes(
+    alloc: Global,
+    text: &mut Vec<u8>,
+    seats: u32,
+    outcomes: &[(u32, Outcome)],
+) -> Result<(), AllocError>
+    requires seats { seats ≤ 8 }
+    requires texts { All (λ ended. HasText (key_in (call_in ended.1))) outcomes.now }
+    ensures { OnOk result (text.new.items
+        ≡ text.old.items ++ flat_map (λ ended. outcome_line seats ended.0 ended.1) outcomes.now) }
+{
+    for ended in outcomes {
+        outcome_text(alloc, text, seats, ended.0, &ended.1)?;
+    }
+    Ok(())
+}
+
+/// A line for each call that was under way.
+fn put_pending(
+    alloc: Global,
+    text: &mut Vec<u8>,
+    seats: u32,
+    pending: &[Pending],
+) -> Result<(), AllocError>
+    requires seats { seats ≤ 8 }
+    requires texts { All (λ begun. HasText (key_in begun.call)) pending.now }
+    ensures { OnOk result (text.new.items ≡ text.old.items ++ flat_map (pending_line seats) pending.now) }
+{
+    for begun in pending {
+        pending_text(alloc, text, seats, begun)?;
+    }
+    Ok(())
+}
+
+/// What the head line tells.
+fn play_head(plan: &Plan) -> Head
+    ensures { result ≡ play_head plan.now }
+{
+    Head {
+        play: true,
+        seats: plan.seats,
+        items: plan.items,
+        depth: plan.depth,
+        start: plan.start,
+        hashing: plan.hashing,
+        share: plan.share,
+    }
+}
+
+/// What the last lines tell.
+fn play_tail(service: &Service, input: &Input, played: &Played) -> Tail
+    requires between { AreBetween 0 input.now.packets input.now.calls.items }
+    requires depth { played.now.depth < 2 ^ 32 }
+    ensures { result ≡ play_tail service.now input.now.packets (length input.now.calls.items) played.now
+        input.now.ending }
+{
+    let packets = u64::from(input.packets);
+    let calls = input.calls.len() as u64;
+    Tail {
+        leaves: played.leaves as u64,
+        depth: played.depth as u32,
+        ending: input.ending,
+        packets,
+        calls,
+        passed: packets - calls,
+        full: refusals_in(&played.outcomes),
+        pending: played.pending.len() as u64,
+        unbegun: played.unbegun,
+        update: most_steps(&played.outcomes, true),
+        bound: bound(&service.settings),
+        lookup: most_steps(&played.outcomes, false),
+    }
+}
+
+/// How many calls were refused.
+fn refusals_in(outcomes: &[(u32, Outcome)]) -> u64
+    ensures { result ≡ refusals_in outcomes.now }
+{
+    let mut refusals = 0;
+    for ended in outcomes {
+        if let Outcome::Refused { .. } = ended.1 {
+            refusals += 1;
+        }
+    }
+    refusals
+}
