@@ -321,14 +321,14 @@ const ANNOUNCED: &str = "\
 const ANSWERED: &str = "\
     flowdir play seats 2 items 2 depth 1 start 1 hash ports seed 0 share round\n\
     call 1 seat 0 insert 10.0.0.1:1-10.0.0.2:80/tcp new 1 steps 51 after 0,0\n\
-    call 2 seat 1 insert 10.0.0.1:2-10.0.0.2:80/tcp new 2 steps 51 after 1,0\n\
+    call 2 seat 1 insert 10.0.0.1:2-10.0.0.2:80/tcp new 2 steps 56 after 1,0\n\
     order 1 2\n\
     session 10.0.0.1:1-10.0.0.2:80/tcp 1\n\
     session 10.0.0.1:2-10.0.0.2:80/tcp 2\n\
     leaves 2 depth 1\n\
     input done rest 0\n\
     count packets 2 calls 2 passed 0 full 0 pending 0 unbegun 0\n\
-    steps update 51 bound 710 lookup 0\n";
+    steps update 56 bound 710 lookup 0\n";
 
 /// A seat is stopped after each number of its steps; what its call comes to changes where it is announced and where it is
 /// answered.
