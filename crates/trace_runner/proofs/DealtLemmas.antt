@@ -1,9 +1,8 @@
 -- What is told of a play is told of calls that were dealt: what holds of each of these holds of each call that ended,
 -- that is under way, or that was answered.
-use Rattle.std.proofs.Common.{◌≡◌, ◌<◌, ℕ, zero, suc, ◌+◌, List, [], ◌∷◌, ◌++◌, Bool, true, false, cond, map, length, get_or, Option, Some, None, fold, inl, inr, refl, sym, subst, nat_lt}
+use Rattle.std.proofs.Common.{◌≡◌, ◌<◌, ℕ, ◌+◌, List, [], ◌∷◌, ◌++◌, Bool, true, false, cond, map, length, get_or, Option, Some, None, fold, inl, inr, refl, sym, subst, nat_lt}
 use Rattle.std.specs.Prelude.{replicate, slice_get}
 use Rattle.std.specs.List.{All, enumerate_from, flat_map, range_with_len}
-use Rattle.std.specs.Option.{option_map_or}
 use Rattle.std.proofs.lemmas.List.{get_or_past}
 use Rattle.std.proofs.lemmas.List.Elements.{All-append, All-cons, All-get_or, All-head, All-map, All-nil, All-replicate, All-set, All-tail}
 use Rattle.std.proofs.lemmas.Bool.{cases_lt}
@@ -17,17 +16,18 @@ use Rattle.trace_share.specs.declared.outcome.Outcome.{Outcome}
 use Rattle.trace_share.specs.declared.outcome.Outcome.TheVariants.{Answered, Refused}
 use Rattle.trace_share.specs.Outcomes.{asked_in}
 use Rattle.core_model.specs.declared.events.Event.{Event}
-use Rattle.core_model.specs.Setup.{Setup, seats_of, settings_of}
+use Rattle.core_model.specs.Setup.{Setup, seats_of}
 use Rattle.core_model.specs.Phases.{Phase, SeeDone, StoreDone}
 use Rattle.core_model.specs.SeatStates.{Account, Flight, Stand, Idle, InFlight, SeatState, begun, fresh_seat, record_of}
 use Rattle.core_model.specs.Asks.{ask_in}
 use Rattle.core_model.specs.Goes.{state_after}
 use Rattle.core_model.specs.Worlds.{World, act, begin_or_refuse, found_by, happens, opening_world, refusal_of, seat_in, step_of}
 use Rattle.core_model.specs.Closed.{begun_by, begun_of, records_of}
-use Rattle.core_model.specs.Schedules.{Hand, Play, Segment, empty_hand, events_of_slot, first_play, hand_after_slot, hand_of, is_refused, is_stopped, most_slots, one_begins, play_of, run_round, run_rounds, run_segment, scheduled, slot, slots, tried_of, untried_of, with_events, with_step}
+use Rattle.core_model.specs.Schedules.{Hand, Play, Segment, empty_hand, events_of_slot, first_play, hand_after_slot, hand_of, is_refused, is_stopped, one_begins, play_of, slot, tried_of, untried_of, with_events, with_step}
 use Rattle.core_bounds.specs.Moments.{asked_of}
 use Rattle.core_world.specs.Values.{new_record, refused_at, stepped_of, told_of}
 use Rattle.play_runner.specs.Played.{outcome_in, outcomes_from, outcomes_of, refused_with}
+use Rattle.trace_runner.proofs.PlayedBySlots.{play_keeps}
 
 -- a list of one element that is right
 one_right : {A : Type 0} (Q : A → Type 0) (x : A) → Q x → All Q (x ∷ [])
@@ -267,27 +267,6 @@ module _ (P : ℕ × Call → Type 0) where
             (slot_events_right seat account (hand_of play seat) stand (hand_right play seat of))
             (slot_hand_right seat account (hand_of play seat) stand (hand_right play seat of))
 
-    slots_right : (seat many : ℕ) (play : Play) → OfPlay play → OfPlay (slots setup seat many play)
-    slots_right seat zero play of = of
-    slots_right seat (suc many) play of = slots_right seat many (slot setup seat play) (slot_right seat play of)
-
-    schedule_right : (schedule : List Segment) (play : Play) → OfPlay play →
-        OfPlay (fold (run_segment setup) play schedule)
-    schedule_right [] play of = of
-    schedule_right (segment ∷ schedule) play of =
-        schedule_right schedule (run_segment setup play segment) (slots_right segment.seat
-        (option_map_or (λ many. many) segment.slots (most_slots (settings_of setup) (hand_of play segment.seat))) play of)
-
-    round_right : (seats : List ℕ) (play : Play) → OfPlay play →
-        OfPlay (fold (λ so_far seat. slot setup seat so_far) play seats)
-    round_right [] play of = of
-    round_right (seat ∷ seats) play of = round_right seats (slot setup seat play) (slot_right seat play of)
-
-    rounds_right : (many : ℕ) (play : Play) → OfPlay play → OfPlay (run_rounds setup many play)
-    rounds_right zero play of = of
-    rounds_right (suc many) play of =
-        rounds_right many (run_round setup play) (round_right (range_with_len 0 (seats_of setup)) play of)
-
     opening_right : All OfSeat (opening_world setup).seats
     opening_right = All-replicate OfSeat (seats_of setup) fresh_seat (record { answered = All-nil OfRecord; now = tt })
 
@@ -310,10 +289,7 @@ module _ (P : ℕ × Call → Type 0) where
           }
 
       play_right : (stops : List (Option ℕ)) (schedule : List Segment) → OfPlay (play_of setup calls stops schedule)
-      unfolding play_of
-      play_right stops schedule =
-          rounds_right _ (scheduled setup calls stops schedule)
-          (schedule_right schedule (first_play setup calls stops) (first_right stops))
+      play_right stops schedule = play_keeps setup OfPlay slot_right calls stops schedule (first_right stops)
 
   -- ---- what is left of the play
 

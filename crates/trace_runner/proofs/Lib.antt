@@ -9,7 +9,9 @@ pub mod PrintLemmas
 pub mod EndLemmas
 pub mod ExactLemmas
 pub mod TrialLemmas
+pub mod PlayedBySlots
 pub mod DealtLemmas
 pub mod PlayTexts
 pub mod PlayLemmas
 pub mod RightPlays
+pub mod UnrefusedPlays

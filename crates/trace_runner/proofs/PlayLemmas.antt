@@ -1,9 +1,11 @@
 -- What a play leaves, where its report was put whole or in part, and which answer it gives where nothing fails.
-use Rattle.std.proofs.Common.{◌≡◌, ◌≤◌, ◌<◌, ℕ, List, [], length, map, Option, Some, Result, Ok, Err, sym, ◌∙◌, subst, refl, inl, inr, ◌⊎◌, arith}
+use Rattle.std.proofs.Common.{◌≡◌, ◌≤◌, ◌<◌, ℕ, List, [], length, map, Option, Some, None, Result, Vec, Global, ◌-◌, ◌^◌, Ok, Err, sym, ◌∙◌, subst, refl, inl, inr, ◌⊎◌, arith}
 use Rattle.std.specs.List.{All}
 use Rattle.std.specs.Io.KnownBytes.{Appends, Keeps}
 use Rattle.std.proofs.KnownBytes.{Consumes-nil}
+use Rattle.std.proofs.lemmas.List.{length-map, length-replicate}
 use Rattle.std.proofs.lemmas.List.Elements.{All-weaker}
+use Rattle.std.proofs.lemmas.Simd.{map-map}
 use Rattle.edge_traits.specs.Edge.{AppendsFront}
 use Rattle.plain_map.specs.declared.calls.Call.{Call}
 use Rattle.pcap_reader.specs.declared.fault.CaptureFault.{CaptureFault}
@@ -12,13 +14,21 @@ use Rattle.pcap_reader.specs.Laws.{HasOneCapture}
 use Rattle.pcap_reader.specs.Reading.{Took}
 use Rattle.report_text.specs.declared.parts.Ending.{Ending}
 use Rattle.report_text.specs.declared.parts.Ending.TheVariants.{Done, ReadFault, Limit, Fault}
-use Rattle.core_model.specs.Schedules.{IsPlayable}
+use Rattle.step_counts.specs.declared.rows.SeatRows.{SeatRows}
+use Rattle.step_counts.specs.declared.settings.Settings.{Settings}
+use Rattle.step_counts.specs.StepCounts.{automatic_rows_of}
+use Rattle.core_model.specs.Setup.{IsSetup}
+use Rattle.core_model.specs.Schedules.{CanPlay, IsPlayable}
+use Rattle.batch_rows.specs.BatchRows.{updates_in_calls}
+use Rattle.batch_runner.specs.declared.service.Service.{Service}
+use Rattle.batch_runner.specs.Served.{shares_of}
+use Rattle.batch_runner.proofs.Deals.{dealt_few, dealt_hold}
 use Rattle.command_line.specs.declared.plan.Plan.{Plan}
 use Rattle.trace_runner.specs.declared.status.Status.{Status}
 use Rattle.trace_runner.specs.declared.status.Status.TheVariants as status
 use Rattle.trace_runner.specs.Reading.{AreBetween, EndsCalls, HaveEndedUpTo, IsBetween}
 use Rattle.trace_runner.specs.Headline.{TookFor, status_of, status_up_to}
-use Rattle.trace_runner.specs.Playing.{IsPlayOf, LeavesPlay, LeavesPlayed, PlayReports, play_limit}
+use Rattle.trace_runner.specs.Playing.{IsPlayOf, LeavesPlay, LeavesPlayed, PlayReports, play_limit, play_setup, ranges_for}
 use Rattle.trace_runner.proofs.ExactLemmas.{few_records, many_records, same_status}
 
 -- what was played of a whole input is its report
@@ -99,6 +109,34 @@ playable first last calls few between =
     All-weaker (IsBetween first last) IsPlayable
     (λ (call : ℕ × Call) is. record { packet = omega (arith, is.upto, few); key = is.key; value = is.askable }) calls
     between.each
+
+-- so can the shares of them, on a table that can be opened
+pub can_play : (service : Service) (calls : List (ℕ × Call)) → All IsPlayable calls → length calls ≤ play_limit →
+    IsSetup (play_setup service calls) → CanPlay (play_setup service calls) (shares_of service calls)
+can_play service calls each few opened =
+    record {
+      opened = opened;
+      playable = dealt_hold IsPlayable service.share service.settings.seats calls each;
+      few = All-weaker (λ (own : List (ℕ × Call)). length own ≤ length calls)
+          (λ (own : List (ℕ × Call)). length own ≤ 2 ^ 32 - 1) (λ own less. omega (arith, less, few))
+          (shares_of service calls) (dealt_few service.share service.settings.seats calls);
+    }
+
+-- the rows of the seats of shares that are held
+pub ranges-map :
+    (s : Settings) (shares : List (Vec (ℕ × Call) Global)) →
+    map (λ (share : Vec (ℕ × Call) Global). automatic_rows_of s (updates_in_calls share.items)) shares
+    ≡ ranges_for s None (map (λ (share : Vec (ℕ × Call) Global). share.items) shares)
+ranges-map s shares =
+    sym (map-map (λ (share : List (ℕ × Call)). automatic_rows_of s (updates_in_calls share))
+    (λ (share : Vec (ℕ × Call) Global). share.items) shares)
+
+-- there are rows for each seat
+pub long_ranges : (s : Settings) (given : Option SeatRows) (shares : List (List (ℕ × Call))) →
+    length (ranges_for s given shares) ≡ length shares
+long_ranges s (Some rows) shares = length-replicate (length shares) rows
+long_ranges s None shares =
+    length-map shares (λ (share : List (ℕ × Call)). automatic_rows_of s (updates_in_calls share))
 
 -- where nothing fails, the capture decides which answer it is, want of memory apart
 pub LeavesPlay-exact :

@@ -30,6 +30,7 @@ use Rattle.batch_runner.specs.declared.service.Service.{Service}
 use Rattle.batch_runner.specs.Served.{shares_of}
 use Rattle.trace_share.specs.Outcomes.{full_in}
 use Rattle.command_line.specs.declared.plan.Plan.{Plan}
+use Rattle.command_line.specs.declared.plays.Segment.{Segment}
 use Rattle.trace_runner.specs.declared.status.Status.{Status}
 use Rattle.trace_runner.specs.declared.status.Status.TheVariants as status
 use Rattle.trace_runner.specs.Input.{ServesUpTo}
@@ -55,8 +56,11 @@ play_setup service calls =
     (ranges_for service.settings service.rows (shares_of service calls)) []
 
 -- the plan's schedule
+abbrev pub segment_in : Segment → S.Segment
+segment_in segment = record { seat = segment.seat; slots = segment.slots }
+
 abbrev pub schedule_in : Plan → List S.Segment
-schedule_in plan = map (λ segment. record { seat = segment.seat; slots = segment.slots }) plan.schedule
+schedule_in plan = map segment_in plan.schedule
 
 -- each seat makes the calls that it is dealt, by the plan's schedule and stops
 abbrev pub play_in : Plan → Service → (calls : List (ℕ × Call)) → Play

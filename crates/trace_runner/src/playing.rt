@@ -7,16 +7,17 @@ ghost use Rattle.flow_keys.specs.FlowText.{HasText};
 ghost use Rattle.plain_map.specs.Calls.{key_in};
 ghost use Rattle.word_rows.specs.Shape.{AreBelow};
 ghost use Rattle.report_text.specs.Report.{IsEnding, batch_lines, call_in, outcome_line, pending_line, session_line};
-ghost use Rattle.core_model.specs.Schedules.{CanPlay};
-ghost use Rattle.core_world.specs.Values.{opened};
+ghost use Rattle.core_model.specs.Schedules.{CanPlay, IsPlayable};
 ghost use Rattle.play_runner.specs.Played.{IsPlayed, as_segment};
 ghost use Rattle.batch_rows.specs.BatchRows.{updates_in_calls};
+ghost use Rattle.batch_rows.specs.declared.rows.TheConstants.{CALL_LIMIT};
 ghost use Rattle.batch_runner.specs.Served.{shares_of};
 ghost use Rattle.command_line.specs.Words.{IsInRange};
 ghost use Rattle.trace_runner.specs.declared.intake.TheConstants.{PLAY_LIMIT};
 ghost use Rattle.trace_runner.specs.Reading.{AreBetween, HaveEndedUpTo};
 ghost use Rattle.trace_runner.specs.Served.{IsServiceOf};
-ghost use Rattle.trace_runner.specs.Playing.{IsPlayOf, LeavesPlayed, play_head, play_in, play_setup, play_tail, played_lines, ranges_for, refusals_in, schedule_in};
+ghost use Rattle.trace_runner.specs.Playing.{IsPlayOf, LeavesPlayed, play_head, play_in, play_setup, play_tail};
+ghost use Rattle.trace_runner.specs.Playing.{played_lines, ranges_for, refusals_in, schedule_in};
 
 use crate::intake::{PLAY_LIMIT, Unopened, open, read_batch};
 use crate::laws::playing_laws;
@@ -27,7 +28,7 @@ use batch_runner::Service;
 use command_line::Plan;
 use core_world::CoreWorld;
 use edge_traits::{Failed, Sink, Source, write_all};
-use plain_map::{Call, OpenFault, Pending};
+use plain_map::{Call, OpenFault, Pending, session_laws};
 use play_runner::{Played, Segment, most_steps};
 use report_text::{
     Ending, Head, Tail, head_text, order_text, outcome_text, pending_text, tail_text,
@@ -116,6 +117,7 @@ fn report_of(alloc: Global, plan: &Plan, input: &Input) -> Result<Vec<u8>, Alloc
         text.items) }
 {
     playing_laws();
+    session_laws();
     let service = service_of(plan);
     let played = play_calls(alloc, plan, &service, &input.calls)?;
     let mut text = Vec::new(alloc);
@@ -135,9 +137,11 @@ fn play_calls(
 ) -> Result<Played, AllocError>
     requires asks { IsServiceOf plan.now service.now }
     requires given { ForSome service.now.rows (AreBelow (2 ^ 32)) }
-    requires between { AreBetween 0 PLAY_LIMIT calls.now }
-    ensures can { CanPlay (play_setup service.now calls.now) (shares_of service.now calls.now) }
-    ensures played { IfOk result (IsPlayed (play_setup service.now calls.now) (play_in plan.now service.now calls.now)) }
+    requires playable { All IsPlayable calls.now }
+    requires few { length calls.now ≤ PLAY_LIMIT }
+    ensures can { IfOk result (λ _. CanPlay (play_setup service.now calls.now) (shares_of service.now calls.now)) }
+    ensures played { IfOk result (IsPlayed (play_setup service.now calls.now)
+        (play_in plan.now service.now calls.now)) }
 {
     let shares = deal(alloc, service.share, service.settings.seats, calls)?;
     let rows = ranges_for(alloc, &service.settings, service.rows, &shares)?;
@@ -158,7 +162,7 @@ fn ranges_for(
     shares: &[Vec<(u32, Call)>],
 ) -> Result<Vec<SeatRows>, AllocError>
     requires given { ForSome given (AreBelow (2 ^ 32)) }
-    requires few { All (λ share. vec_len share ≤ PLAY_LIMIT) shares.now }
+    requires few { All (λ share. vec_len share < CALL_LIMIT) shares.now }
     ensures rows { IfOk result (λ rows. rows.items
         ≡ ranges_for settings.now given (map (λ share. share.items) shares.now)) }
     ensures below { IfOk result (λ rows. All (AreBelow (2 ^ 32)) rows.items) }
@@ -175,9 +179,9 @@ fn ranges_for(
 
 /// How many of these calls are updates.
 fn updates_of(calls: &[(u32, Call)]) -> u32
-    requires few { length calls.now ≤ PLAY_LIMIT }
+    requires few { length calls.now < CALL_LIMIT }
     ensures count { result ≡ updates_in_calls calls.now }
-    ensures few { result ≤ PLAY_LIMIT }
+    ensures few { result < CALL_LIMIT }
 {
     let mut updates = 0;
     for asked in calls {
