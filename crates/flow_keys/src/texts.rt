@@ -7,6 +7,7 @@ use crate::KeyText;
 use plain_map::Key;
 
 /// The text of a key: its lower and its higher endpoint, and its protocol. It takes no memory.
+#[inline]
 pub fn key_text(key: &Key) -> KeyText
     requires { HasText key.now }
     ensures text { take result.length result.bytes ≡ flow_text key.now }

@@ -1,12 +1,12 @@
 -- What the tables say is what is told.
-use Rattle.std.proofs.Common.{◌≡◌, ℕ, zero, suc, ◌+◌, ◌<◌, ◌≤◌, Bool, true, false, List, [], ◌∷◌, Some, None, refl, inl, inr, sym, ap, ◌∙◌, subst, arith, add-one, eqb-true}
+use Rattle.std.proofs.Common.{◌≡◌, ℕ, zero, suc, ◌+◌, ◌<◌, ◌≤◌, Bool, true, false, List, [], ◌∷◌, length, get_or, Some, None, refl, inl, inr, sym, ap, ◌∙◌, subst, arith, add-one, eqb-true}
 use Rattle.std.specs.Prelude.{◌==◌, ◌&&◌, slice_get, slice_index_or}
 use Rattle.std.proofs.lemmas.Bool.{cases_Bool, cases_lt}
 use Rattle.std.proofs.lemmas.List.{get_or_past}
 use Rattle.plain_map.specs.declared.records.Record.{Record}
 use Rattle.plain_map.specs.declared.records.Pending.{Pending}
 use Rattle.plain_map.specs.declared.full.FullKind.TheVariants.{BucketRows}
-use Rattle.word_rows.specs.Shape.{count_of}
+use Rattle.word_rows.specs.Shape.{Shape, count_of}
 use Rattle.core_model.specs.Reading.{first_row, is_among}
 use Rattle.core_model.specs.Order.{Piece, ByBucketRow, ByDirectoryRow, ByLookup, calls_in, lookups_of, pieces_of, first_rows, rows_with, start_of}
 use Rattle.core_model.specs.Turns.{has_call_of}
@@ -29,6 +29,21 @@ use Rattle.history_order.proofs.After.{after_cases, both_ways}
 use Rattle.history_order.proofs.Exchanges.{Before, new_born}
 use Rattle.history_order.proofs.NewCalls.{callers_are, version_calls, free_none, none_free}
 use Rattle.history_order.proofs.TableUnits.{closing, some_one, row_of_piece, piece_of_row, row_has_piece, row_have, rows_many, row_at, leaf_at, opening_first, version_few, version_firsts, some_unit, none_unit}
+
+-- the column of callers tells of each exchanged row whose updates are new in it
+pub callers_told : (shape : Shape) (words : List ℕ) (logs : List (List Record)) (found : Found) →
+    IsFound shape words logs found → (exchanged : List ℕ) (callers : List (List Bool)) →
+    exchanged ≡ exchanged_rows shape words logs → callers ≡ found.callers.items → (row seat : ℕ) →
+    In row exchanged → row < length callers →
+    get_or (get_or callers row []) seat false ≡ is_caller shape words (row ∷ []) seat
+callers_told shape words logs found f exchanged callers are same row seat there inside =
+    let less : row < count_of shape BucketRows = omega (arith, inside, ap length same, f.callers_rows) in
+    ap (λ (cs : List (List Bool)). get_or (get_or cs row []) seat false) same ∙ f.callers row seat
+    ∙ elim (after_cases (λ r. Some r) (λ r. is_caller shape words (r ∷ []) seat) row (count_of shape BucketRows)
+    (exchanged_rows shape words logs) false) [
+      | inl wrote ↦ wrote.is ∙ ap (λ r. is_caller shape words (r ∷ []) seat) (some_one wrote.by row wrote.here)
+      | inr kept ↦ absurd (kept.none row (subst (In row) are there) refl less)
+    ]
 
 module _ (words : List ℕ) (logs : List (List Record)) (begun : List Pending) (t : Told words logs begun) where
   -- the place of a row's piece

@@ -4,6 +4,7 @@
 
 ghost use Rattle.std.specs.Prelude.{◌≡◌, ℕ, ◌+◌, ◌<◌, [], ◌∷◌, IfOk, OnOk, None, not, filter, flat_map, nat_lt, Option, Some, false, length, map, slice_index_or, true};
 ghost use Rattle.plain_map.specs.declared.full.FullKind.TheVariants.{BucketRows};
+ghost use Rattle.core_placing.proofs.Lists.{In};
 ghost use Rattle.word_rows.specs.Shape.{count_of};
 ghost use Rattle.word_rows.specs.LayoutView.{shape_of};
 ghost use Rattle.core_model.specs.Order.{new_in_rows};
@@ -204,23 +205,49 @@ pub(crate) fn is_lookup(answered: &Record) -> bool
     }
 }
 
-/// Those of the rows in which no update is new.
+/// Those of the rows in which no update is new, of which the column of callers tells.
 pub(crate) fn free<W: Words>(
     alloc: Global,
     starts: &Starts,
     words: &W,
+    callers: &[[bool; MOST_SEATS]],
     exchanged: &[u64],
 ) -> Result<Vec<u64>, AllocError>
+    requires { (row seat : ℕ) → In row exchanged.now → row < length callers.now →
+        slice_index_or (slice_index_or callers.now row []) seat false
+        ≡ is_caller (shape_of starts.now.layout) (W.words words.now) (row ∷ []) seat }
     ensures { IfOk result (λ free. free.items
         ≡ filter (λ row. is_free (shape_of starts.now.layout) (W.words words.now) (row ∷ [])) exchanged.now) }
 {
     let mut free = Vec::new(alloc);
     for row in exchanged {
-        if is_free(starts, words, &[*row]) {
+        if is_row_free(starts, words, callers, *row) {
             free.push(*row)?;
         }
     }
     Ok(free)
+}
+
+// Whether no update is new in the row.
+fn is_row_free<W: Words>(
+    starts: &Starts,
+    words: &W,
+    callers: &[[bool; MOST_SEATS]],
+    row: u64,
+) -> bool
+    requires { (seat : ℕ) → row < length callers.now → slice_index_or (slice_index_or callers.now row []) seat false
+        ≡ is_caller (shape_of starts.now.layout) (W.words words.now) (row ∷ []) seat }
+    ensures { result ≡ is_free (shape_of starts.now.layout) (W.words words.now) (row ∷ []) }
+{
+    if row as usize >= callers.len() {
+        return is_free(starts, words, &[row]);
+    }
+    for seat in 0..starts.layout.settings().seats {
+        if callers[row as usize][seat as usize] {
+            return false;
+        }
+    }
+    true
 }
 
 // Whether no update is new in these rows.

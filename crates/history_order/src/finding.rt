@@ -2,12 +2,13 @@
 //!
 //! The only error of each is want of memory.
 
-ghost use Rattle.std.specs.Prelude.{◌≡◌, ◌∷◌, [], IfOk, List, filter, length, map, reverse, slice_index_or};
+ghost use Rattle.std.specs.Prelude.{◌≡◌, ℕ, ◌<◌, ◌∷◌, [], IfOk, List, false, filter, length, map, reverse, slice_index_or};
+ghost use Rattle.core_placing.proofs.Lists.{In};
 ghost use Rattle.plain_map.specs.declared.records.Pending.{Pending};
 ghost use Rattle.word_rows.specs.LayoutView.{shape_of};
 ghost use Rattle.core_model.specs.Reading.{directory_rows};
 ghost use Rattle.history_order.specs.Closing.{log_of};
-ghost use Rattle.history_order.specs.Columns.{is_free};
+ghost use Rattle.history_order.specs.Columns.{is_caller, is_free};
 ghost use Rattle.history_order.specs.Filling.{exchanged_in, leaves_from};
 ghost use Rattle.history_order.specs.Fills.{IsBegun, IsFound, version_leaves};
 ghost use Rattle.history_order.specs.Told.{AsTold};
@@ -18,7 +19,7 @@ use crate::leaves::{exchanged, firsts, leaves};
 use crate::tables::{Found, Progress, Tables};
 use crate::unit_lists::{units, versions};
 use closed_words::{Starts, Words, directory_rows};
-use plain_map::Record;
+use plain_map::{MOST_SEATS, Record};
 use std::alloc::{AllocError, Global};
 
 /// The tables, with these records of each seat.
@@ -39,10 +40,17 @@ pub(crate) fn fill<W: Words>(
     rows.reverse();
     let leaves = leaves(alloc, starts, words, &rows)?;
     let exchanged = exchanged(alloc, starts, words, &leaves)?;
-    Ok(Tables {
-        found: find(alloc, starts, words, logs, &rows, &leaves, &exchanged)?,
-        progress: begin(alloc, starts, words, logs, &leaves, &exchanged)?,
-    })
+    let found = find(alloc, starts, words, logs, &rows, &leaves, &exchanged)?;
+    let progress = begin(
+        alloc,
+        starts,
+        words,
+        logs,
+        &leaves,
+        &exchanged,
+        &found.callers,
+    )?;
+    Ok(Tables { found, progress })
 }
 
 // What the words tell, with these directory rows from the opening on, their buckets and the exchanged rows.
@@ -82,17 +90,21 @@ fn begin<W: Words>(
     logs: &[Vec<Record>],
     leaves: &[Vec<u64>],
     exchanged: &[u64],
+    callers: &[[bool; MOST_SEATS]],
 ) -> Result<Progress, AllocError>
     requires leaves { map (λ buckets. buckets.items) leaves.now
         ≡ version_leaves (shape_of starts.now.layout) (W.words words.now) (map (λ log. log.items) logs.now) }
     requires exchanged { exchanged.now ≡ exchanged_in (shape_of starts.now.layout) (W.words words.now)
         (map (λ buckets. buckets.items) leaves.now) }
+    requires callers { (row seat : ℕ) → In row exchanged.now → row < length callers.now →
+        slice_index_or (slice_index_or callers.now row []) seat false
+        ≡ is_caller (shape_of starts.now.layout) (W.words words.now) (row ∷ []) seat }
     ensures { IfOk result (IsBegun (shape_of starts.now.layout) (W.words words.now) (map (λ log. log.items) logs.now)) }
 {
     let opening = firsts(alloc, starts, words, opening(leaves))?;
     let placed = placed(alloc, starts, &opening)?;
     let looks = looks(alloc, starts, logs)?;
-    let aside = free(alloc, starts, words, exchanged)?;
+    let aside = free(alloc, starts, words, callers, exchanged)?;
     Ok(Progress {
         placed,
         looks,

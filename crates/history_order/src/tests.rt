@@ -2,7 +2,7 @@ ghost use Rattle.std.specs.Prelude.{◌≡◌, IfOk, length};
 
 use crate::calls::{Closed, id_at, place_at, seen_at};
 use crate::moves::{place_row, tell};
-use crate::ready::{has_call_in, is_due, is_free, is_ready_in, unit_in};
+use crate::ready::{callers_of, is_due, is_free, is_ready_in, unit_in};
 use crate::tables::{Found, Progress, Unit};
 use closed_words::Starts;
 use plain_map::{Call, CallId, Key, Pending, Record, Reply, Seen};
@@ -126,9 +126,9 @@ fn units_and_their_calls(rt: HostRuntime) -> Result<(), Fail> {
     assert_eq!(rt; unit_in(&found, 0, 0), Some(Unit::Lookup));
     assert_eq!(rt; unit_in(&found, 1, 0), Some(Unit::Row(1)));
     assert_eq!(rt; unit_in(&found, 1, 1), None);
-    assert!(rt; has_call_in(&found, Unit::Row(1), 0, 1));
-    assert!(rt; !has_call_in(&found, Unit::Row(1), 0, 0));
-    assert!(rt; has_call_in(&found, Unit::Lookup, 0, 0));
+    let of_row = callers_of(&found, Unit::Row(1), 0);
+    assert!(rt; of_row[1] && !of_row[0]);
+    assert!(rt; callers_of(&found, Unit::Lookup, 0)[0]);
     assert!(rt; is_free(&found, Unit::Row(0)));
     assert!(rt; !is_free(&found, Unit::Row(1)));
     Ok(())

@@ -20,6 +20,7 @@ use trace_share::Outcome;
 /// Appends the line of a call: its caller's seat, and how the call ended.
 ///
 /// Of the counts that the call saw, those of the first `seats` seats are told.
+#[inline]
 pub fn outcome_text(
     _alloc: Global,
     out: &mut Vec<u8>,
@@ -75,6 +76,7 @@ fn put_pending(out: &mut Line, seats: u32, pending: &Pending)
 }
 
 // Appends the line of an answered call.
+#[inline(always)]
 fn put_answered(out: &mut Line, seats: u32, seat: u32, answer: &Record)
     requires seats { seats ≤ 8 }
     requires key { HasText (key_in answer.now.call) }
@@ -106,6 +108,7 @@ fn put_refused(out: &mut Line, packet: u32, seat: u32, call: &Call, full: &Full)
 }
 
 // Appends which call it is.
+#[inline(always)]
 fn put_call(out: &mut Line, packet: u32, seat: u32, call: &Call)
     requires key { HasText (key_in call.now) }
     requires space { 90 ≤ room out.old }
@@ -120,6 +123,7 @@ fn put_call(out: &mut Line, packet: u32, seat: u32, call: &Call)
 }
 
 // The word for what a call asks.
+#[inline(always)]
 fn verb_word(call: &Call) -> &'static [u8]
     ensures word { result.now ≡ verb_word call.now }
     ensures short { length result.now ≤ 6 }
@@ -132,6 +136,7 @@ fn verb_word(call: &Call) -> &'static [u8]
 }
 
 // Appends the reply to a call.
+#[inline(always)]
 fn put_reply(out: &mut Line, call: &Call, reply: Reply)
     requires { 27 ≤ room out.old }
     ensures puts { Puts (text_in out.old) (reply_words call.now reply) (text_in out.new) }
@@ -148,6 +153,7 @@ fn put_reply(out: &mut Line, call: &Call, reply: Reply)
 }
 
 // The value that a call brings.
+#[inline(always)]
 fn value_in(call: &Call) -> u64
     ensures { result ≡ value_in call.now }
 {
@@ -158,6 +164,7 @@ fn value_in(call: &Call) -> u64
 }
 
 // Appends how many steps a call took, where it took any.
+#[inline(always)]
 fn put_steps(out: &mut Line, steps: u64)
     requires { 27 ≤ room out.old }
     ensures puts { Puts (text_in out.old) (steps_words steps) (text_in out.new) }
@@ -169,6 +176,7 @@ fn put_steps(out: &mut Line, steps: u64)
 }
 
 // Appends what a call saw as it began.
+#[inline(always)]
 fn put_after(out: &mut Line, seats: u32, seen: &Seen)
     requires seats { seats ≤ 8 }
     requires space { 103 ≤ room out.old }
@@ -181,6 +189,7 @@ fn put_after(out: &mut Line, seats: u32, seen: &Seen)
 }
 
 // Appends numbers with commas between.
+#[inline(always)]
 fn put_counts(out: &mut Line, counts: &[u32])
     requires few { length counts.now ≤ 8 }
     requires space { 88 ≤ room out.old }

@@ -30,6 +30,7 @@ pub fn order_text(_alloc: Global, out: &mut Vec<u8>, order: &[CallId]) -> Result
 }
 
 // Appends one line of an order.
+#[inline]
 fn put_order(out: &mut Line, ids: &[CallId])
     requires few { length ids.now ≤ 16 }
     requires space { 192 ≤ room out.old }
@@ -41,6 +42,7 @@ fn put_order(out: &mut Line, ids: &[CallId])
 }
 
 // Appends the packet numbers of calls.
+#[inline]
 fn put_packets(out: &mut Line, ids: &[CallId])
     requires few { length ids.now ≤ 16 }
     requires space { 176 ≤ room out.old }
