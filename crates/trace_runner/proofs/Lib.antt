@@ -15,3 +15,4 @@ pub mod PlayTexts
 pub mod PlayLemmas
 pub mod RightPlays
 pub mod UnrefusedPlays
+pub mod PlayReports

@@ -1,10 +1,12 @@
 -- What a play leaves, where its report was put whole or in part, and which answer it gives where nothing fails.
-use Rattle.std.proofs.Common.{◌≡◌, ◌≤◌, ◌<◌, ℕ, List, [], length, map, Option, Some, None, Result, Vec, Global, ◌-◌, ◌^◌, Ok, Err, sym, ◌∙◌, subst, refl, inl, inr, ◌⊎◌, arith}
+use Rattle.std.proofs.Common.{◌≡◌, ◌≤◌, ◌<◌, ℕ, ◌+◌, ◌*◌, List, [], ◌∷◌, ◌++◌, length, map, take, get_or, ap, Option, Some, None, Result, Vec, Global, ◌-◌, ◌^◌, Ok, Err, sym, ◌∙◌, subst, refl, inl, inr, ◌⊎◌, arith}
 use Rattle.std.specs.List.{All}
+use Rattle.std.specs.Prelude.{IfOk}
 use Rattle.std.specs.Io.KnownBytes.{Appends, Keeps}
 use Rattle.std.proofs.KnownBytes.{Consumes-nil}
-use Rattle.std.proofs.lemmas.List.{length-map, length-replicate}
+use Rattle.std.proofs.lemmas.List.{length-map, length-replicate, map-append, take_all, take_more}
 use Rattle.std.proofs.lemmas.List.Elements.{All-weaker}
+use Rattle.std.proofs.Math.Nat.{mul-le-mul, pow-le-pow_right}
 use Rattle.std.proofs.lemmas.Simd.{map-map}
 use Rattle.edge_traits.specs.Edge.{AppendsFront}
 use Rattle.plain_map.specs.declared.calls.Call.{Call}
@@ -17,9 +19,11 @@ use Rattle.report_text.specs.declared.parts.Ending.TheVariants.{Done, ReadFault,
 use Rattle.step_counts.specs.declared.rows.SeatRows.{SeatRows}
 use Rattle.step_counts.specs.declared.settings.Settings.{Settings}
 use Rattle.step_counts.specs.StepCounts.{automatic_rows_of}
-use Rattle.core_model.specs.Setup.{IsSetup}
+use Rattle.core_model.specs.Setup.{IsSetup, Setup}
 use Rattle.core_model.specs.Schedules.{CanPlay, IsPlayable}
+use Rattle.word_rows.specs.Shape.{AreBelow}
 use Rattle.batch_rows.specs.BatchRows.{updates_in_calls}
+use Rattle.batch_rows.specs.declared.rows.TheConstants.{CALL_LIMIT}
 use Rattle.batch_runner.specs.declared.service.Service.{Service}
 use Rattle.batch_runner.specs.Served.{shares_of}
 use Rattle.batch_runner.proofs.Deals.{dealt_few, dealt_hold}
@@ -122,14 +126,66 @@ can_play service calls each few opened =
           (shares_of service calls) (dealt_few service.share service.settings.seats calls);
     }
 
--- the rows of the seats of shares that are held
-pub ranges-map :
-    (s : Settings) (shares : List (Vec (ℕ × Call) Global)) →
-    map (λ (share : Vec (ℕ × Call) Global). automatic_rows_of s (updates_in_calls share.items)) shares
-    ≡ ranges_for s None (map (λ (share : Vec (ℕ × Call) Global). share.items) shares)
-ranges-map s shares =
-    sym (map-map (λ (share : List (ℕ × Call)). automatic_rows_of s (updates_in_calls share))
+-- on a table and shares that are these
+pub can_play-at : (service : Service) (calls : List (ℕ × Call)) (setup : Setup) (shares : List (List (ℕ × Call))) →
+    setup ≡ play_setup service calls → shares ≡ shares_of service calls → All IsPlayable calls →
+    length calls ≤ play_limit → IsSetup setup → CanPlay setup shares
+can_play-at service calls setup shares is dealt_so each few opened =
+    subst (λ (one : Setup). CanPlay one shares) (sym is)
+    (subst (CanPlay (play_setup service calls)) (sym dealt_so)
+    (can_play service calls each few (subst IsSetup is opened)))
+
+-- what is known whatever the answer
+pub if_ok_any : {T E P : Type 0} (result : Result T E) → P → IfOk result (λ (_ : T). P)
+if_ok_any (Ok x) p = p
+if_ok_any (Err e) p = tt
+
+-- the rows of the seat of a share that is held
+abbrev pub share_rows : Settings → Vec (ℕ × Call) Global → SeatRows
+share_rows s share = automatic_rows_of s (updates_in_calls share.items)
+
+-- the rows of a seat are few
+pub few_ranges : (s : Settings) (updates : ℕ) (row : SeatRows) → row ≡ automatic_rows_of s updates →
+    updates < CALL_LIMIT → AreBelow (2 ^ 32) row
+few_ranges s updates row is few =
+    let twice : 2 ^ (s.depth + 1) ≤ 2 ^ 13 = pow-le-pow_right {n = 2} (omega arith) (omega (arith, s.depth_in_range.1)) in
+    let places : 2 ^ s.depth ≤ 2 ^ 12 = pow-le-pow_right {n = 2} (omega arith) s.depth_in_range.1 in
+    let leaves : s.seats * (s.depth + 1) ≤ 8 * 13 =
+    mul-le-mul s.seats_in_range.1 (omega (arith, s.depth_in_range.1)) in
+    subst (AreBelow (2 ^ 32)) (sym is) (record {
+      op_rows = omega (arith, few);
+      bucket_rows = omega (arith, few, twice, leaves);
+      bucket_words = omega (arith, twice, leaves);
+      directory_rows = omega (arith, few);
+    })
+
+-- those of one seat more
+pub more_ranges :
+    (s : Settings) (shares : List (Vec (ℕ × Call) Global)) (place updates : ℕ) (share : Vec (ℕ × Call) Global)
+    (row : SeatRows) (was now : List SeatRows) → place < length shares → share ≡ get_or shares place share →
+    updates ≡ updates_in_calls share.items → row ≡ automatic_rows_of s updates → now ≡ was ++ row ∷ [] →
+    was ≡ map (share_rows s) (take place shares) → now ≡ map (share_rows s) (take (place + 1) shares)
+more_ranges s shares place updates share row was now inside is count made pushed were =
+    let own : row ≡ share_rows s (get_or shares place share) =
+    made ∙ ap (λ (n : ℕ). automatic_rows_of s n) count ∙ ap (share_rows s) is in
+    let next : map (share_rows s) (take (place + 1) shares)
+    ≡ map (share_rows s) (take place shares) ++ share_rows s (get_or shares place share) ∷ [] =
+    ap (map (share_rows s)) (take_more shares place share inside)
+    ∙ map-append (share_rows s) (take place shares) (get_or shares place share ∷ []) in
+    pushed ∙ (λ i. were i ++ own i ∷ []) ∙ sym next
+
+-- those of all
+pub all_ranges :
+    (s : Settings) (given : Option SeatRows) (shares : List (Vec (ℕ × Call) Global)) (place : ℕ)
+    (rows : List SeatRows) → given ≡ None → length shares ≤ place →
+    rows ≡ map (share_rows s) (take place shares) →
+    rows ≡ ranges_for s given (map (λ (share : Vec (ℕ × Call) Global). share.items) shares)
+all_ranges s given shares place rows none past is =
+    is ∙ ap (map (share_rows s)) (take_all place shares past)
+    ∙ sym (map-map (λ (share : List (ℕ × Call)). automatic_rows_of s (updates_in_calls share))
     (λ (share : Vec (ℕ × Call) Global). share.items) shares)
+    ∙ ap (λ (some : Option SeatRows). ranges_for s some (map (λ (share : Vec (ℕ × Call) Global). share.items) shares))
+    (sym none)
 
 -- there are rows for each seat
 pub long_ranges : (s : Settings) (given : Option SeatRows) (shares : List (List (ℕ × Call))) →

@@ -1,6 +1,6 @@
 -- What holds before the first event of a play, and is kept by each slot, holds of the whole play.
 use Rattle.std.proofs.Common.{ℕ, zero, suc, List, [], ◌∷◌, Option, fold}
-use Rattle.std.specs.List.{range_with_len}
+use Rattle.std.specs.List.{range_with_len, sum_by}
 use Rattle.std.specs.Option.{option_map_or}
 use Rattle.plain_map.specs.declared.calls.Call.{Call}
 use Rattle.core_model.specs.Setup.{Setup, seats_of, settings_of}
@@ -34,5 +34,6 @@ module _ (setup : Setup) (Holds : Play → Type 0)
       Holds (first_play setup calls stops) → Holds (play_of setup calls stops schedule)
   unfolding play_of
   play_keeps calls stops schedule first =
-      rounds_keep _ (scheduled setup calls stops schedule)
+      rounds_keep (sum_by (most_slots (settings_of setup)) (scheduled setup calls stops schedule).hands)
+      (scheduled setup calls stops schedule)
       (schedule_keeps schedule (first_play setup calls stops) first)

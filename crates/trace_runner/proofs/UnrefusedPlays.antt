@@ -1,6 +1,6 @@
 -- Where each seat has the automatic rows for the calls that it is dealt, no call of a play is refused.
 use Rattle.std.proofs.Common.{◌≡◌, ◌<◌, ◌≤◌, ℕ, ◌+◌, ◌⊎◌, List, [], ◌∷◌, ◌++◌, Bool, true, false, cond, map, length, get_or, Option, Some, None, is_some, fold, inl, inr, refl, sym, ap, ◌∙◌, subst, nat_lt, arith, append-nil, append_assoc, lt-ltb, All}
-use Rattle.std.specs.Prelude.{slice_index}
+use Rattle.std.specs.Prelude.{count_by, slice_index}
 use Rattle.std.proofs.lemmas.List.{get_or_past, get_or-map, get_or-replicate, get_or-set_same, map-append}
 use Rattle.std.proofs.lemmas.List.FromFn.{get_or-map-range_with_len}
 use Rattle.std.proofs.lemmas.Simd.{map-map}
@@ -46,15 +46,15 @@ updates_first : (x : ℕ × Call) (xs : List (ℕ × Call)) →
 updates_first x xs = sum_by-cons (λ (asked : ℕ × Call). cond (is_update asked.1) 1 0) x xs
 
 -- of records
-updates_asked : (records : List Record) (account : Account) → account.records ≡ records →
-    updates_in account ≡ updates_in_calls (map asked_of records)
-updates_asked records account is = ap (λ (rs : List Record). count rs) is ∙ go records
-  where
-    count : List Record → ℕ
-    count rs = updates_in (record { records = rs; spent = account.spent; used = account.used })
-
-    go : (rs : List Record) → count rs ≡ updates_in_calls (map asked_of rs)
-    go rs = refl
+updates_asked : (records : List Record) →
+    count_by (λ (r : Record). is_update r.call) records ≡ updates_in_calls (map asked_of records)
+updates_asked [] = refl
+updates_asked (r ∷ records) = omega (
+  arith,
+  sum_by-cons (λ (made : Record). cond (is_update made.call) 1 0) r records,
+  sum_by-cons (λ (asked : ℕ × Call). cond (is_update asked.1) 1 0) (asked_of r) (map asked_of records),
+  updates_asked records,
+)
 
 -- what is told of events, one part after the other
 outcomes_both : (setup : Setup) (front back : List Event) (world : World) →
@@ -143,8 +143,8 @@ module _ (setup : Setup) (seat : ℕ) (h : seat < seats_of setup) (room : ℕ) w
         arith,
         few,
         updates_first begin calls,
-        ap (λ (b : Bool). cond b 1 0) update,
-        updates_asked account.records account refl,
+        ap {B = ℕ} (λ (b : Bool). cond b 1 0) update,
+        updates_asked account.records,
       )))
         where
           go : (call : Call) → (is_update call ≡ true → refusal_of setup seat account call ≡ None) →
@@ -182,7 +182,8 @@ module _ (setup : Setup) (seat : ℕ) (h : seat < seats_of setup) (room : ℕ) w
               (ap (λ (s : SeatState). refused_at setup seat s.account s.stand (Some begin)) is ∙ none)
               (ap (λ (x : World). asked_by (seat_in x seat)) now
               ∙ ap asked_by (step_same setup w seat account (begun account begin.0 begin.1) SeeDone within)
-              ∙ asked_step setup seat account (begun account begin.0 begin.1) SeeDone _)
+              ∙ asked_step setup seat account (begun account begin.0 begin.1) SeeDone
+              (found_by setup (ask_in setup seat account.used (begun account begin.0 begin.1) SeeDone) w.words))
               (omega (
                 arith,
                 few,

@@ -15,7 +15,7 @@ use Rattle.report_text.specs.declared.parts.Ending.TheVariants.{Done, ReadFault,
 use Rattle.report_text.specs.declared.parts.Head.{Head}
 use Rattle.report_text.specs.declared.parts.Tail.{Tail}
 use Rattle.report_text.specs.Report.{Batch, Report, report_of}
-use Rattle.core_model.specs.Setup.{Setup, rules_of, seats_of}
+use Rattle.core_model.specs.Setup.{Setup, rules_of, seats_of, settings_of}
 use Rattle.core_model.specs.Worlds.{World, IsRun, world_after, seat_in}
 use Rattle.core_model.specs.Order.{effects_of, order_of}
 use Rattle.core_model.specs.Closed.{Cover, Warranted, closed_depth, closed_leaves, closed_pairs, closing_of, greatest_depth, sessions_with}
@@ -24,7 +24,7 @@ use Rattle.core_model.specs.Schedules as S
 use Rattle.core_model.specs.Schedules.{Play, CanPlay, hand_of, has_ended, is_stopped, play_of}
 use Rattle.core_world.specs.Values.{setup_of}
 use Rattle.play_runner.specs.declared.values.Played.{Played}
-use Rattle.play_runner.specs.Played.{IsPlayed, most_steps_in}
+use Rattle.play_runner.specs.Played.{IsPlayed, most_steps_in, outcomes_of}
 use Rattle.batch_rows.specs.BatchRows.{updates_in_calls}
 use Rattle.batch_runner.specs.declared.service.Service.{Service}
 use Rattle.batch_runner.specs.Served.{shares_of}
@@ -106,6 +106,17 @@ PlaysAreRight =
     (setup : Setup) (calls : List (List (ℕ × Call))) (stops : List (Option ℕ)) (schedule : List S.Segment) →
     CanPlay setup calls → IsRightPlay setup (play_of setup calls stops schedule)
 
+-- each of these calls was answered, and none refused
+abbrev pub AreAnswered : List (ℕ × Outcome) → Type 0
+AreAnswered outcomes = All (λ ended. full_in ended.1 ≡ None) outcomes
+
+-- where each seat has the rows that suffice for its updates, so is each call that ends
+abbrev pub PlaysAreAnswered : Type 0
+PlaysAreAnswered =
+    (setup : Setup) (calls : List (List (ℕ × Call))) (stops : List (Option ℕ)) (schedule : List S.Segment) →
+    CanPlay setup calls → setup.shape.ranges ≡ ranges_for (settings_of setup) None calls →
+    AreAnswered (outcomes_of setup (play_of setup calls stops schedule).events)
+
 -- ---- the report
 
 -- what the head line tells
@@ -165,6 +176,8 @@ pub record IsPlayOf (plan : Plan) (packets : ℕ) (calls : List (ℕ × Call)) (
   pub asks : IsServiceOf plan service
   pub right : IsRightPlay (play_setup service calls) (play_in plan service calls)
   pub comes_to : IsPlayed (play_setup service calls) (play_in plan service calls) played
+  -- where no rows are given each call that ended was answered
+  pub answered : plan.rows ≡ None → AreAnswered played.outcomes.items
   pub text_is : text ≡ report_of (play_report plan service packets (length calls) played ending)
 
 -- of an input with these bytes, of which these are left, the text is the report, with this ending

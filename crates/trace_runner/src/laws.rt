@@ -1,12 +1,12 @@
 //! What holds of batches that were served, and of plays.
 
-ghost use Rattle.trace_runner.specs.Playing.{PlaysAreRight};
+ghost use Rattle.trace_runner.specs.Playing.{PlaysAreAnswered, PlaysAreRight};
 ghost use Rattle.trace_runner.specs.Served.{ServedArePromised};
 
 use batch_answers::answer_laws;
 use batch_runner::served_laws;
 use core_book::cover_laws;
-use core_bounds::step_laws;
+use core_bounds::{row_laws, step_laws};
 use core_orders::{end_laws, order_laws, warrant_laws};
 use core_schedules::schedule_laws;
 
@@ -19,9 +19,10 @@ pub fn serving_laws()
 }
 
 /// Every play is a run of its table, in the end of which each seat has made its calls or is stopped, and its one order is
-/// right.
+/// right. With the automatic rows of its seats' calls none of them is refused.
 pub fn playing_laws()
-    ensures { PlaysAreRight }
+    ensures right { PlaysAreRight }
+    ensures answered { PlaysAreAnswered }
 {
     schedule_laws();
     order_laws();
@@ -29,4 +30,5 @@ pub fn playing_laws()
     warrant_laws();
     cover_laws();
     step_laws();
+    row_laws();
 }

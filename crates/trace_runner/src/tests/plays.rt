@@ -456,6 +456,7 @@ fn plays_end_by_their_devices(rt: HostRuntime) -> Result<(), Fail> {
     assert_eq!(rt; status, Status::BadCapture);
     assert_eq!(rt; fault.bytes(), NO_HEAD.as_bytes());
     for room in [0, 1, 100] {
+        assert!(rt; room <= NO_HEAD.len());
         let mut whole = MemorySource::new(alloc, &[], 24, &[])?;
         let mut small = MemorySink::new(alloc, room, &[])?;
         let status = run_line(&rt, alloc, line, &mut whole, &mut small)?;

@@ -32,8 +32,8 @@ loop-packets-preserved g c =
           c.in_ok-keep_call.ensures.kept);
     }
 
-pub returns-then-before-most-lt-limit-clause-read : goal.returns-then-before-most-lt-limit-clause-read
-returns-then-before-most-lt-limit-clause-read g c = λ first all come.
+pub returns-then-before-most-clause-read : goal.returns-then-before-most-clause-read
+returns-then-before-most-clause-read g c = λ first all come.
     let all_read : c.loop-packets.packets ≡ c.min-most.result = omega arith in
     subst (λ (n : ℕ). HaveCome first (g.S.Source.left c.loop-packets.source) c.loop-packets.reader (c.args.before + n)
     (all ++ c.loop-packets.calls.items)) all_read (c.loop-packets.invariant.read first all come)

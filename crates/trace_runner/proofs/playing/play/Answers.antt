@@ -1,0 +1,34 @@
+-- The report was put whole, or in part, or nothing was put.
+use Rattle.std.proofs.Common.{subst, sym}
+use Rattle.std.specs.Io.KnownBytes.{Appends}
+use Rattle.edge_traits.specs.Edge.{AppendsFront}
+use Rattle.trace_runner.specs.Playing.{LeavesPlayed}
+use Rattle.trace_runner.proofs.EndLemmas.{Keeps-same}
+use Rattle.trace_runner.proofs.PlayLemmas.{LeavesPlayed-front, LeavesPlayed-nothing, LeavesPlayed-whole}
+use Rattle.trace_runner.proofs.playing.play.Goals as goal
+
+pub returns-in_default-clause-leaves : goal.returns-in_default-clause-leaves
+returns-in_default-clause-leaves g c =
+    LeavesPlayed-nothing c.args.plan.now (g.S.Source.left c.args.source.now) (g.S.Source.left c.read_input.new.source)
+    (g.K.Sink.put c.args.sink.now) (g.K.Sink.put c.args.sink.now) (Keeps-same (g.K.Sink.put c.args.sink.now))
+
+pub returns-in-Ok-write_all-clause-leaves : goal.returns-in-Ok-write_all-clause-leaves
+returns-in-Ok-write_all-clause-leaves g c =
+    let first = g.S.Source.left c.args.source.now in
+    let left = g.S.Source.left c.read_input.new.source in
+    let before = g.K.Sink.put c.args.sink.now in
+    let after = g.K.Sink.put c.write_all.new.sink in
+    subst (LeavesPlayed c.args.plan.now first left before after) (sym c.of_ending.ensures)
+    (LeavesPlayed-whole c.args.plan.now first left before after c.in-Ok.input.packets c.in-Ok.input.calls.items
+    c.in-Ok.input.ending c.in-Ok.ensures.ended c.in-Ok-report_of.text.items c.in-Ok-report_of.ensures
+    (subst (Appends before after) c.deref.ensures.value c.in-Ok-write_all.ensures.ok))
+
+pub returns-in-Ok-report_of-clause-leaves : goal.returns-in-Ok-report_of-clause-leaves
+returns-in-Ok-report_of-clause-leaves g c =
+    let first = g.S.Source.left c.args.source.now in
+    let left = g.S.Source.left c.read_input.new.source in
+    let before = g.K.Sink.put c.args.sink.now in
+    let after = g.K.Sink.put c.write_all.new.sink in
+    LeavesPlayed-front c.args.plan.now first left before after c.in-Ok.input.packets c.in-Ok.input.calls.items
+    c.in-Ok.input.ending c.in-Ok.ensures.ended c.in-Ok-report_of.text.items c.in-Ok-report_of.ensures
+    (subst (AppendsFront before after) c.deref.ensures.value c.in-Err-write_all.ensures.prefix)
