@@ -148,15 +148,17 @@ share_rows s share = automatic_rows_of s (updates_in_calls share.items)
 pub few_ranges : (s : Settings) (updates : ℕ) (row : SeatRows) → row ≡ automatic_rows_of s updates →
     updates < CALL_LIMIT → AreBelow (2 ^ 32) row
 few_ranges s updates row is few =
-    let twice : 2 ^ (s.depth + 1) ≤ 2 ^ 13 = pow-le-pow_right {n = 2} (omega arith) (omega (arith, s.depth_in_range.1)) in
-    let places : 2 ^ s.depth ≤ 2 ^ 12 = pow-le-pow_right {n = 2} (omega arith) s.depth_in_range.1 in
+    let some : 0 < 2 = omega arith in
+    let shallow : s.depth + 1 ≤ 13 = omega (arith, s.depth_in_range.1) in
+    let twice : 2 ^ (s.depth + 1) ≤ 2 ^ 13 = pow-le-pow_right some shallow in
+    let places : 2 ^ s.depth ≤ 2 ^ 12 = pow-le-pow_right some s.depth_in_range.1 in
     let leaves : s.seats * (s.depth + 1) ≤ 8 * 13 =
-    mul-le-mul s.seats_in_range.1 (omega (arith, s.depth_in_range.1)) in
+    mul-le-mul s.seats_in_range.1 shallow in
     subst (AreBelow (2 ^ 32)) (sym is) (record {
       op_rows = omega (arith, few);
       bucket_rows = omega (arith, few, twice, leaves);
       bucket_words = omega (arith, twice, leaves);
-      directory_rows = omega (arith, few);
+      directory_rows = omega (arith, few, places);
     })
 
 -- those of one seat more
