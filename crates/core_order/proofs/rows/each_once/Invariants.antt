@@ -1,6 +1,0 @@
-use Rattle.std.proofs.Common.{◌≡◌, ◌++◌, drop}
-use Rattle.core_model.specs.Reading.{each_once}
-use Rattle.core_order.proofs.rows.each_once.Given as goal
-
-abbrev pub invariant-loop-i : goal.invariant-loop-i
-invariant-loop-i l = l.once.items ++ each_once (drop l.i l.numbers) ≡ each_once l.numbers

@@ -1,2 +1,0 @@
-mod GoesLemmas
-pub mod LoadedLemmas

@@ -1,5 +1,0 @@
-pub mod PlaceLemmas
-pub mod RowLemmas
-pub mod PutLemmas
-pub mod OpeningLemmas
-pub mod ChangeLemmas

@@ -1,8 +1,0 @@
-use Rattle.std.proofs.Common.{◌≡◌, ◌++◌, drop}
-use Rattle.word_rows.specs.declared.addresses.Address.TheVariants.{DirectoryWord}
-use Rattle.core_model.specs.Stores.{row_puts}
-use Rattle.core_values.proofs.row_puts.push_directory_row.Given as goal
-
-abbrev pub invariant-loop-i : goal.invariant-loop-i
-invariant-loop-i l = l.puts.items ++ row_puts (DirectoryWord l.row) l.i (drop l.i l.words) ≡ l.fn.puts.items
-    ++ row_puts (DirectoryWord l.row) 0 l.words

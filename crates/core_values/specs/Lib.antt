@@ -1,4 +1,0 @@
-pub mod Views
-pub mod Rows
-pub mod Changes
-pub mod Openings
