@@ -66,7 +66,7 @@ FitsWithoutFirst =
     (setup : Setup) (seat : ℕ) (used : SeatRows) (flight : Flight) (phase : Phase) (word : ℕ) →
     StepFits setup seat used flight phase word → StepFits (without_first setup) seat used flight phase word
 
--- whoever has the run can take its steps: core_steps by the run that it keeps, shared_table by the one that its play tells
+-- whoever has the run can take its steps: core_world by the run that it keeps, shared_table by the one that its play tells
 abbrev pub RunsCanBeTaken : Type 0
 RunsCanBeTaken =
     EveryStepFits → (setup : Setup) (events : List Event) (seat : ℕ) (asked : ℕ × Call) (state : SeatState) (word : ℕ) → IsRun setup events →
