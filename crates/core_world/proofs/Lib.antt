@@ -4,3 +4,4 @@ pub mod Kept
 pub mod LogLemmas
 pub mod Pendings
 pub mod Opened
+mod TestLemmas

@@ -9,6 +9,8 @@ mod reading;
 #[cfg(test)]
 mod tests;
 mod values;
+#[cfg(test)]
+mod word_tests;
 
 pub use one_world::CoreWorld;
 pub use values::{CoreEnd, Stepped};

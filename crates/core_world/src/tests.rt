@@ -37,6 +37,31 @@ const FIRST: [Pair; 3] = [
     },
 ];
 
+// The same with the ports 1, 16384 and 32768, whose classes by two bits are 0, 1 and 2.
+const SPREAD: [Pair; 3] = [
+    Pair {
+        key: Key {
+            k0: 0x0a00_0001_0a00_0002,
+            k1: 0x0000_0100_5006,
+        },
+        value: 1,
+    },
+    Pair {
+        key: Key {
+            k0: 0x0a00_0001_0a00_0002,
+            k1: 0x0040_0000_5006,
+        },
+        value: 2,
+    },
+    Pair {
+        key: Key {
+            k0: 0x0a00_0001_0a00_0002,
+            k1: 0x0080_0000_5006,
+        },
+        value: 3,
+    },
+];
+
 // What the core leaves, if memory was found.
 fn ended(alloc: Global, core: CoreWorld) -> Result<CoreEnd, AllocError> {
     match core.finish(alloc) {
@@ -54,6 +79,18 @@ fn the_third_pair_finds_no_room(rt: HostRuntime) -> Result<(), Fail> {
         Err(fault) => assert_eq!(rt; fault, OpenFault::NoRoom { place: 2 }),
         Ok(_) => assert!(rt; false, "a table was opened"),
     }
+    Ok(())
+}
+
+// The third pair splits the only bucket, which has room for two: the first two are in the one half, and the third is in
+// the other.
+#[test]
+fn an_opening_splits(rt: HostRuntime) -> Result<(), Fail> {
+    let settings = Settings::new(1, 2, 2, 0)?;
+    let core = CoreWorld::new(rt.alloc(), &settings, Hashing::Ports(0), &[ROWS], &SPREAD)?;
+    let left = ended(rt.alloc(), core)?;
+    assert_eq!(rt; (left.leaves.len(), left.depth), (2, 1));
+    assert_eq!(rt; left.pairs.as_slice(), SPREAD.as_slice());
     Ok(())
 }
 
