@@ -2,7 +2,8 @@
 # Times `flowdir serve` of a made capture of 4,000,000 packets beside tcpdump printing the same file, and `flowdir trial` beside
 # softflowd reading it, in interleaved turns, and prints the least of each, with ratios; the most memory of each; and the cost of
 # a packet for captures of 10,000 to 4,000,000 packets. Prints the load of the machine before and after.
-# softflowd is given no control socket, since it may wait there for ever. Not part of the gate. Wants tcpdump, softflowd and GNU time (apt-get install tcpdump softflowd time), 1 GB of disk.
+# softflowd is given no control socket, since it may wait there for ever.
+# Not part of the gate. Wants tcpdump, softflowd and GNU time (apt-get install tcpdump softflowd time), 1 GB of disk.
 # TURNS=N sets how many turns there are (5), PACKETS=N how many packets the capture has.
 set -eu
 turns="${TURNS:-5}"
