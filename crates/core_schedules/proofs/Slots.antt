@@ -37,7 +37,7 @@ module _ (setup : Setup) (seat : ℕ) (h : seat < seats_of setup) where
   most = call_steps (settings_of setup)
 
   -- an event of the seat is its act
-  pub acts : (w : World) (begin : Option (ℕ × Call)) →
+  acts : (w : World) (begin : Option (ℕ × Call)) →
       happens setup w (record { seat = seat; begin = begin })
       ≡ act setup w seat (seat_in w seat).account (seat_in w seat).stand begin
   acts w begin =
@@ -86,7 +86,7 @@ module _ (setup : Setup) (seat : ℕ) (h : seat < seats_of setup) where
     steps begin None e = refl
 
     -- the event of a call that can be played
-    pub event_is : (begin : ℕ × Call) → IsPlayable begin → length account.records < 2 ^ 32 - 1 →
+    event_is : (begin : ℕ × Call) → IsPlayable begin → length account.records < 2 ^ 32 - 1 →
         IsEvent setup w (record { seat = seat; begin = Some begin })
     event_is begin p few = record {
       seat = h;

@@ -1,9 +1,8 @@
 -- How far a play is after one slot, many slots and a round.
-use Rattle.std.proofs.Common.{◌≡◌, ℕ, suc, ◌+◌, ◌-◌, ◌<◌, ◌≤◌, ◌⊎◌, inl, inr, Bool, false, cond, List, [], map, length, drop, All, Option, get_or, set, fold, refl, sym, ap, ◌∙◌, subst, arith}
+use Rattle.std.proofs.Common.{◌≡◌, ℕ, suc, ◌+◌, ◌-◌, ◌<◌, ◌≤◌, ◌⊎◌, inl, inr, Bool, false, cond, List, [], map, length, drop, Option, get_or, set, fold, refl, sym, ap, ◌∙◌, subst, arith}
 use Rattle.std.specs.List.{range_with_len}
 use Rattle.std.proofs.Math.Seq.{drop-cons}
-use Rattle.std.proofs.lemmas.Bool.{cases_lt}
-use Rattle.std.proofs.lemmas.List.{drop_all, get_or_default, get_or_past, length-map, map-set}
+use Rattle.std.proofs.lemmas.List.{drop_all, map-set}
 use Rattle.step_counts.specs.declared.settings.Settings.{Settings}
 use Rattle.plain_map.specs.declared.calls.Call.{Call}
 use Rattle.core_model.specs.Setup.{Setup, seats_of, settings_of}
@@ -12,12 +11,12 @@ use Rattle.core_model.specs.Worlds.{opening_world, seat_in}
 use Rattle.core_model.specs.Schedules as S
 use Rattle.core_model.specs.Schedules.{Play, empty_hand, events_of_slot, first_play, hand_after_slot, hand_of, is_stopped, play_of, run_round, run_rounds, run_segment, scheduled, slot, slots, with_events}
 use Rattle.core_schedules.specs.Good.{IsGood}
-use Rattle.core_schedules.proofs.Slots.{no_seat, slot_keeps}
+use Rattle.core_schedules.proofs.Slots.{slot_keeps}
 use Rattle.core_schedules.proofs.Skipped.{rounds_stay, slots_stay}
 use Rattle.core_world.specs.Values.{CoreValue, opened}
 use Rattle.play_runner.specs.declared.hands.Hand.{Hand}
 use Rattle.play_runner.specs.declared.turns.Playing.{Playing}
-use Rattle.play_runner.specs.Hands.{HasFew, as_hand, as_hands, hands_of, rounds_of}
+use Rattle.play_runner.specs.Hands.{as_hand, as_hands, hands_of, rounds_of}
 use Rattle.play_runner.specs.declared.values.Segment.{Segment}
 use Rattle.play_runner.specs.Played.{as_segment}
 use Rattle.play_runner.specs.Told.{AreTold, play_with}
@@ -62,13 +61,6 @@ slot_taken p q seat hand left stands is goes took hands told = record {
         (events_of_slot p.core.setup seat state.account (as_hand hand) state.stand)
         (hand_after_slot p.core.setup seat state.account (as_hand hand) state.stand))) (sym goes)
         ∙ ap by is
-
--- a slot of a seat that is not there, or is stopped
-pub slot_skipped : (p : Playing) (seat : ℕ) → IsPlaying p → length p.hands.items ≤ seat →
-    slot p.core.setup seat (play_in p) ≡ play_in p
-slot_skipped p seat stands n =
-    let long = length-map p.hands.items as_hand in
-    no_seat p.core.setup seat (play_in p) (omega (arith, n, long, stands.good.long, stands.good.hands)) (omega (arith, n, long))
 
 -- of so many things to do, these are left after the first
 fewer : (many i : ℕ) → i < many → many - i ≡ suc (many - (i + 1))
@@ -241,28 +233,6 @@ opens core hands seats calls stops new few dealt =
       world = opening_world core.setup;
       hands = hands_of (few i) calls stops;
     })
-
--- each hand has few calls
-pub hand_few : (p : Playing) (seat : ℕ) → IsPlaying p → HasFew (hand_of (play_in p) seat)
-hand_few p seat stands = elim (cases_lt seat (seats_of p.core.setup)) [
-  | inl h ↦ omega (arith, (stands.good.dealt seat h).few)
-  | inr n ↦ subst HasFew (sym (get_or_past (as_hands p.hands.items) seat empty_hand (omega (arith, n, stands.good.hands))))
-      (omega arith)
-]
-
-pub few_hands : (p : Playing) → IsPlaying p → All HasFew (as_hands p.hands.items)
-few_hands p stands seat d h =
-    subst HasFew (get_or_default (as_hands p.hands.items) seat empty_hand d h) (hand_few p seat stands)
-
--- and there are few
-pub short_hands : (p : Playing) → IsPlaying p → length p.hands.items ≤ 8
-short_hands p stands =
-    omega (
-      arith,
-      length-map p.hands.items as_hand,
-      stands.good.hands,
-      (settings_of p.core.setup).seats_in_range.1,
-    )
 
 -- so many rounds as were counted
 pub rounds_in : (p q : Playing) (most : ℕ) (settings : Settings) → settings ≡ settings_of p.core.setup →

@@ -1,19 +1,17 @@
 -- The calls that an idle seat tries in one slot.
-use Rattle.std.proofs.Common.{◌≡◌, ℕ, ◌+◌, ◌-◌, ◌^◌, ◌<◌, ◌≤◌, Bool, true, false, cond, not, ◌||◌, List, [], ◌∷◌, ◌++◌, map, length, drop, get_or, suc, Option, Some, None, fold, refl, sym, ap, ◌∙◌, subst, arith, append-nil, append_assoc}
+use Rattle.std.proofs.Common.{◌≡◌, ℕ, ◌+◌, ◌-◌, ◌^◌, ◌<◌, ◌≤◌, Bool, true, cond, not, ◌||◌, List, [], ◌∷◌, map, length, drop, get_or, suc, Option, Some, fold, sym, ap, ◌∙◌, subst, arith, append_assoc}
 use Rattle.plain_map.specs.declared.calls.Call.{Call}
 use Rattle.core_model.specs.declared.events.Event.{Event}
 use Rattle.core_model.specs.Setup.{Setup, seats_of}
 use Rattle.std.proofs.Math.Seq.{drop-cons}
-use Rattle.std.proofs.lemmas.Bool.{false≢true}
-use Rattle.std.proofs.lemmas.List.{drop_all}
-use Rattle.core_model.specs.SeatStates.{Account, Stand, Idle, InFlight}
-use Rattle.core_model.specs.Worlds.{FitsStand, IsEvent, World, happens, refusal_of, seat_in}
+use Rattle.core_model.specs.SeatStates.{Account, Idle}
+use Rattle.core_model.specs.Worlds.{World, happens, refusal_of, seat_in}
 use Rattle.core_model.specs.Schedules as S
 use Rattle.core_model.specs.Schedules.{events_of_slot, hand_after_slot, is_refused, one_begins, tried_of, untried_of, with_step}
 use Rattle.core_schedules.specs.Good.{ArePlayable}
 use Rattle.core_schedules.proofs.Slots as slots
-use Rattle.core_world.specs.Values.{CoreValue, rests, stepped_of, with_event}
-use Rattle.play_runner.specs.Plays.{IsAtSlot, TookSlot, was_refused, with_all}
+use Rattle.core_world.specs.Values.{CoreValue, stepped_of, with_event}
+use Rattle.play_runner.specs.Plays.{IsAtSlot, was_refused, with_all}
 use Rattle.play_runner.proofs.Outcomes.{refused_is}
 
 -- a seat begins this call, or is refused
@@ -58,14 +56,6 @@ module _ (before : CoreValue) (seat : ℕ) (hand : S.Hand) (h : seat < seats_of 
       cond (not b || one_begins (is_refused before.setup seat account) left)
       (with_step (record { calls = calls; may = may })) (record { calls = calls; may = may })
 
-  -- the next call may begin
-  pub may_begin : (now : CoreValue) (begin : ℕ × Call) (left : List (ℕ × Call)) →
-      AreTrying before now seat hand (begin ∷ left) → IsEvent now.setup now.world (beginning seat begin)
-  may_begin now begin left t =
-      subst (λ (setup : Setup). IsEvent setup now.world (beginning seat begin)) (sym t.setup_is)
-      (subst (λ (w : World). IsEvent before.setup w (beginning seat begin)) (sym t.world_is)
-      (slots.event_is before.setup seat h before.world account long is begin t.playable.0 (omega (arith, t.few))))
-
   -- it is refused
   pub goes_past : (now : CoreValue) (begin : ℕ × Call) (left : List (ℕ × Call)) →
       AreTrying before now seat hand (begin ∷ left) → is_refused before.setup seat account begin.1 ≡ true →
@@ -93,48 +83,6 @@ module _ (before : CoreValue) (seat : ℕ) (hand : S.Hand) (h : seat < seats_of 
     where
       later : List Event
       later = map (beginning seat) (tried_of (is_refused before.setup seat account) left)
-
-  -- it begins
-  pub begins_one : (now : CoreValue) (begin : ℕ × Call) (left : List (ℕ × Call)) →
-      AreTrying before now seat hand (begin ∷ left) → is_refused before.setup seat account begin.1 ≡ false →
-      TookSlot before (with_event now (beginning seat begin)) seat hand
-      (with_step (record { calls = left; may = hand.may }))
-  begins_one now begin left t e = record {
-    after_is = (λ i. record {
-      setup = t.setup_is i;
-      events = now.events ++ beginning seat begin ∷ [];
-      world = happens (t.setup_is i) now.world (beginning seat begin);
-    })
-        ∙ ap (λ (b : Bool). with_all (record { setup = before.setup; events = now.events; world = now.world })
-        (map (beginning seat) (cond b (begin ∷ tried_of (is_refused before.setup seat account) left) (begin ∷ []))))
-        (sym e)
-        ∙ t.core_is
-        ∙ ap (λ (stand : Stand). with_all before (events_of_slot before.setup seat account hand stand)) (sym idle);
-    left_is = ap (hand_by hand.may begin left) (sym e) ∙ t.hand_is
-        ∙ ap (hand_after_slot before.setup seat account hand) (sym idle);
-  }
-
-  -- none is left
-  pub none_left : (now : CoreValue) → AreTrying before now seat hand [] →
-      TookSlot before now seat hand (record { calls = []; may = hand.may })
-  none_left now t = record {
-    after_is = (λ i. record { setup = t.setup_is i; events = sym (append-nil now.events) i; world = now.world })
-        ∙ t.core_is
-        ∙ ap (λ (stand : Stand). with_all before (events_of_slot before.setup seat account hand stand)) (sym idle);
-    left_is = t.hand_is ∙ ap (hand_after_slot before.setup seat account hand) (sym idle);
-  }
-
--- before the first
-pub all_left : (before : CoreValue) (seat : ℕ) (hand : S.Hand) → IsAtSlot before seat hand →
-    AreTrying before before seat hand hand.calls
-all_left before seat hand at = record {
-  setup_is = refl;
-  world_is = refl;
-  core_is = refl;
-  hand_is = refl;
-  playable = at.dealt.calls;
-  few = omega (arith, at.dealt.few);
-}
 
 -- the next call, and those after it
 next_of : (before : CoreValue) (seat : ℕ) (hand : S.Hand) (now : CoreValue) (i : ℕ) (d : ℕ × Call) →
@@ -168,75 +116,3 @@ past_one before seat hand at idle now after i d refused t h is told e =
     (drop n hand.calls)) (let one : suc i ≡ i + 1 = omega arith in one)
     (goes_past before seat hand at.inside at.long idle now (get_or hand.calls i d) (drop (suc i) hand.calls)
     (next_of before seat hand now i d t h) (sym (answer_is before seat hand idle now i d refused t told) ∙ e)))
-
--- or begins
-pub one_begun : (before : CoreValue) (seat : ℕ) (hand : S.Hand) → IsAtSlot before seat hand →
-    (seat_in before.world seat).stand ≡ Idle → (now after : CoreValue) (i : ℕ) (d : ℕ × Call) (refused : Bool) →
-    AreTrying before now seat hand (drop i hand.calls) → i < length hand.calls →
-    after ≡ with_event now (beginning seat (get_or hand.calls i d)) →
-    refused ≡ was_refused (stepped_of now.setup now.world (beginning seat (get_or hand.calls i d))) →
-    refused ≡ false → (left : S.Hand) → left ≡ with_step (record { calls = drop (i + 1) hand.calls; may = hand.may }) →
-    TookSlot before after seat hand left
-one_begun before seat hand at idle now after i d refused t h is told e left left_is =
-    subst (λ (x : S.Hand). TookSlot before after seat hand x) (sym left_is)
-    (subst (λ (core : CoreValue). TookSlot before core seat hand
-    (with_step (record { calls = drop (i + 1) hand.calls; may = hand.may }))) (sym is)
-    (subst (λ (n : ℕ). TookSlot before (with_event now (beginning seat (get_or hand.calls i d))) seat hand
-    (with_step (record { calls = drop n hand.calls; may = hand.may }))) (let one : suc i ≡ i + 1 = omega arith in one)
-    (begins_one before seat hand at.inside at.long idle now (get_or hand.calls i d) (drop (suc i) hand.calls)
-    (next_of before seat hand now i d t h) (sym (answer_is before seat hand idle now i d refused t told) ∙ e))))
-
--- it may begin
-pub one_may_begin : (before : CoreValue) (seat : ℕ) (hand : S.Hand) → IsAtSlot before seat hand →
-    (seat_in before.world seat).stand ≡ Idle → (now : CoreValue) (i : ℕ) (d : ℕ × Call) →
-    AreTrying before now seat hand (drop i hand.calls) → i < length hand.calls →
-    IsEvent now.setup now.world (beginning seat (get_or hand.calls i d))
-one_may_begin before seat hand at idle now i d t h =
-    may_begin before seat hand at.inside at.long idle now (get_or hand.calls i d) (drop (suc i) hand.calls)
-    (next_of before seat hand now i d t h)
-
--- none is left
-pub all_tried : (before : CoreValue) (seat : ℕ) (hand : S.Hand) → IsAtSlot before seat hand →
-    (seat_in before.world seat).stand ≡ Idle → (now : CoreValue) (i : ℕ) →
-    AreTrying before now seat hand (drop i hand.calls) → length hand.calls ≤ i →
-    TookSlot before now seat hand (record { calls = []; may = hand.may })
-all_tried before seat hand at idle now i t h =
-    none_left before seat hand at.inside at.long idle now
-    (subst (AreTrying before now seat hand) (drop_all i hand.calls h) t)
-
--- a seat that rests is idle
-pub idle_at : (stand : Stand) → rests stand ≡ true → stand ≡ Idle
-idle_at Idle e = refl
-idle_at (InFlight flight phase) e = absurd (false≢true e)
-
--- another may take its next step
-pub may_go : (core : CoreValue) (seat : ℕ) → seat < seats_of core.setup →
-    rests (seat_in core.world seat).stand ≡ false →
-    IsEvent core.setup core.world (record { seat = seat; begin = None })
-may_go core seat h e = record {
-  seat = h;
-  begin = fits (seat_in core.world seat).account (seat_in core.world seat).stand e;
-}
-  where
-    fits : (account : Account) (stand : Stand) → rests stand ≡ false → FitsStand account stand None
-    fits own Idle e = absurd (false≢true (sym e))
-    fits own (InFlight flight phase) e = refl
-
--- and that is its slot
-pub goes_one : (core : CoreValue) (seat : ℕ) (hand : S.Hand) → rests (seat_in core.world seat).stand ≡ false →
-    TookSlot core (with_event core (record { seat = seat; begin = None })) seat hand (with_step hand)
-goes_one core seat hand e = record {
-  after_is = go (seat_in core.world seat).stand e;
-  left_is = left (seat_in core.world seat).stand e;
-}
-  where
-    go : (stand : Stand) → rests stand ≡ false →
-        with_event core (record { seat = seat; begin = None })
-        ≡ with_all core (events_of_slot core.setup seat (seat_in core.world seat).account hand stand)
-    go Idle e = absurd (false≢true (sym e))
-    go (InFlight flight phase) e = refl
-
-    left : (stand : Stand) → rests stand ≡ false →
-        with_step hand ≡ hand_after_slot core.setup seat (seat_in core.world seat).account hand stand
-    left Idle e = absurd (false≢true (sym e))
-    left (InFlight flight phase) e = refl
