@@ -23,9 +23,13 @@ bound_small s =
     let made : s.seats * (s.depth + 1) * (bucket_row_words s + 1) ≤ 8 * 13 * 70 = mul-le-mul leaves row in
     omega (arith, row, places, leaves, looks, made, s.seats_in_range.1)
 
--- and so does any call
+-- no lookup takes more steps than an update can
+pub longest_is : (s : Settings) → step_bound s ≡ call_steps s
+longest_is s = omega arith
+
+-- so any call takes fewer
 pub call_steps_small : (s : Settings) → call_steps s < 2 ^ 20
-call_steps_small s = omega (arith, bound_small s, s.items_in_range.1, s.seats_in_range.1)
+call_steps_small s = omega (arith, bound_small s, longest_is s)
 
 -- the slots that one seat can need are few
 pub most_slots_small : (s : Settings) (hand : Hand) → length hand.calls ≤ 2 ^ 32 - 1 → most_slots s hand ≤ 2 ^ 52

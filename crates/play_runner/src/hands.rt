@@ -51,13 +51,12 @@ impl<'a> Hand<'a> {
     }
 }
 
-// The most steps of any call.
+// The most steps of any call: those of an update, since no lookup takes more.
 fn call_steps(settings: &Settings) -> u64
     ensures exact { result ≡ call_steps settings.now }
     ensures small { result < 2 ^ 20 }
 {
-    let lookup = u64::from(settings.seats) + 3 + 2 + 3 * u64::from(settings.items) + 1;
-    bound(settings).max(lookup)
+    bound(settings)
 }
 
 // The calls of a seat.
