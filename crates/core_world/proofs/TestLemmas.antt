@@ -6,7 +6,7 @@ use Rattle.plain_map.specs.declared.calls.Call.{Call}
 use Rattle.core_model.specs.Setup.{seats_of}
 use Rattle.core_model.specs.SeatStates.{Account, Stand, Idle, InFlight, SeatState, fresh_seat}
 use Rattle.core_model.specs.Schedules.{IsPlayable}
-use Rattle.core_model.specs.Worlds.{FitsStand, IsEvent, World, opening_world, seat_in}
+use Rattle.core_model.specs.Worlds.{FitsStand, IsEvent, World, seat_in}
 use Rattle.core_world.specs.Values.{CoreValue, opened, rests}
 
 -- at the opening a seat may begin a call
