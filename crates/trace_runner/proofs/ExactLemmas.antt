@@ -55,7 +55,8 @@ Leaves-exact plan bytes left before after status.BadCapture records ending one c
     ∙ same_status packet_limit bytes held.0 records (Err leaves.0) ending one held.1 capture)
 Leaves-exact plan bytes left before after status.Limit records ending one capture no_read no_write leaves =
     let held = leaves.1.1.1.holds.0 in
-    inl (many_records packet_limit held.0 held.1 held.3 ∙ same_status packet_limit bytes held.0 records held.1 ending one held.2 capture)
+    inl (many_records packet_limit held.0 held.1 held.3
+    ∙ same_status packet_limit bytes held.0 records held.1 ending one held.2 capture)
 Leaves-exact plan bytes left before after status.ReadFault records ending one capture no_read no_write leaves =
     absurd (no_read refl)
 Leaves-exact plan bytes left before after status.WriteFault records ending one capture no_read no_write leaves =

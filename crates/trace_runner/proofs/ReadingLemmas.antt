@@ -127,7 +127,8 @@ HaveCome-more first before after old new all calls more many come given took sam
 
 -- the packets of the records so far are all
 EndsCalls-ended :
-    (most : ℕ) (bytes : List ℕ) (old new : Reading) (before after : Option (List ℕ)) (calls : List (ℕ × Call)) (many : ℕ)
+    (most : ℕ) (bytes : List ℕ) (old new : Reading) (before after : Option (List ℕ)) (calls : List (ℕ × Call))
+    (many : ℕ)
     (ending : Ending) →
     HasCalls bytes old before many calls → many ≤ most → MeetsEnding old new before after ending →
     EndsCalls most bytes after many calls ending
@@ -148,7 +149,8 @@ pub HaveEnded-ended :
 HaveEnded-ended most first before after old new calls many ending come few meets took =
     let front : List ℕ = come.took.0 in
     record {
-      told = λ bytes is. EndsCalls-ended most bytes old new before after calls many ending (come.told bytes is) few meets;
+      told = λ bytes is.
+          EndsCalls-ended most bytes old new before after calls many ending (come.told bytes is) few meets;
       took = (
         front ++ took.0,
         Consumes-trans first before after front took.0 come.took.1 took.1,
@@ -159,7 +161,8 @@ HaveEnded-ended most first before after old new calls many ending come few meets
 
 -- one more record is whole than are served
 EndsCalls-limit :
-    (most : ℕ) (bytes : List ℕ) (old new : Reading) (before after : Option (List ℕ)) (calls : List (ℕ × Call)) (limit : ℕ) →
+    (most : ℕ) (bytes : List ℕ) (old new : Reading) (before after : Option (List ℕ)) (calls : List (ℕ × Call))
+    (limit : ℕ) →
     HasCapture bytes → HoldsFront bytes → HasCalls bytes old before most calls →
     GivesRecord old new (to_come old before) (to_come new after) → new.order ≡ old.order → limit ≡ most →
     EndsCalls most bytes after most calls (Limit limit)
@@ -304,7 +307,8 @@ on_told first bytes found is shown =
 
 -- what was taken of it
 taken_fault :
-    (most : ℕ) (first after : Option (List ℕ)) (found : CaptureFault) (ending : Ending) → Some (Fault found) ≡ Some ending →
+    (most : ℕ) (first after : Option (List ℕ)) (found : CaptureFault) (ending : Ending) →
+    Some (Fault found) ≡ Some ending →
     Took first after (IsRefusedOn found) → Took first after (λ taken. EndsCalls most taken (Some []) 0 [] ending)
 taken_fault most first after found ending is took = (
   took.0,
@@ -313,7 +317,8 @@ taken_fault most first after found ending is took = (
 )
 
 stopped_took :
-    (most : ℕ) (first after : Option (List ℕ)) (found : CaptureFault) (ending : Ending) → ending_at found ≡ Some ending →
+    (most : ℕ) (first after : Option (List ℕ)) (found : CaptureFault) (ending : Ending) →
+    ending_at found ≡ Some ending →
     OnInputFault found (Took first after (IsRefusedOn found)) → OnReadFault found (TakesFewer FILE_HEAD first after) →
     Took first after (λ taken. EndsCalls most taken (Some []) 0 [] ending)
 stopped_took most first after fault.ReadFault ending is took takes = (
@@ -334,7 +339,8 @@ stopped_took most first after (fault.LinkType found) ending is took takes =
 stopped_took most first after (fault.RecordLength offset found) ending is took takes = absurd took.2.0
 
 pub HaveEnded-stopped :
-    (most : ℕ) (first after : Option (List ℕ)) (found : CaptureFault) (ending : Ending) → ending_at found ≡ Some ending →
+    (most : ℕ) (first after : Option (List ℕ)) (found : CaptureFault) (ending : Ending) →
+    ending_at found ≡ Some ending →
     OnInputFault found (OfInput first (λ (bytes : List ℕ). ShowsFault bytes found)) →
     OnInputFault found (Took first after (IsRefusedOn found)) → OnReadFault found (TakesFewer FILE_HEAD first after) →
     HaveEndedUpTo most first after 0 [] ending

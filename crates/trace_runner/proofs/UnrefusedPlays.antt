@@ -26,7 +26,8 @@ use Rattle.core_model.specs.Schedules.{CanPlay, Hand, Play, Segment, empty_hand,
 use Rattle.core_bounds.specs.Moments.{asked_by, asked_now, asked_of}
 use Rattle.core_bounds.proofs.WorldSteps.{step_same}
 use Rattle.core_schedules.proofs.Ends.{first_good}
-use Rattle.core_schedules.proofs.Slots.{IsGood, no_seat, slot_keeps}
+use Rattle.core_schedules.proofs.Slots.{no_seat, slot_keeps}
+use Rattle.core_schedules.specs.Good.{IsGood}
 use Rattle.core_world.specs.Values.{new_record, refused_at, stepped_of, told_of}
 use Rattle.batch_rows.specs.BatchRows.{updates_in_calls}
 use Rattle.play_runner.specs.Played.{outcome_in, outcomes_from, outcomes_of}
@@ -113,8 +114,8 @@ module _ (setup : Setup) (seat : ℕ) (h : seat < seats_of setup) (room : ℕ) w
         let event : Event = record { seat = seat; begin = begin } in
         record {
           none = subst (All NotRefused) (sym (append-nil (outcome_in event (stepped_of setup w event))))
-              (told_unrefused event _ (new_record (seat_in w seat).account (seat_in (happens setup w event) seat).account)
-              none);
+              (told_unrefused event _
+              (new_record (seat_in w seat).account (seat_in (happens setup w event) seat).account) none);
           room_left = subst (λ (calls : List (ℕ × Call)). updates_in_calls calls + updates_in_calls hand.calls ≤ room)
               (sym now) few;
         }
@@ -196,7 +197,8 @@ module _ (setup : Setup) (seat : ℕ) (h : seat < seats_of setup) (room : ℕ) w
           go : (b : Bool) → b ≡ false → (t : Bool) →
               Kept w (map (λ one. record { seat = seat; begin = Some one })
               (cond b (begin ∷ tried_of (is_refused setup seat account) calls) (begin ∷ [])))
-              (cond t (with_step (record { calls = cond b (untried_of (is_refused setup seat account) calls) calls; may = may }))
+              (cond t
+              (with_step (record { calls = cond b (untried_of (is_refused setup seat account) calls) calls; may = may }))
               (record { calls = cond b (untried_of (is_refused setup seat account) calls) calls; may = may }))
           go true e t = absurd (false≢true (sym e))
           go false e true = kept (with_step (record { calls = calls; may = may })) refl
@@ -288,9 +290,11 @@ module _ (setup : Setup) (updates : List ℕ)
         here : seat < seats_of setup → (t : Bool) → is_stopped (hand_of play seat) ≡ t → AllGo (slot setup seat play)
         here h true e =
             slot_room play
-            (ap (λ (b : Bool). cond b play (with_events setup play seat events hand)) e) goes.good (goes.room seat) goes.none
+            (ap (λ (b : Bool). cond b play (with_events setup play seat events hand)) e) goes.good (goes.room seat)
+            goes.none
         here h false e =
-            let kept = own_slot play goes seat h (seat_in play.world seat).account (seat_in play.world seat).stand refl in
+            let kept =
+            own_slot play goes seat h (seat_in play.world seat).account (seat_in play.world seat).stand refl in
             let after : Play = with_events setup play seat events hand in
             let is : slot setup seat play ≡ after =
             ap (λ (b : Bool). cond b play (with_events setup play seat events hand)) e in
@@ -300,7 +304,8 @@ module _ (setup : Setup) (updates : List ℕ)
             (seat_in after.world seat) one)
             (sym (get_or-set_same play.hands seat hand _ (omega (arith, h, goes.good.hands)))) kept.room_left)
             (subst (All NotRefused) (sym (outcomes_both setup play.events events (opening_world setup)
-            ∙ ap (λ (w : World). outcomes_of setup play.events ++ outcomes_from setup w events) (sym goes.good.world_is)))
+            ∙ ap (λ (w : World). outcomes_of setup play.events ++ outcomes_from setup w events)
+            (sym goes.good.world_is)))
             (All-append NotRefused (outcomes_of setup play.events) (outcomes_from setup play.world events) goes.none
             kept.none))
 

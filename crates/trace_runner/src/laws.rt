@@ -18,8 +18,8 @@ pub fn serving_laws()
     answer_laws();
 }
 
-/// Every play is a run of its table, in the end of which each seat has made its calls or is stopped, and its one order is
-/// right. With the automatic rows of its seats' calls none of them is refused.
+/// Every play is a run of its table, in the end of which each seat has made its calls or is stopped, and its one order
+/// is right. With the automatic rows of its seats' calls none of them is refused.
 pub fn playing_laws()
     ensures right { PlaysAreRight }
     ensures answered { PlaysAreAnswered }

@@ -156,8 +156,8 @@ fn plays_split_buckets(rt: HostRuntime) -> Result<(), Fail> {
     expect_rows(&rt, rt.alloc(), &rows)
 }
 
-/// Seats help each other: one stops behind its announcement, both go in turn, one stops before its exchange, and one that
-/// is stopped for good is helped still. A lookup stands in the order where its row stands.
+/// Seats help each other: one stops behind its announcement, both go in turn, one stops before its exchange, and one
+/// that is stopped for good is helped still. A lookup stands in the order where its row stands.
 #[test]
 fn seats_help_each_other(rt: HostRuntime) -> Result<(), Fail> {
     let rows = [
@@ -330,8 +330,7 @@ const ANSWERED: &str = "\
     count packets 2 calls 2 passed 0 full 0 pending 0 unbegun 0\n\
     steps update 56 bound 710 lookup 0\n";
 
-/// A seat is stopped after each number of its steps; what its call comes to changes where it is announced and where it is
-/// answered.
+/// A seat is stopped after so many steps; what its call comes to changes where it is announced and where it is answered.
 #[test]
 fn seats_stop_after_any_step(rt: HostRuntime) -> Result<(), Fail> {
     let rows = [

@@ -5,4 +5,5 @@ use Rattle.trace_runner.proofs.playing.put_pending.Given as goal
 
 -- the lines so far
 abbrev pub invariant-loop-begun : goal.invariant-loop-begun
-invariant-loop-begun l = l.text.items ≡ l.fn.text.items ++ flat_map (pending_line l.seats) (take l.begun-index l.pending)
+invariant-loop-begun l =
+    l.text.items ≡ l.fn.text.items ++ flat_map (pending_line l.seats) (take l.begun-index l.pending)

@@ -51,8 +51,8 @@ put_sessions-requires c =
     c.playing_laws.ensures.right (play_setup service calls) (shares_of service calls) c.args.plan.now.stops
     (schedule_in c.args.plan.now) can in
     subst (All (λ (pair : Pair). HasText pair.key)) (sym c.deref-2.ensures.value)
-    (pairs-texts c.args.plan.now service calls played comes (call-texts 0 c.args.input.now.packets calls c.requires.between)
-    right c.session_laws.ensures)
+    (pairs-texts c.args.plan.now service calls played comes
+    (call-texts 0 c.args.input.now.packets calls c.requires.between) right c.session_laws.ensures)
 
 pub play_tail-requires-clause-depth : goal.play_tail-requires-clause-depth
 play_tail-requires-clause-depth c =
