@@ -198,7 +198,8 @@ module _ (setup : Setup) (seat : ℕ) (h : seat < seats_of setup) (room : ℕ) w
               Kept w (map (λ one. record { seat = seat; begin = Some one })
               (cond b (begin ∷ tried_of (is_refused setup seat account) calls) (begin ∷ [])))
               (cond t
-              (with_step (record { calls = cond b (untried_of (is_refused setup seat account) calls) calls; may = may }))
+              (with_step
+              (record { calls = cond b (untried_of (is_refused setup seat account) calls) calls; may = may }))
               (record { calls = cond b (untried_of (is_refused setup seat account) calls) calls; may = may }))
           go true e t = absurd (false≢true (sym e))
           go false e true = kept (with_step (record { calls = calls; may = may })) refl
