@@ -330,7 +330,7 @@ const ANSWERED: &str = "\
     count packets 2 calls 2 passed 0 full 0 pending 0 unbegun 0\n\
     steps update 56 bound 710 lookup 0\n";
 
-/// A seat is stopped after so many steps; its call comes to something else once it is announced, and once it is answered.
+/// A seat is stopped after so many steps; what its call comes to changes once it is announced, and once it is answered.
 #[test]
 fn seats_stop_after_any_step(rt: HostRuntime) -> Result<(), Fail> {
     let rows = [
