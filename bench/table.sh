@@ -2,8 +2,8 @@
 # Times the table that threads share, in five turns with what it is measured against, and prints the least of all turns:
 # - 2,048 calls of the made capture by one seat, and the same atomic steps in a plain loop of Rust, whose places are
 #   worked out beforehand and compared with what the seat told of each call;
-# - lookups of 256 flows by one caller, and those of a Rust HashMap under a Mutex and under an RwLock and of liburcu's
-#   cds_lfht; these by 2 and 4 callers too;
+# - lookups of 256 flows by 1, 2 and 4 callers, and those of a Rust HashMap under a Mutex and under an RwLock and of
+#   liburcu's cds_lfht;
 # - the longest call of 20,000 new keys, and that of the HashMap; the opening of tables by their words, from new words
 #   and from words that are kept.
 # Prints the load of the machine before and after. Not part of the gate. Wants rustc, gcc and liburcu-dev. The crates
@@ -47,18 +47,24 @@ ghost use Rattle.bucket_states.specs.Parts.{HasDistinctKeys};
 ghost use Rattle.word_rows.specs.Shape.{AreBelow};
 ghost use Rattle.plain_map.specs.Serving.{CanCount, IsAskable};
 ghost use Rattle.shared_table.specs.SeatValues.{account_of};
-ghost use Rattle.shared_table.specs.Values.{IsOf, IsSame, new_seat, new_seats};
+ghost use Rattle.shared_table.specs.Values.{IsNew, IsOf, IsSame, new_seat, new_seats};
 
 use hash_bits::{Hashing, spread};
 use plain_map::{Call, Key, Pair, Record, Reply};
 use shared_table::{Blank, Directory, Seat};
 use std::alloc::{AllocError, Global};
 use std::io;
+use std::sync::atomic::AtomicU64;
+use std::sync::atomic::Ordering::SeqCst;
+use std::thread::{Threads, for_each_mut, yield_now};
 use std::time::{Clock, Instant};
 use step_counts::{SeatRows, Settings, automatic_rows};
 use word_rows::Layout;
 
 const CALLS: usize = 2048;
+
+// How many lookups each of several callers makes.
+const EACH: u32 = 100_000;
 
 // The key of this flow of the made captures.
 fn flow_key(flow: u64) -> Key {
@@ -153,7 +159,8 @@ fn told_by(made: &Record) -> Told {
 }
 
 // One call, and what its record tells, if it is not refused. The record itself is not handed on, since a copy of it
-// would be timed with the call.
+// would be timed with the call. As in a server, one place makes all calls.
+#[inline(always)]
 fn asked(seat: &mut Seat, directory: &Directory, packet: u32, call: &Call) -> Option<Told>
     requires seat { IsOf directory.now seat.old }
     requires askable { IsAskable call.now }
@@ -215,12 +222,10 @@ fn ask_each<R: Clock + Print>(
     let mut longest = 0;
     for i in 0..calls.len() {
         let start = Instant::now(rt)?;
-        let made = asked(seat, directory, i as u32, &calls[i]);
+        let told = ask_all(seat, directory, &[calls[i]; 1], 1);
         longest = longest.max(nanoseconds(rt, &start)?);
-        if let Some(made) = made
-            && listed
-        {
-            println!(rt; "steps {}", made.steps)?;
+        if listed {
+            println!(rt; "steps {}", told.steps)?;
         }
     }
     Ok(longest)
@@ -250,14 +255,51 @@ fn rows_for(settings: &Settings, updates: u32) -> Option<SeatRows>
     }
 }
 
+// Such rows for each of so many seats.
+fn rows_of(alloc: Global, rows: SeatRows, seats: u32) -> Result<Vec<SeatRows>, AllocError>
+    requires { AreBelow (2 ^ 32) rows }
+    ensures small { IfOk result (λ v. All (AreBelow (2 ^ 32)) v.items) }
+    ensures each_seat { IfOk result (λ v. length v.items ≡ seats) }
+{
+    vec![in alloc; rows; seats as usize]
+}
+
+// The seats of a new table have made no call.
+fn are_new(seats: &[Seat], directory: &Directory, count: u32)
+    requires { seats.now ≡ new_seats directory.now 0 count }
+    ensures { All (IsNew directory.now) seats.now }
+{}
+
+// A table without pairs, and its seats.
+fn opened_for(alloc: Global, seats: u32) -> Option<(Directory, Vec<Seat>)>
+    ensures { IfSome result (λ r. All (IsNew r.0) r.1.items) }
+{
+    let settings = Settings::new(seats, 8, 10, 0).ok()?;
+    let rows = rows_of(alloc, rows_for(&settings, 2048)?, seats).ok()?;
+    let (directory, seats) = Directory::open(
+        alloc,
+        &settings,
+        Hashing::Mix(0),
+        &rows,
+        &no_pairs(),
+    ).ok()?;
+    are_new(&seats, &directory, settings.seats);
+    Some((directory, seats))
+}
+
 // A table of one seat without pairs, and its seat.
 fn opened(alloc: Global, items: u32, depth: u32, updates: u32) -> Option<(Directory, Seat)>
     ensures { IfSome result (λ r. r.1 ≡ new_seat r.0 0) }
 {
     let settings = Settings::new(1, items, depth, 0).ok()?;
     let rows = rows_for(&settings, updates)?;
-    let (directory, seats) =
-        Directory::open(alloc, &settings, Hashing::Mix(0), &[rows; 1], &no_pairs()).ok()?;
+    let (directory, seats) = Directory::open(
+        alloc,
+        &settings,
+        Hashing::Mix(0),
+        &[rows; 1],
+        &no_pairs(),
+    ).ok()?;
     let seat = one_of(seats, &directory)?;
     Some((directory, seat))
 }
@@ -310,7 +352,96 @@ fn timed<R: Clock + Print>(
     let start = Instant::now(rt)?;
     let told = ask_all(&mut seat, &directory, &calls, count);
     let nanoseconds = nanoseconds(rt, &start)?;
-    println!(rt; "{name} 1 {count} {nanoseconds} {} {}", told.steps, told.found)
+    println!(rt;
+        "{name} 1 {count} {nanoseconds} {} {}",
+        told.steps, told.found
+    )
+}
+
+// One seat, what it is to look up, and how many of these calls found their key.
+#[derive(Drop)]
+struct Worker {
+    seat: Seat,
+    calls: Vec<Call>,
+    found: u64,
+}
+
+impl Worker {
+    // Looks up once all others are there too.
+    fn work(&mut self, directory: &Directory, arrivals: &AtomicU64, all: u64)
+        requires of { IsOf directory.now self.old.seat }
+        requires few { length (account_of self.old.seat).records < 2 ^ 31 }
+        requires calls { All IsAskable self.old.calls.items }
+    {
+        arrivals.fetch_add(1, SeqCst);
+        for _ in 0..10_000_000 {
+            if arrivals.load(SeqCst) >= all {
+                break;
+            }
+            yield_now();
+        }
+        self.found = ask_all(&mut self.seat, directory, &self.calls, EACH).found;
+    }
+}
+
+// A worker for each seat, the last first. Each has inserted all flows.
+fn workers_of(
+    alloc: Global,
+    directory: &Directory,
+    mut seats: Vec<Seat>,
+) -> Result<Vec<Worker>, AllocError>
+    requires seats { All (IsNew directory.now) seats.items }
+    ensures ready { IfOk result (λ v. All (λ w. IsOf directory.now w.seat
+        × (length (account_of w.seat).records < 2 ^ 31) × All IsAskable w.calls.items) v.items) }
+{
+    let flows = Load::Flows.calls(alloc, 0, 256)?;
+    let mut workers = Vec::new(alloc);
+    while let Some(mut seat) = seats.pop() {
+        ask_all(&mut seat, directory, &flows, 256);
+        let calls = Load::Lookups.calls(alloc, (seats.len() % 8) as u32, 2048)?;
+        workers.push(Worker {
+            seat,
+            calls,
+            found: 0,
+        })?;
+    }
+    Ok(workers)
+}
+
+// All look up at once, each in a thread of its own.
+fn all_work<R: Threads + Sync>(rt: &R, directory: &Directory, workers: &mut [Worker])
+    requires { All (λ w. IsOf directory.now w.seat × (length (account_of w.seat).records < 2 ^ 31)
+        × All IsAskable w.calls.items) workers.old }
+{
+    let arrivals = AtomicU64::new(0);
+    let all = workers.len() as u64;
+    for_each_mut(
+        rt,
+        workers,
+        8,
+        &|_, worker| worker.work(directory, &arrivals, all),
+    );
+}
+
+// The seats of a new table look up the flows that it holds, and prints how many they are, how many lookups each makes,
+// and the nanoseconds of all.
+fn together<R: Clock + Print + Threads + Sync>(
+    rt: &R,
+    alloc: Global,
+    seats: u32,
+) -> io::Result<()> {
+    let Some((directory, seats)) = opened_for(alloc, seats) else {
+        return Ok(());
+    };
+    let many = seats.len();
+    let mut workers = workers_of(alloc, &directory, seats)?;
+    let start = Instant::now(rt)?;
+    all_work(rt, &directory, workers.as_mut_slice());
+    let nanoseconds = nanoseconds(rt, &start)?;
+    let found = workers
+        .iter()
+        .fold(0u64, |sum, worker| sum.wrapping_add(worker.found));
+    println!(rt; "table {many} {EACH} {nanoseconds} 0 {found}")
 }
 
 // Opens a table from these words, and prints its own, and how many nanoseconds that takes.
@@ -328,8 +459,15 @@ fn opening<R: Clock + Print>(
     };
     let words = Layout::new(settings, &[rows; 1]).words();
     let start = Instant::now(rt)?;
-    let table =
-        Directory::open_in(alloc, blank, settings, Hashing::Mix(0), &[rows; 1], &no_pairs()).ok();
+    let table = Directory::open_in(
+        alloc,
+        blank,
+        settings,
+        Hashing::Mix(0),
+        &[rows; 1],
+        &no_pairs(),
+    )
+    .ok();
     let nanoseconds = nanoseconds(rt, &start)?;
     if table.is_some() {
         println!(rt; "{name}-{words} 1 1 {nanoseconds} 0 0")?;
@@ -349,40 +487,49 @@ fn openings<R: Clock + Print>(rt: &R, alloc: Global, items: u32, depth: u32) -> 
 
 fn main(rt: HostRuntime) -> io::Result<()> {
     longest(&rt, rt.alloc(), "list", Load::Capture, 2048, true)?;
-    for _ in 0..20 {
-        timed(&rt, rt.alloc(), "capture", Load::Nothing, Load::Capture, 2048)?;
-        timed(&rt, rt.alloc(), "table", Load::Flows, Load::Lookups, 100_000)?;
+    for _ in 0..60 {
+        timed(
+            &rt,
+            rt.alloc(),
+            "capture",
+            Load::Nothing,
+            Load::Capture,
+            2048,
+        )?;
+        timed(
+            &rt,
+            rt.alloc(),
+            "table",
+            Load::Flows,
+            Load::Lookups,
+            100_000,
+        )?;
     }
-    longest(&rt, rt.alloc(), "table-longest", Load::NewKeys, 20_000, false)?;
+    for seats in [2, 4] {
+        for _ in 0..5 {
+            together(&rt, rt.alloc(), seats)?;
+        }
+    }
+    longest(
+        &rt,
+        rt.alloc(),
+        "table-longest",
+        Load::NewKeys,
+        20_000,
+        false,
+    )?;
     for (items, depth) in [(8, 4), (8, 10), (16, 12)] {
         openings(&rt, rt.alloc(), items, depth)?;
     }
     Ok(())
 }
 RT
-mkdir -p "$program/proofs/no_pairs"
-cat >"$program/proofs/no_pairs/Answers.antt" <<'ANTT'
-use Rattle.std.specs.List.{IsDistinct}
-use Rattle.table_bench.proofs.no_pairs.Goals as goal
-
-pub returns : goal.returns
-unfolding IsDistinct
-returns c = tt
+for place in Load/calls are_new ask_all ask_each no_pairs workers_of; do
+    mkdir -p "$program/proofs/$place"
+done
+cat >"$program/proofs/Lib.antt" <<'ANTT'
+mod Seats
 ANTT
-mkdir -p "$program/proofs/ask_all"
-cat >"$program/proofs/ask_all/Invariants.antt" <<'ANTT'
-use Rattle.std.proofs.Common.{◌≡◌, ◌+◌, ◌≤◌, length}
-use Rattle.shared_table.specs.SeatValues.{account_of}
-use Rattle.shared_table.specs.Values.{IsSame}
-use Rattle.table_bench.proofs.ask_all.Given as goal
-
-abbrev pub invariant-loop-i : goal.invariant-loop-i
-invariant-loop-i l = record {
-  same : IsSame l.initial.seat l.seat;
-  count : length (account_of l.seat).records ≤ length (account_of l.initial.seat).records + l.i;
-}
-ANTT
-mkdir -p "$program/proofs/Load/calls"
 cat >"$program/proofs/Load/calls/Invariants.antt" <<'ANTT'
 use Rattle.std.proofs.Common.{◌≡◌, vec_len}
 use Rattle.std.specs.Prelude.{All}
@@ -395,7 +542,43 @@ invariant-loop-i l = record {
   len : vec_len l.calls ≡ l.i;
 }
 ANTT
-mkdir -p "$program/proofs/ask_each"
+cat >"$program/proofs/Seats.antt" <<'ANTT'
+-- The seats of a new table have made no call.
+use Rattle.std.proofs.Common.{◌≡◌, ℕ, zero, suc, List, [], ◌∷◌, length, refl, ap}
+use Rattle.std.specs.Prelude.{All}
+use Rattle.std.proofs.lemmas.List.Elements.{All-nil, All-cons}
+use Rattle.shared_table.specs.Values.{IsNew, TableValue, new_seat, new_seats}
+
+-- new seats are new
+pub all_new : (t : TableValue) (seat many : ℕ) → All (IsNew t) (new_seats t seat many)
+all_new t seat zero = All-nil (IsNew t)
+all_new t seat (suc many) =
+    All-cons (IsNew t) (new_seat t seat) (new_seats t (suc seat) many)
+    (record { of = record { table = refl; setup = refl }; none = refl }) (all_new t (suc seat) many)
+ANTT
+cat >"$program/proofs/are_new/Answers.antt" <<'ANTT'
+use Rattle.std.proofs.Common.{sym, subst}
+use Rattle.std.specs.Prelude.{All}
+use Rattle.shared_table.specs.Values.{IsNew}
+use Rattle.table_bench.proofs.Seats.{all_new}
+use Rattle.table_bench.proofs.are_new.Goals as goal
+
+pub returns : goal.returns
+returns c =
+    subst (All (IsNew c.args.directory.now)) (sym c.requires) (all_new c.args.directory.now 0 c.args.count)
+ANTT
+cat >"$program/proofs/ask_all/Invariants.antt" <<'ANTT'
+use Rattle.std.proofs.Common.{◌≡◌, ◌+◌, ◌≤◌, length}
+use Rattle.shared_table.specs.SeatValues.{account_of}
+use Rattle.shared_table.specs.Values.{IsSame}
+use Rattle.table_bench.proofs.ask_all.Given as goal
+
+abbrev pub invariant-loop-i : goal.invariant-loop-i
+invariant-loop-i l = record {
+  same : IsSame l.initial.seat l.seat;
+  count : length (account_of l.seat).records ≤ length (account_of l.initial.seat).records + l.i;
+}
+ANTT
 cat >"$program/proofs/ask_each/Invariants.antt" <<'ANTT'
 use Rattle.std.proofs.Common.{◌≡◌, ◌+◌, ◌≤◌, length}
 use Rattle.shared_table.specs.SeatValues.{account_of}
@@ -407,6 +590,66 @@ invariant-loop-i g l = record {
   same : IsSame l.initial.seat l.seat;
   count : length (account_of l.seat).records ≤ length (account_of l.initial.seat).records + l.i;
 }
+ANTT
+cat >"$program/proofs/no_pairs/Answers.antt" <<'ANTT'
+use Rattle.std.specs.List.{IsDistinct}
+use Rattle.table_bench.proofs.no_pairs.Goals as goal
+
+pub returns : goal.returns
+unfolding IsDistinct
+returns c = tt
+ANTT
+cat >"$program/proofs/workers_of/Answers.antt" <<'ANTT'
+use Rattle.std.proofs.Common.{◌≡◌, ◌+◌, ◌^◌, ◌<◌, ◌≤◌, [], ◌∷◌, ◌++◌, length, Some, ap, ◌∙◌, arith}
+use Rattle.std.specs.Prelude.{All}
+use Rattle.std.proofs.lemmas.List.Elements.{All-pop, All-push, All-same}
+use Rattle.plain_map.specs.declared.records.Record.{Record}
+use Rattle.plain_map.specs.Serving.{IsAskable}
+use Rattle.shared_table.specs.SeatValues.{SeatValue, account_of}
+use Rattle.shared_table.specs.Values.{IsNew, IsOf}
+use Rattle.table_bench.specs.declared.Worker.{Worker}
+use Rattle.table_bench.proofs.workers_of.Goals as goal
+
+pub loop-seat-preserved : goal.loop-seat-preserved
+loop-seat-preserved c =
+    let Q : Worker → Type 0 = λ w. IsOf c.args.directory.now w.seat
+    × (length (account_of w.seat).records < 2 ^ 31) × All IsAskable w.calls.items in
+    let both = All-pop (IsNew c.args.directory.now) c.loop-seat.seats.items c.pop.new.self.items
+    (Some c.in-Some.seat) c.in-Some.ensures.items c.loop-seat.invariant.rest in
+    let after : SeatValue = c.ask_all.new.seat in
+    let w : Worker = record { seat = after; calls = c.in_ok-calls.calls; found = 0 } in
+    let none : length (account_of c.in-Some.seat).records ≡ 0 = ap (length {A = Record}) both.1.none in
+    let few : length (account_of after).records < 2 ^ 31 = omega (arith, none, c.ask_all.ensures.count) in
+    let of : IsOf c.args.directory.now after = record {
+      table = c.ask_all.ensures.same.table ∙ both.1.of.table;
+      setup = c.ask_all.ensures.same.setup ∙ both.1.of.setup;
+    } in
+    let new : Q w = (of, few, c.in_ok-calls.ensures.calls) in
+    record {
+      rest = both.0;
+      flows = c.loop-seat.invariant.flows;
+      ready = All-same Q c.push.new.self.items (c.loop-seat.workers.items ++ w ∷ []) c.in_ok-push.ensures.items
+          (All-push Q c.loop-seat.workers.items w c.loop-seat.invariant.ready new);
+    }
+ANTT
+cat >"$program/proofs/workers_of/Invariants.antt" <<'ANTT'
+use Rattle.std.proofs.Common.{◌^◌, ◌<◌, length, vec_len}
+use Rattle.std.specs.Prelude.{All}
+use Rattle.plain_map.specs.Serving.{IsAskable}
+use Rattle.shared_table.specs.SeatValues.{account_of}
+use Rattle.shared_table.specs.Values.{IsNew, IsOf}
+use Rattle.table_bench.proofs.workers_of.Given as goal
+
+abbrev pub invariant-loop-seat : goal.invariant-loop-seat
+invariant-loop-seat l = record {
+  rest : All (IsNew l.directory) l.seats.items;
+  flows : All IsAskable l.flows.items;
+  ready : All (λ w. IsOf l.directory w.seat × (length (account_of w.seat).records < 2 ^ 31)
+      × All IsAskable w.calls.items) l.workers.items;
+}
+
+abbrev pub decreases-loop-seat : goal.decreases-loop-seat
+decreases-loop-seat l = vec_len l.seats
 ANTT
 rustc -O -o "$work/bare" "$top/bench/table/bare.rs"
 rustc -O -o "$work/maps" "$top/bench/table/maps.rs"
@@ -429,18 +672,16 @@ awk '
         ours = least["capture 1"] / 2048; bare = least["bare 1"] / 2048
         printf "%-34s %8s %8s %8s\n", "2,048 calls of the made capture", "a seat", "bare", "ratio"
         printf "%-34s %8.0f %8.0f %8.2f\n", "ns a call", ours, bare, ours / bare
-        t = least["table 1"] / 100000
         format = "%-34s %8s %8s %8s %8s %10s %10s %10s\n"
         printf "\n" format, "ns a lookup of 256 flows", "a seat", "Mutex", "RwLock", "lfht",
             "to Mutex", "to RwLock", "to lfht"
         for (callers = 1; callers <= 4; callers *= 2) {
+            t = least["table " callers] / 100000 / callers
             m = least["mutex " callers] / 100000 / callers
             r = least["rwlock " callers] / 100000 / callers
             l = least["lfht " callers] / 100000 / callers
-            own = callers == 1
-            printf format, callers " at once", own ? sprintf("%.1f", t) : "-", sprintf("%.1f", m),
-                sprintf("%.1f", r), sprintf("%.1f", l), own ? sprintf("%.2f", t / m) : "-",
-                own ? sprintf("%.2f", t / r) : "-", own ? sprintf("%.2f", t / l) : "-"
+            printf format, callers " at once", sprintf("%.1f", t), sprintf("%.1f", m), sprintf("%.1f", r),
+                sprintf("%.1f", l), sprintf("%.2f", t / m), sprintf("%.2f", t / r), sprintf("%.2f", t / l)
         }
         printf "\nlongest of 20,000 new keys, us: a seat %.1f, HashMap under a Mutex %.1f\n",
             least["table-longest 1"] / 1000, least["mutex-longest 1"] / 1000

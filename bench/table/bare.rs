@@ -238,7 +238,7 @@ fn main() {
     }
     let total: usize = told.iter().sum();
     let mut sum = 0;
-    for _ in 0..20 {
+    for _ in 0..60 {
         let words: Vec<AtomicU64> = (0..count).map(|_| AtomicU64::new(0)).collect();
         let start = Instant::now();
         sum ^= take(&words, &steps);
