@@ -99,7 +99,7 @@ fn two_seats_meet(rt: HostRuntime) -> Result<(), Fail> {
         arrived: AtomicU64::new(0),
         late: AtomicU64::new(0),
     };
-    let (batch, _order) = serve_frames(
+    let (batch, order) = serve_frames(
         &rt,
         rt.alloc(),
         &service,
@@ -113,7 +113,7 @@ fn two_seats_meet(rt: HostRuntime) -> Result<(), Fail> {
         [(0, Some(Reply::New)), (1, Some(Reply::New))].as_slice()
     );
     assert_eq!(rt; batch.answered.as_slice(), [1, 1].as_slice());
-    assert_eq!(rt; batch.order.len(), 2);
+    assert_eq!(rt; order.len(), 2);
     assert_eq!(rt; batch.pairs.len(), 2);
     assert_eq!(rt; (batch.leaves, batch.depth), (2, 1));
     Ok(())
@@ -165,14 +165,14 @@ fn rows_run_out(rt: HostRuntime) -> Result<(), Fail> {
             ..open
         };
         assert!(rt; are_small(&service.rows));
-        let (batch, _order) = serve_frames(
+        let (batch, order) = serve_frames(
             &rt,
             rt.alloc(),
             &service,
             &[(1, Syn(1)), (2, Syn(2))],
             &OpenGate,
         )?;
-        assert_eq!(rt; batch.order.len(), answered);
+        assert_eq!(rt; order.len(), answered);
         assert_eq!(rt; batch.pairs.len(), answered);
         let Some(
             (
