@@ -69,6 +69,7 @@ pub fn serve_batch<R: Threads + Sync, G: Gate + Sync>(
     let starts = Starts::new(closed.layout());
     let order = order(alloc, &starts, &closed, &records, &[])?;
     let batch = told(alloc, service, first, calls, &closed, &logs)?;
+    workspace.blank.keep(closed);
     Ok((batch, order))
 }
 
@@ -95,6 +96,7 @@ pub fn try_batch<R: Threads + Sync, G: Gate + Sync>(
 {
     let (closed, logs) = close_batch(rt, alloc, service, workspace, first, calls, gate)?;
     let batch = told(alloc, service, first, calls, &closed, &logs)?;
+    workspace.blank.keep(closed);
     Ok(batch)
 }
 
