@@ -1,5 +1,6 @@
 //! Made captures that many callers serve and try. A plain program replays each report's order through the plain map.
 
+ghost use Rattle.std.specs.Prelude.{IfSome};
 ghost use Rattle.plain_map.specs.PlainObject.{InRange};
 
 use super::run_line;
@@ -170,25 +171,40 @@ fn is_right(alloc: Global, text: &str, rules: &Rules, calls: &[Call]) -> Result<
     Ok(right && replay.leaves(&lines_with(alloc, text, "session ")?))
 }
 
-/// Serves the made capture, and certifies the report.
+/// What a plain map knows of a table whose keys are mixed with this seed.
+fn rules_of(items: u32, depth: u32, seed: u64) -> Option<Rules>
+    ensures { IfSome result InRange }
+{
+    if items < 1 || items > 16 || depth > 12 {
+        return None;
+    }
+    Some(Rules {
+        items,
+        depth,
+        hashing: Hashing::Mix(seed),
+    })
+}
+
+/// Serves 20,000 packets by eight callers, and certifies the report.
 fn expect_right<R: Threads + Abort + Sync>(
     rt: &R,
     alloc: Global,
-    line: &str,
-    number: u64,
-    rules: &Rules,
+    settings: (u32, u32, u64),
     calls: &[Call],
-) -> Result<(), Fail>
-    requires { InRange rules.now }
-{
-    let mut source = MadeSource::new(number, 20_000);
+) -> Result<(), Fail> {
+    let (items, depth, seed) = settings;
+    let Some(rules) = rules_of(items, depth, seed) else {
+        return Err(Fail::from("settings out of range"));
+    };
+    let line = format!(in alloc; "serve --seats 8 --items {items} --depth {depth} --seed {seed}")?;
+    let mut source = MadeSource::new(11, 20_000);
     let mut sink = MemorySink::new(alloc, 8_000_000, &[])?;
-    let status = run_line(rt, alloc, line, &mut source, &mut sink)?;
+    let status = run_line(rt, alloc, &line, &mut source, &mut sink)?;
     assert_eq!(rt; status, Status::Done, "{line}");
     let Ok(text) = str::from_utf8(sink.bytes()) else {
         return Err(Fail::from("no text"));
     };
-    assert!(rt; is_right(alloc, text, rules, calls)?, "{line}");
+    assert!(rt; is_right(alloc, text, &rules, calls)?, "{line}");
     Ok(())
 }
 
@@ -196,23 +212,38 @@ fn expect_right<R: Threads + Abort + Sync>(
 /// and contended for. That the calls are made on the shared words is no clause's to say.
 #[test]
 fn eight_callers_are_certified(rt: HostRuntime) -> Result<(), Fail> {
-    let alloc = rt.alloc();
-    let calls = made_calls(alloc, 11, 20_000)?;
+    let calls = made_calls(rt.alloc(), 11, 20_000)?;
     assert_eq!(rt; calls.len(), 20_000);
     for seed in 0..10 {
-        for (items, depth) in [(8, 10), (2, 8)] {
-            let rules = Rules {
-                items,
-                depth,
-                hashing: Hashing::Mix(seed),
-            };
-            let line = format!(in alloc;
-                "serve --seats 8 --items {items} --depth {depth} --seed {seed}"
-            )?;
-            expect_right(&rt, alloc, &line, 11, &rules, &calls)?;
-        }
+        expect_right(&rt, rt.alloc(), (8, 10, seed), &calls)?;
+        expect_right(&rt, rt.alloc(), (2, 8, seed), &calls)?;
     }
     Ok(())
+}
+
+/// How many replies of each kind there were.
+#[derive(Clone, Copy)]
+struct Counts {
+    new: u32,
+    old: u32,
+    noroom: u32,
+    gone: u32,
+    found: u32,
+    absent: u32,
+}
+
+impl Counts {
+    fn count(&mut self, reply: &Reply) {
+        let kind = match reply {
+            Reply::New => &mut self.new,
+            Reply::Old(_) => &mut self.old,
+            Reply::NoRoom => &mut self.noroom,
+            Reply::Gone(_) => &mut self.gone,
+            Reply::Found(_) => &mut self.found,
+            Reply::Absent => &mut self.absent,
+        };
+        *kind = kind.wrapping_add(1);
+    }
 }
 
 /// What a trial tells of these calls behind its first line, where one caller after the other makes them on a plain map.
@@ -220,57 +251,92 @@ fn tried(alloc: Global, rules: &Rules, calls: &[Call]) -> Result<String, AllocEr
     requires { InRange rules.now }
 {
     let mut map = PlainMap::new(alloc);
-    let mut counts = [0_u32; 6];
+    let mut counts = Counts {
+        new: 0,
+        old: 0,
+        noroom: 0,
+        gone: 0,
+        found: 0,
+        absent: 0,
+    };
     for call in calls {
-        let kind = match map.answer(rules, call)? {
-            Reply::New => 0,
-            Reply::Old(_) => 1,
-            Reply::NoRoom => 2,
-            Reply::Gone(_) => 3,
-            Reply::Found(_) => 4,
-            Reply::Absent => 5,
-        };
-        counts[kind] = counts[kind].wrapping_add(1);
+        counts.count(&map.answer(rules, call)?);
     }
-    let [new, old, noroom, gone, found, absent] = counts;
+    let Counts {
+        new,
+        old,
+        noroom,
+        gone,
+        found,
+        absent,
+    } = counts;
     let all = calls.len();
     let left = map.pairs().len();
+    let replies = format!(in alloc; "new {new} old {old} noroom {noroom} gone {gone}")?;
     format!(in alloc;
-        "calls {all} new {new} old {old} noroom {noroom} gone {gone} found {found} absent {absent} full 0\nsessions {left}\n"
+        "calls {all} {replies} found {found} absent {absent} full 0\nsessions {left}\n"
     )
 }
 
-/// A trial is put, with the counts of a plain map that answers the calls of the made capture, and so at each run. Nothing
-/// is read.
+/// A trial, and the settings that its words name: its number and packets, items, depth and seed.
+#[derive(Clone, Copy)]
+struct Trial {
+    line: &'static str,
+    head: &'static str,
+    made: (u64, u32),
+    settings: (u32, u32, u64),
+}
+
+/// Each trial is put, with the counts of a plain map that answers the calls of the made capture. Nothing is read.
+fn expect_trial<R: Threads + Abort + Sync>(
+    rt: &R,
+    alloc: Global,
+    trial: &Trial,
+) -> Result<(), Fail> {
+    let (items, depth, seed) = trial.settings;
+    let Some(rules) = rules_of(items, depth, seed) else {
+        return Err(Fail::from("settings out of range"));
+    };
+    let mut source = MemorySource::new(alloc, &[], 1, &[1])?;
+    let mut sink = MemorySink::new(alloc, 2000, &[])?;
+    let status = run_line(rt, alloc, trial.line, &mut source, &mut sink)?;
+    assert_eq!(rt; status, Status::Done, "{}", trial.line);
+    let calls = made_calls(alloc, trial.made.0, trial.made.1)?;
+    let counts = tried(alloc, &rules, &calls)?;
+    let text = format!(in alloc; "{}\n{counts}", trial.head)?;
+    assert_eq!(rt; sink.bytes(), text.as_bytes(), "{}", trial.line);
+    assert_eq!(rt; source.read(&mut [0]), Err(Failed), "{}", trial.line);
+    Ok(())
+}
+
+const TRIALS: [Trial; 3] = [
+    Trial {
+        line: "trial --number 0 --packets 3",
+        head: "flowdir trial number 0 packets 3 seats 2 items 8 depth 10 start 0 seed 0",
+        made: (0, 3),
+        settings: (8, 10, 0),
+    },
+    Trial {
+        line: "trial --number 7 --packets 5000 --seats 4",
+        head: "flowdir trial number 7 packets 5000 seats 4 items 8 depth 10 start 0 seed 0",
+        made: (7, 5000),
+        settings: (8, 10, 0),
+    },
+    Trial {
+        line: "trial --number 5 --packets 6000 --seats 1 --items 1 --depth 3 --seed 9",
+        head: "flowdir trial number 5 packets 6000 seats 1 items 1 depth 3 start 0 seed 9",
+        made: (5, 6000),
+        settings: (1, 3, 9),
+    },
+];
+
+/// So it is at each run.
 #[test]
 fn trials_are_as_a_plain_map_counts(rt: HostRuntime) -> Result<(), Fail> {
-    let alloc = rt.alloc();
-    // number, packets, seats, items, depth, seed
-    let rows = [
-        (0, 3, 2, 8, 10, 0),
-        (7, 5000, 4, 8, 10, 0),
-        (7, 5000, 4, 8, 10, 0),
-        (5, 6000, 1, 1, 3, 9),
-    ];
-    for (number, packets, seats, items, depth, seed) in rows {
-        let rules = Rules {
-            items,
-            depth,
-            hashing: Hashing::Mix(seed),
-        };
-        let line = format!(in alloc;
-            "trial --number {number} --packets {packets} --seats {seats} --items {items} --depth {depth} --seed {seed}"
-        )?;
-        let mut source = MemorySource::new(alloc, &[], 1, &[1])?;
-        let mut sink = MemorySink::new(alloc, 2000, &[])?;
-        let status = run_line(&rt, alloc, &line, &mut source, &mut sink)?;
-        assert_eq!(rt; status, Status::Done, "{line}");
-        let counts = tried(alloc, &rules, &made_calls(alloc, number, packets)?)?;
-        let text = format!(in alloc;
-            "flowdir trial number {number} packets {packets} seats {seats} items {items} depth {depth} start 0 seed {seed}\n{counts}"
-        )?;
-        assert_eq!(rt; sink.bytes(), text.as_bytes(), "{line}");
-        assert_eq!(rt; source.read(&mut [0]), Err(Failed), "{line}");
+    for _ in 0..2 {
+        for trial in &TRIALS {
+            expect_trial(&rt, rt.alloc(), trial)?;
+        }
     }
     Ok(())
 }
@@ -296,19 +362,25 @@ fn expect_same<R: Abort>(rt: &R, alloc: Global, one: &str, other: &str) -> Resul
     Ok(())
 }
 
+/// The report of 5,000 packets, served by these words.
+fn served<R: Threads + Abort + Sync>(
+    rt: &R,
+    alloc: Global,
+    line: &str,
+) -> Result<MemorySink, Fail> {
+    let mut source = MadeSource::new(7, 5000);
+    let mut sink = MemorySink::new(alloc, 2_000_000, &[])?;
+    let status = run_line(rt, alloc, line, &mut source, &mut sink)?;
+    assert_eq!(rt; status, Status::Done, "{line}");
+    Ok(sink)
+}
+
 /// Four callers whose calls are dealt by flow answer as one does.
 #[test]
 fn four_callers_answer_as_one(rt: HostRuntime) -> Result<(), Fail> {
     let alloc = rt.alloc();
-    let mut one = MemorySink::new(alloc, 2_000_000, &[])?;
-    let mut four = MemorySink::new(alloc, 2_000_000, &[])?;
-    for (line, sink) in [
-        ("serve --share flow --seats 1", &mut one),
-        ("serve --share flow --seats 4", &mut four),
-    ] {
-        let status = run_line(&rt, alloc, line, &mut MadeSource::new(7, 5000), sink)?;
-        assert_eq!(rt; status, Status::Done, "{line}");
-    }
+    let one = served(&rt, alloc, "serve --share flow --seats 1")?;
+    let four = served(&rt, alloc, "serve --share flow --seats 4")?;
     let (Ok(one), Ok(four)) = (str::from_utf8(one.bytes()), str::from_utf8(four.bytes())) else {
         return Err(Fail::from("no text"));
     };
