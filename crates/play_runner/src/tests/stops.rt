@@ -56,7 +56,7 @@ fn stopped_at(stop: u32) -> Worked<'static> {
 
 #[test]
 fn seat_0_is_stopped_at_each_step(rt: HostRuntime) -> Result<(), Fail> {
-    for stop in 0..60 {
+    for stop in 0..=60 {
         check(&rt, rt.alloc(), &stopped_at(stop))?;
     }
     Ok(())
