@@ -128,20 +128,20 @@ fn tell_one<W: Words>(
     closed: &Closed<W>,
     found: &Found,
     count: &mut [u32; MOST_SEATS],
-    callers: &[bool; MOST_SEATS],
+    comes: bool,
     seat: usize,
     unit: Unit,
     other: usize,
     out: &mut Vec<CallId>,
 ) -> Result<(), AllocError>
     requires other { other < MOST_SEATS }
-    requires callers { slice_index_or callers.now other false ≡ has_call_in found.now unit seat other }
+    requires comes { comes ≡ has_call_in found.now unit seat other }
     ensures out { IfOk result (λ _. out.new.items ≡ out.old.items ++ told_with (map (λ log. log.items)
         closed.now.logs.now) closed.now.begun.now found.now seat unit other (slice_index count.old other)) }
     ensures count { IfOk result (λ _. count.new ≡ slice_set count.old other (count_with (map (λ log. log.items)
         closed.now.logs.now) closed.now.begun.now found.now seat unit other (slice_index count.old other))) }
 {
-    if !callers[other] {
+    if !comes {
         return Ok(());
     }
     match id_at(closed.logs, closed.begun, other, count[other] as usize) {
@@ -154,7 +154,7 @@ fn tell_one<W: Words>(
     }
 }
 
-/// The calls of the unit of the seat's next call are told, in the order of the seats.
+/// The calls of the unit of the seat's next call are told, in the order of the seats. A lookup comes alone.
 #[inline(always)]
 pub(crate) fn tell<W: Words>(
     closed: &Closed<W>,
@@ -164,15 +164,19 @@ pub(crate) fn tell<W: Words>(
     unit: Unit,
     out: &mut Vec<CallId>,
 ) -> Result<(), AllocError>
+    requires { seat < MOST_SEATS }
     ensures out { IfOk result (λ _. out.new.items ≡ out.old.items ++ all_told (map (λ log. log.items)
         closed.now.logs.now) closed.now.begun.now found.now count.old seat unit 0 MOST_SEATS) }
     ensures count { IfOk result (λ _. (other : ℕ) → other < MOST_SEATS → slice_index count.new other ≡
         count_with (map (λ log. log.items) closed.now.logs.now) closed.now.begun.now found.now seat unit
         other (slice_index count.old other)) }
 {
+    if let Unit::Lookup = unit {
+        return tell_one(closed, found, count, true, seat, unit, seat, out);
+    }
     let callers = callers_of(found, unit, seat);
     for other in 0..MOST_SEATS {
-        tell_one(closed, found, count, &callers, seat, unit, other, out)?;
+        tell_one(closed, found, count, callers[other], seat, unit, other, out)?;
     }
     Ok(())
 }

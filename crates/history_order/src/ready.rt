@@ -257,7 +257,7 @@ fn is_none_or_next<W: Words>(
     !callers[other] || is_next_in(closed, found, count, unit, other)
 }
 
-// Whether so it is with each call of the unit.
+// Whether so it is with each call of the unit. A lookup comes alone.
 #[inline(always)]
 fn are_next_in<W: Words>(
     closed: &Closed<W>,
@@ -266,9 +266,13 @@ fn are_next_in<W: Words>(
     seat: usize,
     unit: Unit,
 ) -> bool
+    requires { seat < MOST_SEATS }
     ensures { result ≡ are_next_in (map (λ log. log.items) closed.now.logs.now) closed.now.begun.now
         found.now count.now seat unit }
 {
+    if let Unit::Lookup = unit {
+        return is_next_in(closed, found, count, unit, seat);
+    }
     let callers = callers_of(found, unit, seat);
     for other in 0..MOST_SEATS {
         if !is_none_or_next(closed, found, count, &callers, seat, unit, other) {

@@ -24,19 +24,19 @@ loop-other-preserved g c =
           (all_told logs begun found start seat unit (at + 1) (MOST_SEATS - (at + 1)))
           (all_told logs begun found start seat unit at (MOST_SEATS - at))
           (c.args.out.now.items ++ all_told logs begun found start seat unit 0 MOST_SEATS)
-          c.tell_one.new.out.items
+          c.tell_one-in-loop-other.new.out.items
           (c.in_ok-tell_one.ensures.out ∙ ap (λ n. c.loop-other.out.items
           ++ told_with logs begun found seat unit at n) same)
           (flat_goes told at (MOST_SEATS - at) (MOST_SEATS - (at + 1)) (omega arith)) c.loop-other.invariant.out;
-      done = set_done number c.loop-other.count c.tell_one.new.count at
+      done = set_done number c.loop-other.count c.tell_one-in-loop-other.new.count at
           (count_with logs begun found seat unit at (slice_index c.loop-other.count at)) (omega (
             arith,
             c.loop-other.invariant.long,
           ))
           c.in_ok-tell_one.ensures.count (ap (count_with logs begun found seat unit at) same)
           c.loop-other.invariant.done;
-      long = c.tell_one.array_long;
-      rest = set_rest c.loop-other.count c.tell_one.new.count start at
+      long = c.tell_one-in-loop-other.array_long;
+      rest = set_rest c.loop-other.count c.tell_one-in-loop-other.new.count start at
           (count_with logs begun found seat unit at (slice_index c.loop-other.count at))
           c.in_ok-tell_one.ensures.count c.loop-other.invariant.rest;
     }

@@ -314,3 +314,26 @@ loop-row-preserved g c =
     c.in-Some-unit_in.unit (sym c.unit_in.ensures ∙ c.in-Some-unit_in.is) c.place.new.progress c.tell.new.count
     c.tell.new.out.items
     c.in_ok-place.ensures c.tell.array_long c.in_ok-tell.ensures.count c.in_ok-tell.ensures.out
+
+pub tell-requires : goal.tell-requires
+tell-requires g c =
+    let now : Progress = record {
+      placed = c.loop-row.progress.placed;
+      looks = c.loop-row.progress.looks;
+      latest = c.loop-row.progress.latest;
+      aside = c.pop.new.self;
+    } in
+    let none : c.pop.new.self.items ≡ c.loop-row.progress.aside.items =
+    sym (c.in_default.ensures.items ∙ append-nil c.pop.new.self.items) in
+    let runs = runs_same (shape_of c.args.closed.now.starts.now.layout)
+    (g.W.Words.words c.args.closed.now.words.now) (map (λ log. log.items) c.args.closed.now.logs.now)
+    c.args.closed.now.begun.now c.args.found.now c.loop-row.progress c.loop-row.count c.args.out.now.items
+    c.loop-row.out.items c.loop-row.invariant now refl refl refl none in
+    let empty : c.pop.new.self.items ≡ [] = empty_of c.pop.new.self.items (omega (arith, c.in_default.ensures.cases)) in
+    let few = seat_few (shape_of c.args.closed.now.starts.now.layout)
+    (g.W.Words.words c.args.closed.now.words.now) (map (λ log. log.items) c.args.closed.now.logs.now)
+    c.args.closed.now.begun.now c.args.found.now now c.loop-row.count c.args.out.now.items c.loop-row.out.items runs
+    empty
+    (sym c.is_version_due.ensures ∙ c.if-is_version_due.false) c.in-Some-next_seat.seat (sym c.next_seat.ensures
+    ∙ c.in-Some-next_seat.is) in
+    omega (arith, few)
