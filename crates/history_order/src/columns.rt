@@ -1,4 +1,4 @@
-//! The columns of the tables, by bucket row or by a call's number.
+//! The columns of the tables, by bucket row or by a call's number, each in memory that was kept.
 //!
 //! The only error of each is want of memory.
 
@@ -30,16 +30,17 @@ ghost use Rattle.history_order.specs.declared.tables.Unit.TheVariants.{Lookup, R
 use crate::tables::{Unit, Version};
 use closed_words::{Starts, Words, new_number, row_base};
 use plain_map::{Call, MOST_SEATS, Record};
-use std::alloc::{AllocError, Global};
+use std::alloc::AllocError;
 
-// So many equal entries.
-pub(crate) fn column<T: Copy>(alloc: Global, many: u64, value: T) -> Result<Vec<T>, AllocError>
+// So many equal entries, in the memory of a column that was.
+pub(crate) fn column<T: Copy>(kept: Vec<T>, many: u64, value: T) -> Result<Vec<T>, AllocError>
     ensures len { IfOk result (λ column. length column.items ≡ many) }
     ensures reads { IfOk result (λ column. (place : ℕ) → slice_index_or column.items place value ≡ value) }
     ensures within { IfOk result (λ column. (place : ℕ) (d : T) → place < many →
         slice_index_or column.items place d ≡ value) }
 {
-    let mut column = Vec::new(alloc);
+    let mut column = kept;
+    column.clear();
     column.resize(many as usize, value)?;
     Ok(column)
 }
@@ -94,7 +95,7 @@ pub(crate) fn callers_in<W: Words>(starts: &Starts, words: &W, rows: &[u64]) -> 
 
 /// By bucket row: the one of these rows that was made from it.
 pub(crate) fn next<W: Words>(
-    alloc: Global,
+    kept: Vec<Option<u64>>,
     starts: &Starts,
     words: &W,
     exchanged: &[u64],
@@ -104,7 +105,7 @@ pub(crate) fn next<W: Words>(
         ≡ after_all (base_in (shape_of starts.now.layout) (W.words words.now)) (λ row. Some row) place
         (count_of (shape_of starts.now.layout) BucketRows) exchanged.now None) }
 {
-    let mut next = column(alloc, starts.bucket_row_count(), None)?;
+    let mut next = column(kept, starts.bucket_row_count(), None)?;
     for row in exchanged {
         put(&mut next, row_base(starts, words, *row), Some(*row));
     }
@@ -113,7 +114,7 @@ pub(crate) fn next<W: Words>(
 
 /// By bucket row and seat, whether the seat's update is new in it, if it is one of these rows.
 pub(crate) fn callers<W: Words>(
-    alloc: Global,
+    kept: Vec<[bool; MOST_SEATS]>,
     starts: &Starts,
     words: &W,
     exchanged: &[u64],
@@ -124,7 +125,7 @@ pub(crate) fn callers<W: Words>(
         ≡ after_all (λ row. Some row) (λ row. is_caller (shape_of starts.now.layout) (W.words words.now) (row ∷ []) seat)
         place (count_of (shape_of starts.now.layout) BucketRows) exchanged.now false) }
 {
-    let mut callers = column(alloc, starts.bucket_row_count(), [false; MOST_SEATS])?;
+    let mut callers = column(kept, starts.bucket_row_count(), [false; MOST_SEATS])?;
     write_callers(starts, words, exchanged, &mut callers);
     Ok(callers)
 }
@@ -147,13 +148,17 @@ fn write_callers<W: Words>(
 }
 
 /// By bucket row, whether it is one of these.
-pub(crate) fn placed(alloc: Global, starts: &Starts, rows: &[u64]) -> Result<Vec<bool>, AllocError>
+pub(crate) fn placed(
+    kept: Vec<bool>,
+    starts: &Starts,
+    rows: &[u64],
+) -> Result<Vec<bool>, AllocError>
     ensures rows { IfOk result (λ placed. length placed.items ≡ count_of (shape_of starts.now.layout) BucketRows) }
     ensures placed { IfOk result (λ placed. (place : ℕ) → slice_index_or placed.items place false
         ≡ after_all (λ row. Some row) (λ row. true) place
         (count_of (shape_of starts.now.layout) BucketRows) rows.now false) }
 {
-    let mut placed = column(alloc, starts.bucket_row_count(), false)?;
+    let mut placed = column(kept, starts.bucket_row_count(), false)?;
     for row in rows {
         put(&mut placed, Some(*row), true);
     }
@@ -162,7 +167,7 @@ pub(crate) fn placed(alloc: Global, starts: &Starts, rows: &[u64]) -> Result<Vec
 
 /// By bucket row: its lookups among these records.
 pub(crate) fn looks(
-    alloc: Global,
+    kept: Vec<u64>,
     starts: &Starts,
     logs: &[Vec<Record>],
 ) -> Result<Vec<u64>, AllocError>
@@ -170,7 +175,7 @@ pub(crate) fn looks(
     ensures looks { IfOk result (λ looks. (place : ℕ) → place < count_of (shape_of starts.now.layout) BucketRows →
         slice_index_or looks.items place 0 ≡ looks_in (flat_map (λ log. log.items) logs.now) place) }
 {
-    let mut looks = column(alloc, starts.bucket_row_count(), 0)?;
+    let mut looks = column(kept, starts.bucket_row_count(), 0)?;
     for log in logs {
         add_looks(&mut looks, log)?;
     }
@@ -207,7 +212,7 @@ pub(crate) fn is_lookup(answered: &Record) -> bool
 
 /// Those of the rows in which no update is new, of which the column of callers tells.
 pub(crate) fn free<W: Words>(
-    alloc: Global,
+    kept: Vec<u64>,
     starts: &Starts,
     words: &W,
     callers: &[[bool; MOST_SEATS]],
@@ -219,7 +224,8 @@ pub(crate) fn free<W: Words>(
     ensures { IfOk result (λ free. free.items
         ≡ filter (λ row. is_free (shape_of starts.now.layout) (W.words words.now) (row ∷ [])) exchanged.now) }
 {
-    let mut free = Vec::new(alloc);
+    let mut free = kept;
+    free.clear();
     for row in exchanged {
         if is_row_free(starts, words, callers, *row) {
             free.push(*row)?;

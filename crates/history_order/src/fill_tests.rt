@@ -1,7 +1,7 @@
 ghost use Rattle.std.specs.Prelude.{◌≡◌};
 
 use crate::finding::fill;
-use crate::tables::Unit;
+use crate::tables::{Tables, Unit};
 use closed_words::Starts;
 use plain_map::{Call, Key, MOST_SEATS, Record, Reply, Seen};
 use std::alloc::{AllocError, Global};
@@ -86,7 +86,8 @@ fn fills_a_small_table(rt: HostRuntime) -> Result<(), Fail> {
     let words = small_words(alloc)?;
     let mut logs = Vec::new(alloc);
     logs.push(small_log(alloc)?)?;
-    let tables = fill(alloc, &starts, &words, &logs)?;
+    let kept = fill(alloc, Tables::new(alloc), &starts, &words, &logs)?;
+    let tables = fill(alloc, kept, &starts, &words, &logs)?;
     let found = &tables.found;
     assert_eq!(rt;
         found.next.as_slice(),

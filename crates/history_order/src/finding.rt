@@ -1,4 +1,4 @@
-//! The tables, from the words.
+//! The tables, from the words, in the memory of those that were.
 //!
 //! The only error of each is want of memory.
 
@@ -25,6 +25,7 @@ use std::alloc::{AllocError, Global};
 /// The tables, with these records of each seat.
 pub(crate) fn fill<W: Words>(
     alloc: Global,
+    kept: Tables,
     starts: &Starts,
     words: &W,
     logs: &[Vec<Record>],
@@ -40,9 +41,12 @@ pub(crate) fn fill<W: Words>(
     rows.reverse();
     let leaves = leaves(alloc, starts, words, &rows)?;
     let exchanged = exchanged(alloc, starts, words, &leaves)?;
-    let found = find(alloc, starts, words, logs, &rows, &leaves, &exchanged)?;
+    let found = find(
+        alloc, kept.found, starts, words, logs, &rows, &leaves, &exchanged,
+    )?;
     let progress = begin(
         alloc,
+        kept.progress,
         starts,
         words,
         logs,
@@ -56,6 +60,7 @@ pub(crate) fn fill<W: Words>(
 // What the words tell, with these directory rows from the opening on, their buckets and the exchanged rows.
 fn find<W: Words>(
     alloc: Global,
+    kept: Found,
     starts: &Starts,
     words: &W,
     logs: &[Vec<Record>],
@@ -71,9 +76,9 @@ fn find<W: Words>(
     ensures { IfOk result (IsFound (shape_of starts.now.layout) (W.words words.now) (map (λ log. log.items) logs.now)) }
 {
     let versions = versions(alloc, starts, words, rows, leaves)?;
-    let units = units(alloc, starts, words, exchanged, &versions, logs)?;
-    let next = next(alloc, starts, words, exchanged)?;
-    let callers = callers(alloc, starts, words, exchanged)?;
+    let units = units(alloc, kept.units, starts, words, exchanged, &versions, logs)?;
+    let next = next(kept.next, starts, words, exchanged)?;
+    let callers = callers(kept.callers, starts, words, exchanged)?;
     Ok(Found {
         next,
         callers,
@@ -85,6 +90,7 @@ fn find<W: Words>(
 // How the turns begin: the opening's rows are placed, and no call is.
 fn begin<W: Words>(
     alloc: Global,
+    kept: Progress,
     starts: &Starts,
     words: &W,
     logs: &[Vec<Record>],
@@ -102,9 +108,9 @@ fn begin<W: Words>(
     ensures { IfOk result (IsBegun (shape_of starts.now.layout) (W.words words.now) (map (λ log. log.items) logs.now)) }
 {
     let opening = firsts(alloc, starts, words, opening(leaves))?;
-    let placed = placed(alloc, starts, &opening)?;
-    let looks = looks(alloc, starts, logs)?;
-    let aside = free(alloc, starts, words, callers, exchanged)?;
+    let placed = placed(kept.placed, starts, &opening)?;
+    let looks = looks(kept.looks, starts, logs)?;
+    let aside = free(kept.aside, starts, words, callers, exchanged)?;
     Ok(Progress {
         placed,
         looks,

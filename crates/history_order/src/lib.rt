@@ -19,3 +19,4 @@ mod unit_lists;
 
 pub use laws::turns_reach;
 pub use run_order::order;
+pub use tables::Tables;

@@ -13,11 +13,13 @@ use crate::turns::turns;
 use closed_words::{Starts, Words};
 use plain_map::{CallId, Pending, Record};
 use std::alloc::{AllocError, Global};
+use std::mem;
 
 /// The names of the calls of a closed table in their one order, from its words, the records of each seat and the calls
-/// that had begun. The only error is want of memory.
+/// that had begun, whatever the tables hold before. The only error is want of memory.
 pub fn order<W: Words>(
     alloc: Global,
+    tables: &mut Tables,
     starts: &Starts,
     words: &W,
     logs: &[Vec<Record>],
@@ -27,10 +29,11 @@ pub fn order<W: Words>(
     ensures { IfOk result (λ order. order.items ≡ ids_of (order_of (shape_of starts.now.layout)
         (closing_with (W.words words.now) (map (λ log. log.items) logs.now) begun.now))) }
 {
+    let kept = mem::replace(tables, Tables::new(alloc));
     let Tables {
         found,
         mut progress,
-    } = fill(alloc, starts, words, logs)?;
+    } = fill(alloc, kept, starts, words, logs)?;
     let closed = Closed {
         starts,
         words,
@@ -39,5 +42,6 @@ pub fn order<W: Words>(
     };
     let mut out = Vec::new(alloc);
     turns(&closed, &found, &mut progress, &mut out)?;
+    *tables = Tables { found, progress };
     Ok(out)
 }

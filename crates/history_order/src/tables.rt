@@ -1,6 +1,7 @@
 //! The tables by which the turns are made: what the words tell, and how far the turns are.
 
 use plain_map::MOST_SEATS;
+use std::alloc::Global;
 
 /// What is placed at once. A lookup is known by its call.
 #[derive(Clone, Copy, Debug, PartialEq, Eq)]
@@ -49,9 +50,30 @@ pub(crate) struct Progress {
     pub aside: Vec<u64>,
 }
 
-/// All of them.
+/// The tables of an order. They can be kept from one order to the next, which then fills the same memory. What they
+/// hold between two orders tells nothing.
 #[derive(Debug, Drop)]
-pub(crate) struct Tables {
-    pub found: Found,
-    pub progress: Progress,
+pub struct Tables {
+    pub(crate) found: Found,
+    pub(crate) progress: Progress,
+}
+
+impl Tables {
+    /// None yet. They become as large as an order needs.
+    pub fn new(alloc: Global) -> Tables {
+        Tables {
+            found: Found {
+                next: Vec::new(alloc),
+                callers: Vec::new(alloc),
+                units: Vec::new(alloc),
+                versions: Vec::new(alloc),
+            },
+            progress: Progress {
+                placed: Vec::new(alloc),
+                looks: Vec::new(alloc),
+                latest: 0,
+                aside: Vec::new(alloc),
+            },
+        }
+    }
 }

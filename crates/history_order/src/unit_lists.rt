@@ -64,9 +64,10 @@ fn version<W: Words>(
     })
 }
 
-/// The units, by seat and number.
+/// The units, by seat and number, in the memory of those that were.
 pub(crate) fn units<W: Words>(
     alloc: Global,
+    mut kept: Vec<Vec<Option<Unit>>>,
     starts: &Starts,
     words: &W,
     exchanged: &[u64],
@@ -81,9 +82,18 @@ pub(crate) fn units<W: Words>(
     let mut units = Vec::new(alloc);
     for seat in 0..starts.layout.settings().seats {
         let log = log_of(logs, seat);
-        units.push(units_of(alloc, starts, words, exchanged, versions, log, seat)?)?;
+        let room = take_room(alloc, &mut kept);
+        units.push(units_of(room, starts, words, exchanged, versions, log, seat)?)?;
     }
     Ok(units)
+}
+
+// Takes the last out, if there is one.
+fn take_room(alloc: Global, kept: &mut Vec<Vec<Option<Unit>>>) -> Vec<Option<Unit>> {
+    match kept.pop() {
+        Some(room) => room,
+        None => Vec::new(alloc),
+    }
 }
 
 /// The records of a seat.
@@ -99,7 +109,7 @@ pub(crate) fn log_of(logs: &[Vec<Record>], seat: u32) -> &[Record]
 
 // Those of a seat.
 fn units_of<W: Words>(
-    alloc: Global,
+    kept: Vec<Option<Unit>>,
     starts: &Starts,
     words: &W,
     exchanged: &[u64],
@@ -110,7 +120,7 @@ fn units_of<W: Words>(
     ensures { IfOk result (λ units. (place : ℕ) → slice_index_or units.items place None
         ≡ unit_at (shape_of starts.now.layout) (W.words words.now) exchanged.now versions.now log.now seat place) }
 {
-    let mut units = column(alloc, log.len() as u64 + 1, None)?;
+    let mut units = column(kept, log.len() as u64 + 1, None)?;
     write_rows(starts, words, exchanged, seat, &mut units);
     write_versions(starts, words, versions, seat, &mut units);
     write_lookups(log, &mut units);
