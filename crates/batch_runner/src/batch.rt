@@ -67,7 +67,8 @@ pub fn serve_batch<R: Threads + Sync, G: Gate + Sync>(
     let (closed, logs) = close_batch(rt, alloc, service, workspace, first, calls, gate)?;
     let records = records_of(alloc, &logs)?;
     let starts = Starts::new(closed.layout());
-    let order = order(alloc, &starts, &closed, &records, &[])?;
+    let tables = &mut workspace.tables;
+    let order = order(alloc, tables, &starts, &closed, &records, &[])?;
     let batch = told(alloc, service, first, calls, &closed, &logs)?;
     workspace.blank.keep(closed);
     Ok((batch, order))

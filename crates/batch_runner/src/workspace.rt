@@ -1,5 +1,6 @@
 //! What is kept from one batch to the next, so that a batch takes little memory anew.
 
+use history_order::Tables;
 use shared_table::Blank;
 use std::alloc::Global;
 
@@ -8,6 +9,8 @@ use std::alloc::Global;
 pub struct Workspace {
     /// The words of a table.
     pub(crate) blank: Blank,
+    /// The tables of an order.
+    pub(crate) tables: Tables,
 }
 
 impl Workspace {
@@ -15,6 +18,7 @@ impl Workspace {
     pub fn new(alloc: Global) -> Workspace {
         Workspace {
             blank: Blank::new(alloc),
+            tables: Tables::new(alloc),
         }
     }
 }

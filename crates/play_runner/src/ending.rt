@@ -11,7 +11,7 @@ ghost use Rattle.play_runner.specs.Told.{AreTold, play_with};
 use crate::values::Played;
 use closed_words::Starts;
 use core_world::{CoreEnd, CoreWorld};
-use history_order::order;
+use history_order::{Tables, order};
 use std::alloc::{AllocError, Global};
 use trace_share::Outcome;
 
@@ -52,7 +52,15 @@ pub(crate) fn ended(
         Err((failed, _)) => return Err(failed),
     };
     let starts = Starts::new(&left.rows.layout);
-    let order = order(alloc, &starts, &left.rows, &left.logs, &left.begun)?;
+    let mut tables = Tables::new(alloc);
+    let order = order(
+        alloc,
+        &mut tables,
+        &starts,
+        &left.rows,
+        &left.logs,
+        &left.begun,
+    )?;
     let outcomes = by_packet(outcomes)?;
     let CoreEnd {
         begun,
