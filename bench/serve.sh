@@ -43,11 +43,23 @@ awk '{ if (!($1 in least) || $2 < least[$1]) least[$1] = $2; if ($3 > most[$1]) 
             least["serve1"] / least["tcpdump"], least["serve2"] / least["tcpdump"], least["trial"] / least["softflowd"]
     }' "$work/times"
 
-# The cost of a packet by the length of the capture.
+# The cost of a packet by the length of the capture, and of none. The shortest are served many times more, since they are over in
+# some milliseconds, of which the start of the program is a part.
 rm "$work/times"
-for many in 10000 100000 1000000 "$packets"; do
+for many in 0 10000 100000 1000000 "$packets"; do
     "$flowdir" make --number 0 --packets "$many" >"$file"
-    for _ in $(seq "$turns"); do timed "$many" "$flowdir" serve --seats 2; done
+    times="$turns"
+    [ "$many" -gt 100000 ] || times=$((turns * 20))
+    for _ in $(seq "$times"); do
+        start="$EPOCHREALTIME"
+        "$flowdir" serve --seats 2 <"$file" >"$work/out"
+        echo "$many ${start/[.,]/} ${EPOCHREALTIME/[.,]/}" >>"$work/times"
+    done
 done
-awk '{ if (!($1 in least) || $2 < least[$1]) least[$1] = $2 }
-    END { for (many in least) printf "%s packets: %.0f ns a packet\n", many, least[many] / many * 1e9 }' "$work/times" | sort -n
+awk '{ took = $3 - $2; if (!($1 in least) || took < least[$1]) least[$1] = took }
+    END {
+        for (many in least) {
+            if (many == 0) printf "%s packets: %.1f ms in all\n", many, least[many] / 1e3
+            else printf "%s packets: %.0f ns a packet\n", many, least[many] / many * 1e3
+        }
+    }' "$work/times" | sort -n

@@ -51,14 +51,16 @@ FirstPairsDoNotAsk =
 abbrev pub SeatsGoAsPrograms : Type 0
 SeatsGoAsPrograms =
     (setup : Setup) (seat : ℕ) (account : Account) (flight : Flight) (word : ℕ) (phase : Phase) →
-    Beside account (state_after setup seat account flight phase word) (state_after (without_first setup) seat (blank account.used) flight phase word)
+    Beside account (state_after setup seat account flight phase word)
+    (state_after (without_first setup) seat (blank account.used) flight phase word)
 
 -- a step ends the call, or the call goes on
 abbrev pub StepsEndOrGoOn : Type 0
 StepsEndOrGoOn =
     (setup : Setup) (seat : ℕ) (used : SeatRows) (flight : Flight) (word : ℕ) (phase : Phase) →
     IsOnWord setup.shape (ask_in setup seat used flight phase) →
-    GoesOn flight (state_after setup seat (blank used) flight phase word) ⊎ Ends seat used flight (state_after setup seat (blank used) flight phase word)
+    GoesOn flight (state_after setup seat (blank used) flight phase word)
+    ⊎ Ends seat used flight (state_after setup seat (blank used) flight phase word)
 
 -- what fits a step with first pairs fits it without them
 abbrev pub FitsWithoutFirst : Type 0
@@ -66,13 +68,17 @@ FitsWithoutFirst =
     (setup : Setup) (seat : ℕ) (used : SeatRows) (flight : Flight) (phase : Phase) (word : ℕ) →
     StepFits setup seat used flight phase word → StepFits (without_first setup) seat used flight phase word
 
--- whoever has the run can take its steps: core_world by the run that it keeps, shared_table by the one that its play tells
+-- whoever has the run can take its steps: core_world by the run that it keeps, shared_table by the one that its play
+-- tells
 abbrev pub RunsCanBeTaken : Type 0
 RunsCanBeTaken =
-    EveryStepFits → (setup : Setup) (events : List Event) (seat : ℕ) (asked : ℕ × Call) (state : SeatState) (word : ℕ) → IsRun setup events →
-    seat < seats_of setup → seat_in (world_after setup events) seat ≡ state → MayStep setup seat asked state.account state.stand →
+    EveryStepFits → (setup : Setup) (events : List Event) (seat : ℕ) (asked : ℕ × Call) (state : SeatState) (word : ℕ)
+    → IsRun setup events →
+    seat < seats_of setup → seat_in (world_after setup events) seat ≡ state
+    → MayStep setup seat asked state.account state.stand →
     word ≡ found_by setup (ask_of setup seat asked state) (world_after setup events).words →
-    CanTake (program_at setup seat state.account (InFlight (flight_in state.account state.stand asked) (phase_in state.stand))) word
+    CanTake (program_at setup seat state.account
+    (InFlight (flight_in state.account state.stand asked) (phase_in state.stand))) word
 
 -- and the program then is that of the seat after it, whose records grew by what the program answers
 abbrev pub ProgramsFollow : Type 0

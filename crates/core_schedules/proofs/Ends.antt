@@ -30,7 +30,8 @@ module _ (setup : Setup) (calls : List (List (ℕ × Call))) (stops : List (Opti
           (All-get_or (λ (own : List (ℕ × Call)). All IsPlayable own) calls seat [] h can.playable);
       few = omega (arith, All-get_or (λ (own : List (ℕ × Call)). length own ≤ 2 ^ 32 - 1) calls seat [] h can.few);
     }
-    | inr n ↦ subst (λ (own : List (ℕ × Call)). IsDealt fresh_seat (record { calls = own; may = get_or stops seat None }))
+    | inr n ↦ subst (λ (own : List (ℕ × Call)). IsDealt fresh_seat
+        (record { calls = own; may = get_or stops seat None }))
         (sym (get_or_past calls seat [] n)) (record { calls = tt; few = omega arith })
   ]
 
@@ -56,7 +57,8 @@ module _ (setup : Setup) where
   -- so many slots of a seat keep a play a run
   pub slots_good : (seat many : ℕ) (play : Play) → IsGood setup play → IsGood setup (slots setup seat many play)
   slots_good seat zero play good = good
-  slots_good seat (suc many) play good = slots_good seat many (slot setup seat play) (slot_keeps setup seat play good).good
+  slots_good seat (suc many) play good =
+      slots_good seat many (slot setup seat play) (slot_keeps setup seat play good).good
 
   -- and so do the segments of a schedule
   pub schedule_good : (schedule : List Segment) (play : Play) → IsGood setup play →
@@ -64,7 +66,8 @@ module _ (setup : Setup) where
   schedule_good [] play good = good
   schedule_good (segment ∷ schedule) play good =
       schedule_good schedule (run_segment setup play segment) (slots_good segment.seat
-      (option_map_or (λ many. many) segment.slots (most_slots (settings_of setup) (hand_of play segment.seat))) play good)
+      (option_map_or (λ many. many) segment.slots (most_slots (settings_of setup) (hand_of play segment.seat))) play
+      good)
 
   -- what a seat may still need, and that it needs no more than so many slots
   abbrev pub left_in : Play → (seat : ℕ) → ℕ
@@ -86,7 +89,8 @@ module _ (setup : Setup) where
   slot_own : (n seat : ℕ) (play : Play) → IsGood setup play → seat < seats_of setup → IsWithin (suc n) play seat →
       IsWithin n (slot setup seat play) seat
   slot_own n seat play good h within = elim within [
-    | inl stopped ↦ subst (λ (after : Play). IsWithin n after seat) (sym (stopped_stays seat play stopped)) (inl stopped)
+    | inl stopped ↦ subst (λ (after : Play). IsWithin n after seat) (sym (stopped_stays seat play stopped))
+        (inl stopped)
     | inr few ↦ elim (slot_keeps setup seat play good).nearer [
       | inl w ↦ subst (λ (after : Play). IsWithin n after seat) (sym w.1) (inl w.0)
       | inr near ↦ inr (omega (arith, near h, few))
@@ -134,7 +138,8 @@ module _ (setup : Setup) where
   -- a seat needs no more slots than there are rounds
   left_few : (calls : ℕ) (stand : Stand) →
       left_at (call_steps (settings_of setup)) calls stand ≤ (calls + 1) * call_steps (settings_of setup)
-  left_few calls Idle = omega (arith, add-mul calls 1 (call_steps (settings_of setup)), one-mul (call_steps (settings_of setup)))
+  left_few calls Idle =
+      omega (arith, add-mul calls 1 (call_steps (settings_of setup)), one-mul (call_steps (settings_of setup)))
   left_few calls (InFlight flight phase) =
       omega (arith, add-mul calls 1 (call_steps (settings_of setup)), one-mul (call_steps (settings_of setup)))
 

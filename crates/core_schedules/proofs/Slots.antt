@@ -58,7 +58,8 @@ module _ (setup : Setup) (seat : ℕ) (h : seat < seats_of setup) where
         (seat_in (fold (happens setup) from (map (λ begin. record { seat = seat; begin = Some begin }) tried)) seat)
         (length untried)
     pub nearer : left_at most (length untried)
-        (seat_in (fold (happens setup) from (map (λ begin. record { seat = seat; begin = Some begin }) tried)) seat).stand
+        (seat_in (fold (happens setup) from (map (λ begin. record { seat = seat; begin = Some begin }) tried))
+        seat).stand
         ≤ bound
 
   -- a call takes some step
@@ -143,14 +144,16 @@ module _ (setup : Setup) (seat : ℕ) (h : seat < seats_of setup) where
             let goes : happens setup w (record { seat = seat; begin = Some begin })
             ≡ step_of setup w seat account (begun account begin.0 begin.1) SeeDone =
             begins begin ∙ steps begin (refusal_of setup seat account begin.1) e in
-            let state = step_same setup w seat account (begun account begin.0 begin.1) SeeDone (omega (arith, long, h)) in
+            let state = step_same setup w seat account (begun account begin.0 begin.1) SeeDone (omega (arith, long, h))
+            in
             record {
               follow = (event, tt);
               others = λ q n. ap (λ (x : World). seat_in x q) goes
                   ∙ step_other setup w seat q account (begun account begin.0 begin.1) SeeDone n;
               long = ap (λ (x : World). length x.seats) goes ∙ length-set w.seats seat _;
               calls = p.1;
-              few = subst (λ (s : SeatState). CanCountOn s (length calls)) (sym (ap (λ (x : World). seat_in x seat) goes ∙ state))
+              few = subst (λ (s : SeatState). CanCountOn s (length calls))
+                  (sym (ap (λ (x : World). seat_in x seat) goes ∙ state))
                   (omega (arith, few));
               nearer = subst (λ (s : SeatState). left_at most (length calls) s.stand ≤ suc (length calls) * most - 1)
                   (sym (ap (λ (x : World). seat_in x seat) goes ∙ state)) (omega (arith, one, some_steps));
@@ -269,7 +272,8 @@ module _ (setup : Setup) (seat : ℕ) (h : seat < seats_of setup) (w : World)
         long = ap (λ (x : World). length x.seats) goes ∙ length-set w.seats seat _;
         dealt = record {
           calls = dealt.calls;
-          few = subst (λ (s : SeatState). CanCountOn s (length hand.calls)) (sym state) (omega (arith, dealt.few, on.0));
+          few = subst (λ (s : SeatState). CanCountOn s (length hand.calls)) (sym state)
+              (omega (arith, dealt.few, on.0));
         };
         nearer = subst (λ (s : SeatState). left_at (call_steps (settings_of setup)) (length hand.calls) s.stand
             ≤ length hand.calls * call_steps (settings_of setup) + (call_steps (settings_of setup) - flight.steps) - 1)
@@ -280,7 +284,8 @@ module _ (setup : Setup) (seat : ℕ) (h : seat < seats_of setup) (w : World)
 most_of_all : (setup : Setup) (call : Call) → most_steps (settings_of setup) call ≤ call_steps (settings_of setup)
 most_of_all setup call = go (is_update call)
   where
-    go : (b : Bool) → cond b (step_bound (settings_of setup)) (lookup_steps (settings_of setup) (settings_of setup).items)
+    go : (b : Bool) → cond b (step_bound (settings_of setup))
+        (lookup_steps (settings_of setup) (settings_of setup).items)
         ≤ max (step_bound (settings_of setup)) (lookup_steps (settings_of setup) (settings_of setup).items)
     go true = omega arith
     go false = omega arith

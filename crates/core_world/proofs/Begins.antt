@@ -54,7 +54,8 @@ module _ (shape : Shape) (words : List ℕ) (setup : Setup) (events : List Event
       p ≡ program_at setup seat account stand → FitsStand account stand (Some begin) →
       refusal_of setup seat account begin.1 ≡ None → q ≡ begins p begin →
       ((s : AtStep shape words q) → Advanced s now after stepped) →
-      Happened setup (world_after setup events) seat account (record { seat = seat; begin = Some begin }) now after stepped
+      Happened setup (world_after setup events) seat account (record { seat = seat; begin = Some begin }) now after
+      stepped
   begun_happens Idle begin p q now after stepped at program given room q_is advanced =
       advanced (begun_at Idle begin p q at program given room q_is)
   begun_happens (InFlight flight phase) begin p q now after stepped at program given room q_is advanced =

@@ -143,6 +143,7 @@ module _ (shape : Shape) (words : List ℕ) (p : Program) (s : AtStep shape word
           grown =
               ap (λ (x : SeatState). x.account.records) here ∙ follow.1
               ∙ ap (λ (rs : List Record). s.state.account.records ++ rs)
-              (sym (ended_all small (one law ends)) ∙ ap (λ (o : Option Record). ended_in (stepped_for o)) (sym made_small)
+              (sym (ended_all small (one law ends))
+              ∙ ap (λ (o : Option Record). ended_in (stepped_for o)) (sym made_small)
               ∙ ap ended_in (sym stepped_is));
         }

@@ -92,7 +92,8 @@ logs_follow setup w event stepped logs h long are grown =
           ∙ sym (after q)
     ])
   where
-    read : (seats : List SeatState) (q : ℕ) → get_or (all_records seats) q [] ≡ (get_or seats q fresh_seat).account.records
+    read : (seats : List SeatState) (q : ℕ) → get_or (all_records seats) q []
+        ≡ (get_or seats q fresh_seat).account.records
     read [] q = refl
     read (state ∷ seats) zero = refl
     read (state ∷ seats) (suc q) = read seats q

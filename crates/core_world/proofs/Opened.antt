@@ -22,7 +22,8 @@ use Rattle.core_world.specs.Moments.{AreResting, StandsIn, program_of}
 length_puts : (shape : Shape) (words : List ℕ) (puts : List Put) → length (with_puts shape words puts) ≡ length words
 length_puts shape words [] = refl
 length_puts shape words (put ∷ puts) =
-    length_puts shape (set words (place shape put.address) put.word) puts ∙ length-set words (place shape put.address) put.word
+    length_puts shape (set words (place shape put.address) put.word) puts
+    ∙ length-set words (place shape put.address) put.word
 
 -- an opening has all words of its table
 pub opening_long : (setup : Setup) → length (opening_words setup) ≡ word_count setup.shape

@@ -20,13 +20,16 @@ pub length_2 : (n : ℕ) → 10 ≤ n → n < 100 → length (decimal n) ≡ 2
 length_2 n low high = omega (arith, length_step n low (omega arith), length_1 (n / 10) (omega arith))
 
 pub length_3 : (n : ℕ) → 100 ≤ n → n < 1000 → length (decimal n) ≡ 3
-length_3 n low high = omega (arith, length_step n (omega arith) (omega arith), length_2 (n / 10) (omega arith) (omega arith))
+length_3 n low high =
+    omega (arith, length_step n (omega arith) (omega arith), length_2 (n / 10) (omega arith) (omega arith))
 
 pub length_4 : (n : ℕ) → 1000 ≤ n → n < 10000 → length (decimal n) ≡ 4
-length_4 n low high = omega (arith, length_step n (omega arith) (omega arith), length_3 (n / 10) (omega arith) (omega arith))
+length_4 n low high =
+    omega (arith, length_step n (omega arith) (omega arith), length_3 (n / 10) (omega arith) (omega arith))
 
 pub length_5 : (n : ℕ) → 10000 ≤ n → n < 100000 → length (decimal n) ≡ 5
-length_5 n low high = omega (arith, length_step n (omega arith) (omega arith), length_4 (n / 10) (omega arith) (omega arith))
+length_5 n low high =
+    omega (arith, length_step n (omega arith) (omega arith), length_4 (n / 10) (omega arith) (omega arith))
 
 -- the digits of a number below 1000
 digits_2 : (n : ℕ) → 10 ≤ n → n < 100 → decimal n ≡ (48 + n / 10) ∷ (48 + n % 10) ∷ []
@@ -66,7 +69,8 @@ octet_text n small =
             ∙ sym (digits_2 n (omega arith) (omega arith))
         | inr high ↦
             (λ i. take (length_3 n (omega arith) (omega arith) i)
-            ((row_at n small ∙ sym (cond_above n 10 _ _ _ (omega arith) (cond_above n 100 _ _ _ (omega arith) refl))) i))
+            ((row_at n small ∙ sym (cond_above n 10 _ _ _ (omega arith) (cond_above n 100 _ _ _ (omega arith) refl)))
+            i))
             ∙ sym (digits_3 n (omega arith) (omega arith))
       ]
     ]

@@ -21,7 +21,8 @@ pub returns-in-Some : goal.returns-in-Some
 returns-in-Some c = record {
   len = c.perform-word.ensures.len;
   advanced = λ s.
-      followed (shape_of c.args.layout.now) c.args.words.now.items c.args.machine.now s c.next-ask.result c.next-ask.ensures
+      followed (shape_of c.args.layout.now) c.args.words.now.items c.args.machine.now s c.next-ask.result
+      c.next-ask.ensures
       c.program_laws.ensures.asks c.perform-word.result c.perform-word.ensures.word c.fits_laws.ensures.fits
       c.program_laws.ensures.follow c.program_laws.ensures.ends _ _ c.take.result _ c.perform-word.ensures.words
       c.take.ensures.value c.take.ensures.made (ap stepped_for (sym c.in-Some.is));
@@ -31,7 +32,8 @@ pub returns-in-None : goal.returns-in-None
 returns-in-None c = record {
   len = c.perform-word.ensures.len;
   advanced = λ s.
-      followed (shape_of c.args.layout.now) c.args.words.now.items c.args.machine.now s c.next-ask.result c.next-ask.ensures
+      followed (shape_of c.args.layout.now) c.args.words.now.items c.args.machine.now s c.next-ask.result
+      c.next-ask.ensures
       c.program_laws.ensures.asks c.perform-word.result c.perform-word.ensures.word c.fits_laws.ensures.fits
       c.program_laws.ensures.follow c.program_laws.ensures.ends _ _ c.take.result _ c.perform-word.ensures.words
       c.take.ensures.value c.take.ensures.made (ap stepped_for (sym c.in-None.is));

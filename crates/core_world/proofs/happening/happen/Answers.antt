@@ -12,7 +12,8 @@ use Rattle.core_world.proofs.happening.happen.Goals as goal
 pub advance-requires-clause-stands : goal.advance-requires-clause-stands
 advance-requires-clause-stands c =
     let s = c.requires.stands in
-    begun_at (shape_of c.args.layout.now) c.args.words.now.items s.setup s.events s.seat s.account s.run s.inside s.words_are
+    begun_at (shape_of c.args.layout.now) c.args.words.now.items s.setup s.events s.seat s.account s.run s.inside
+    s.words_are
     s.shape_is s.stand (c.in-Some.packet, c.in-Some.call) c.args.machine.now c.begin.new.self s.at s.program
     (subst (FitsStand s.account s.stand) c.in-Some.is s.given)
     (ap (λ (q : Program). refusal_of q.setup q.seat (blank q.used) c.in-Some.call) (sym s.program)
@@ -22,7 +23,8 @@ advance-requires-clause-stands c =
 pub advance-requires-in-None-clause-stands : goal.advance-requires-in-None-clause-stands
 advance-requires-in-None-clause-stands c =
     let s = c.requires.stands in
-    flown_at (shape_of c.args.layout.now) c.args.words.now.items s.setup s.events s.seat s.account s.run s.inside s.words_are
+    flown_at (shape_of c.args.layout.now) c.args.words.now.items s.setup s.events s.seat s.account s.run s.inside
+    s.words_are
     s.shape_is s.stand c.args.machine.now s.at s.program
     (subst (FitsStand s.account s.stand) c.in-None.is s.given)
 
@@ -33,7 +35,8 @@ returns-in-Ok c = record {
       subst (λ (b : Option (ℕ × Call)). Happened s.setup (world_after s.setup s.events) s.seat s.account
       (record { seat = s.seat; begin = b }) c.advance.new.words.items c.advance.new.machine c.advance.result)
       (sym c.in-Some.is)
-      (begun_happens (shape_of c.args.layout.now) c.args.words.now.items s.setup s.events s.seat s.account s.run s.inside
+      (begun_happens (shape_of c.args.layout.now) c.args.words.now.items s.setup s.events s.seat s.account s.run
+      s.inside
       s.words_are s.shape_is s.stand (c.in-Some.packet, c.in-Some.call) c.args.machine.now c.begin.new.self
       c.advance.new.words.items c.advance.new.machine c.advance.result s.at s.program
       (subst (FitsStand s.account s.stand) c.in-Some.is s.given)
@@ -50,7 +53,8 @@ returns-in-None c = record {
       (record { seat = s.seat; begin = b }) c.advance-in-None.new.words.items c.advance-in-None.new.machine
       c.advance-in-None.result)
       (sym c.in-None.is)
-      (flown_happens (shape_of c.args.layout.now) c.args.words.now.items s.setup s.events s.seat s.account s.run s.inside
+      (flown_happens (shape_of c.args.layout.now) c.args.words.now.items s.setup s.events s.seat s.account s.run
+      s.inside
       s.words_are s.shape_is s.stand c.args.machine.now c.advance-in-None.new.words.items c.advance-in-None.new.machine
       c.advance-in-None.result s.at s.program
       (subst (FitsStand s.account s.stand) c.in-None.is s.given) c.advance-in-None.ensures.advanced);
