@@ -6,21 +6,16 @@ use Rattle.plain_map.specs.declared.records.Record.{Record}
 use Rattle.plain_map.specs.History.{ids_of}
 use Rattle.core_model.specs.SeatStates.{is_update}
 use Rattle.trace_share.specs.declared.outcome.Outcome.{Outcome}
-use Rattle.trace_share.specs.declared.outcome.Outcome.TheVariants.{Answered, Refused}
 use Rattle.trace_share.specs.Outcomes.{full_in, record_in}
 use Rattle.report_text.specs.Report.{Batch as Lines}
-use Rattle.batch_orders.specs.Batches.{answered_then, gone_on}
+use Rattle.batch_orders.specs.Batches.{answered_then}
+pub use Rattle.report_text.specs.Report.{outcome_on}
 use Rattle.batch_runner.specs.declared.service.Service.{Service}
 use Rattle.batch_runner.specs.Served.{Served, history_in, order_in}
 
 -- so many calls a seat has answered at most before a batch
 abbrev pub BEFORE_LIMIT : ℕ
 BEFORE_LIMIT = 2 ^ 31
-
--- an outcome, where the seats had answered so many calls before
-abbrev pub outcome_on : (before : List ℕ) → Outcome → Outcome
-outcome_on before (Answered made) = Answered (gone_on before made)
-outcome_on before (Refused packet call full) = Refused packet call full
 
 -- the lines of a batch: its order names calls as the batch counts them, and prints their packets
 abbrev pub lines_of : Service → (before : List ℕ) → Served → Lines

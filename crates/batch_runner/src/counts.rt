@@ -20,8 +20,8 @@ pub fn go_on(before: &mut [u32; MOST_SEATS], batch: &Batch)
     put_counts(before, &batch.answered);
 }
 
-/// Adds these counts, seat by seat.
-pub(crate) fn put_counts(sums: &mut [u32; MOST_SEATS], counts: &[u32])
+// Adds these counts, seat by seat.
+fn put_counts(sums: &mut [u32; MOST_SEATS], counts: &[u32])
     requires seats { length counts.now ≤ 8 }
     requires few { All (λ count. count < CALL_LIMIT) counts.now }
     requires before { All (λ count. count ≤ BEFORE_LIMIT) sums.old }

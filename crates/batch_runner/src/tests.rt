@@ -113,7 +113,7 @@ pub(crate) fn put_batch<R: Threads + Sync>(
     let calls = calls_of(alloc, frames)?;
     let mut workspace = Workspace::new(alloc);
     let (batch, order) = serve_batch(rt, alloc, service, &mut workspace, first, &calls, &OpenGate)?;
-    batch_text(alloc, out, service.settings.seats, before, &batch, &order)?;
+    batch_text(out, service.settings.seats, before, &batch, &order)?;
     go_on(before, &batch);
     Ok(batch)
 }

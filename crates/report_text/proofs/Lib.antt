@@ -1,4 +1,5 @@
 pub mod LineLemmas
 pub mod ReportLemmas
 pub mod OrderLemmas
+mod CountLemmas
 mod WrittenLemmas

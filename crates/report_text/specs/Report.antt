@@ -24,6 +24,7 @@ use Rattle.trace_share.specs.declared.deals.Share.TheVariants.{Round, Block, Flo
 use Rattle.trace_share.specs.declared.outcome.Outcome.{Outcome}
 use Rattle.trace_share.specs.declared.outcome.Outcome.TheVariants.{Answered, Refused}
 use Rattle.plain_map.specs.Calls.{key_in}
+use Rattle.batch_orders.specs.Batches.{gone_on}
 use Rattle.flow_keys.specs.FlowText.{flow_text}
 use Rattle.report_text.specs.declared.parts.Head.{Head}
 use Rattle.report_text.specs.declared.parts.Tail.{Tail}
@@ -112,6 +113,11 @@ outcome_line seats seat (Answered answer) =
     ++ (reply_words answer.call answer.reply ++ (steps_words answer.steps ++ after_words seats answer.seen))))
 outcome_line seats seat (Refused packet call full) =
     line (codes "call" ∷ (call_words packet seat call ++ full_words full))
+
+-- how a call ended that was made when the seats had answered so many calls before
+abbrev pub outcome_on : (before : List ℕ) → Outcome → Outcome
+outcome_on before (Answered made) = Answered (gone_on before made)
+outcome_on before (Refused packet call full) = Refused packet call full
 
 -- `pending P seat I insert KEY after V`
 unfoldable pub pending_line : ℕ → Pending → List ℕ

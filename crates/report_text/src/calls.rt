@@ -1,54 +1,53 @@
 //! The line of an answered, a refused or a pending call.
 
-ghost use Rattle.std.specs.Prelude.{◌≡◌, ℕ, ◌+◌, ◌*◌, ◌≤◌, [], ◌∷◌, ◌++◌, codes, decimal, length, take, OnOk, OnErr};
-ghost use Rattle.std.specs.List.{join_by};
+ghost use Rattle.std.specs.Prelude.{◌≡◌, ℕ, ◌+◌, ◌<◌, ◌≤◌, [], ◌∷◌, ◌++◌, decimal, length, slice_index, OnOk, OnErr};
+ghost use Rattle.batch_orders.specs.Batches.{gone_on, seen_on, with_counts};
 ghost use Rattle.flow_keys.specs.FlowText.{HasText};
 ghost use Rattle.plain_map.specs.Calls.{key_in};
 ghost use Rattle.trace_share.specs.declared.outcome.Outcome.TheVariants.{Answered, Refused};
-ghost use Rattle.report_text.specs.Report.{after_words, call_in, call_words, full_words, outcome_line, pending_line, reply_words, short_word, steps_words, value_in, verb_word};
-ghost use Rattle.report_text.specs.Lines.{room, Puts, text_in};
+ghost use Rattle.report_text.specs.Report.{after_words, call_in, call_words, full_words, outcome_line, outcome_on, pending_line, reply_words, short_word, steps_words, value_in, verb_word};
+ghost use Rattle.report_text.specs.Lines.{counts_word, room, Puts, text_in};
 
 use crate::line::Line;
-use crate::pieces::{
-    append, begin_line, end_line, put_digits, put_named, put_number, put_text, put_word,
-};
+use crate::pieces::{append, begin_line, end_line, put_named, put_number, put_text, put_word};
 use flow_keys::key_text;
 use plain_map::{Call, Full, FullKind, Pending, Record, Reply, Seen};
-use std::alloc::{AllocError, Global};
+use std::alloc::AllocError;
 use trace_share::Outcome;
 
-/// Appends the line of a call: its caller's seat, and how the call ended.
+/// Appends the line of a call: its caller's seat, and how the call ended. It is written in `line` first.
 ///
-/// Of the counts that the call saw, those of the first `seats` seats are told.
+/// Of the counts that the call saw, those of the first `seats` seats are told, each after what its seat had answered in
+/// `before`: nothing from the end of that on.
 #[inline]
 pub fn outcome_text(
-    _alloc: Global,
     out: &mut Vec<u8>,
+    line: &mut Line,
     seats: u32,
+    before: &[u32],
     seat: u32,
     outcome: &Outcome,
 ) -> Result<(), AllocError>
     requires seats { seats ≤ 8 }
     requires key { HasText (key_in (call_in outcome.now)) }
-    ensures appended { OnOk result (out.new.items ≡ out.old.items ++ outcome_line seats seat outcome.now) }
+    ensures appended { OnOk result (out.new.items
+        ≡ out.old.items ++ outcome_line seats seat (outcome_on before.now outcome.now)) }
     ensures kept { OnErr result (out.new.items ≡ out.old.items) }
 {
-    let mut line = Line::new();
+    line.clear();
     match outcome {
-        Outcome::Answered(answer) => put_answered(&mut line, seats, seat, answer),
-        Outcome::Refused { packet, call, full } => {
-            put_refused(&mut line, *packet, seat, call, full);
-        }
+        Outcome::Answered(answer) => put_answered(line, seats, before, seat, answer),
+        Outcome::Refused { packet, call, full } => put_refused(line, *packet, seat, call, full),
     }
-    append(out, &line)
+    append(out, line)
 }
 
-/// Appends the line of a call that had begun and was not answered.
+/// Appends the line of a call that had begun and was not answered. It is written in `line` first.
 ///
 /// Of the counts that the call saw, those of the first `seats` seats are told.
 pub fn pending_text(
-    _alloc: Global,
     out: &mut Vec<u8>,
+    line: &mut Line,
     seats: u32,
     pending: &Pending,
 ) -> Result<(), AllocError>
@@ -57,9 +56,9 @@ pub fn pending_text(
     ensures appended { OnOk result (out.new.items ≡ out.old.items ++ pending_line seats pending.now) }
     ensures kept { OnErr result (out.new.items ≡ out.old.items) }
 {
-    let mut line = Line::new();
-    put_pending(&mut line, seats, pending);
-    append(out, &line)
+    line.clear();
+    put_pending(line, seats, pending);
+    append(out, line)
 }
 
 // Appends the line of a pending call.
@@ -71,23 +70,23 @@ fn put_pending(out: &mut Line, seats: u32, pending: &Pending)
 {
     begin_line(out, b"pending");
     put_call(out, pending.packet, pending.seat, &pending.call);
-    put_after(out, seats, &pending.seen);
+    put_after(out, seats, &[], &pending.seen);
     end_line(out);
 }
 
 // Appends the line of an answered call.
 #[inline(always)]
-fn put_answered(out: &mut Line, seats: u32, seat: u32, answer: &Record)
+fn put_answered(out: &mut Line, seats: u32, before: &[u32], seat: u32, answer: &Record)
     requires seats { seats ≤ 8 }
     requires key { HasText (key_in answer.now.call) }
     requires space { 384 ≤ room out.old }
-    ensures { text_in out.new ≡ text_in out.old ++ outcome_line seats seat (Answered answer.now) }
+    ensures { text_in out.new ≡ text_in out.old ++ outcome_line seats seat (Answered (gone_on before.now answer.now)) }
 {
     begin_line(out, b"call");
     put_call(out, answer.packet, seat, &answer.call);
     put_reply(out, &answer.call, answer.reply);
     put_steps(out, answer.steps);
-    put_after(out, seats, &answer.seen);
+    put_after(out, seats, before, &answer.seen);
     end_line(out);
 }
 
@@ -175,33 +174,49 @@ fn put_steps(out: &mut Line, steps: u64)
     }
 }
 
-// Appends what a call saw as it began.
+// Appends what a call saw as it began, where the seats had answered so many calls before.
 #[inline(always)]
-fn put_after(out: &mut Line, seats: u32, seen: &Seen)
+fn put_after(out: &mut Line, seats: u32, before: &[u32], seen: &Seen)
     requires seats { seats ≤ 8 }
     requires space { 103 ≤ room out.old }
-    ensures puts { Puts (text_in out.old) (after_words seats seen.now) (text_in out.new) }
+    ensures puts { Puts (text_in out.old) (after_words seats (seen_on before.now seen.now)) (text_in out.new) }
     ensures taken { room out.old ≤ room out.new + 103 }
 {
     put_word(out, b"after");
     put_text(out, b" ");
-    put_counts(out, &seen.counts[..seats as usize]);
+    put_counts(out, seats, before, seen);
 }
 
-// Appends numbers with commas between.
+// Appends the counts of the first seats with commas between.
 #[inline(always)]
-fn put_counts(out: &mut Line, counts: &[u32])
-    requires few { length counts.now ≤ 8 }
+fn put_counts(out: &mut Line, seats: u32, before: &[u32], seen: &Seen)
+    requires seats { seats ≤ 8 }
     requires space { 88 ≤ room out.old }
-    ensures appended { text_in out.new ≡ text_in out.old ++ join_by decimal (codes ",") counts.now }
+    ensures appended { text_in out.new
+        ≡ text_in out.old ++ counts_word seats (with_counts before.now seen.now.counts) }
     ensures taken { room out.old ≤ room out.new + 88 }
 {
-    if let Some((first, others)) = counts.split_first() {
-        put_digits(out, *first);
-        for count in others {
+    if seats != 0 {
+        out.put_digits(count_on(before, seen, 0));
+        for seat in 1..seats as usize {
             put_text(out, b",");
-            put_digits(out, *count);
+            out.put_digits(count_on(before, seen, seat));
         }
+    }
+}
+
+// How many calls of a seat a call saw, where the seats had answered so many before.
+#[inline(always)]
+fn count_on(before: &[u32], seen: &Seen, seat: usize) -> u64
+    requires seat { seat < 8 }
+    ensures count { result ≡ slice_index (with_counts before.now seen.now.counts) seat }
+    ensures known { seat < length (with_counts before.now seen.now.counts) }
+    ensures short { length (decimal result) ≤ 10 }
+{
+    let count = u64::from(seen.counts[seat]);
+    match before.get(seat) {
+        Some(gone) => u64::from(*gone) + count,
+        None => count,
     }
 }
 

@@ -8,11 +8,11 @@ use crate::line::Line;
 use crate::parts::Head;
 use crate::pieces::{append, begin_line, end_line, put_named, put_word};
 use hash_bits::Hashing;
-use std::alloc::{AllocError, Global};
+use std::alloc::AllocError;
 use trace_share::Share;
 
 /// Appends the head line.
-pub fn head_text(_alloc: Global, out: &mut Vec<u8>, head: &Head) -> Result<(), AllocError>
+pub fn head_text(out: &mut Vec<u8>, head: &Head) -> Result<(), AllocError>
     ensures appended { OnOk result (out.new.items ≡ out.old.items ++ head_line head.now) }
     ensures kept { OnErr result (out.new.items ≡ out.old.items) }
 {

@@ -13,6 +13,7 @@ mod trial;
 
 pub use calls::{outcome_text, pending_text};
 pub use head::head_text;
+pub use line::Line;
 pub use order::order_text;
 pub use parts::{Ending, Head, Tail};
 pub use session::session_text;

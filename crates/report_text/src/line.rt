@@ -12,11 +12,13 @@ pub(crate) const LINE_ROOM: usize = 512;
 // The length of the longest number.
 const DIGITS: usize = 20;
 
-/// The text stands in the first `length` bytes.
+/// A place to write lines in, one after another. It is made once and used for as many as there are: each begins it
+/// again, so what it held before does not count.
 #[derive(Drop)]
-pub(crate) struct Line {
-    pub bytes: [u8; 532],
-    pub length: usize,
+pub struct Line {
+    // The text stands in the first `length` bytes, and behind it anything.
+    bytes: [u8; 532],
+    length: usize,
     ghost within: { length ≤ LINE_ROOM },
 }
 
@@ -36,10 +38,20 @@ impl Line {
         }
     }
 
+    /// Begins again, with no text.
+    #[inline(always)]
+    #[tactic(auto, unfolding(crate::specs::Lines::room, crate::specs::Lines::text_in))]
+    pub(crate) fn clear(&mut self)
+        ensures empty { text_in self.new ≡ [] }
+        ensures space { room self.new ≡ LINE_ROOM }
+    {
+        self.length = 0;
+    }
+
     /// Appends the text.
     #[inline(always)]
     #[tactic(auto, unfolding(crate::specs::Lines::room, crate::specs::Lines::text_in))]
-    pub fn put(&mut self, text: &[u8])
+    pub(crate) fn put(&mut self, text: &[u8])
         requires { length text.now ≤ room self.old }
         ensures appended { text_in self.new ≡ text_in self.old ++ text.now }
         ensures taken { room self.old ≤ room self.new + length text.now }
@@ -52,7 +64,7 @@ impl Line {
     /// Appends the digits of a number.
     #[inline(always)]
     #[tactic(auto, unfolding(crate::specs::Lines::room, crate::specs::Lines::text_in))]
-    pub fn put_digits(&mut self, number: u64)
+    pub(crate) fn put_digits(&mut self, number: u64)
         requires { length (decimal number) ≤ room self.old }
         ensures appended { text_in self.new ≡ text_in self.old ++ decimal number }
         ensures taken { room self.old ≤ room self.new + length (decimal number) }
@@ -77,7 +89,7 @@ impl Line {
     /// All of it.
     #[inline(always)]
     #[tactic(auto, unfolding(crate::specs::Lines::text_in))]
-    pub fn as_bytes(&self) -> &[u8]
+    pub(crate) fn as_bytes(&self) -> &[u8]
         ensures { result.now ≡ text_in self.now }
     {
         &self.bytes[..self.length]

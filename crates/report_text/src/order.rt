@@ -7,21 +7,21 @@ ghost use Rattle.report_text.specs.Lines.{room, Puts, text_in};
 use crate::line::Line;
 use crate::pieces::{append, begin_line, end_line, put_number};
 use plain_map::CallId;
-use std::alloc::{AllocError, Global};
+use std::alloc::AllocError;
 
 // How many packet numbers a line has at most.
 const ORDER_WIDTH: usize = 16;
 
-/// Appends the lines of an order, and none where it is empty.
-pub fn order_text(_alloc: Global, out: &mut Vec<u8>, order: &[CallId]) -> Result<(), AllocError>
+/// Appends the lines of an order, and none where it is empty. Each is written in `line` first.
+pub fn order_text(out: &mut Vec<u8>, line: &mut Line, order: &[CallId]) -> Result<(), AllocError>
     ensures appended { OnOk result (out.new.items ≡ out.old.items ++ order_lines order.now) }
     ensures kept { OnErr result (out.new.items ≡ out.old.items) }
 {
     let start = out.len();
     for ids in order.chunks(ORDER_WIDTH) {
-        let mut line = Line::new();
-        put_order(&mut line, ids);
-        if let Err(failed) = append(out, &line) {
+        line.clear();
+        put_order(line, ids);
+        if let Err(failed) = append(out, line) {
             out.truncate(start);
             return Err(failed);
         }

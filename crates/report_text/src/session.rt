@@ -9,17 +9,17 @@ use crate::line::Line;
 use crate::pieces::{append, begin_line, end_line, put_number, put_word};
 use flow_keys::key_text;
 use plain_map::Pair;
-use std::alloc::{AllocError, Global};
+use std::alloc::AllocError;
 
-/// Appends the line of a session.
-pub fn session_text(_alloc: Global, out: &mut Vec<u8>, pair: &Pair) -> Result<(), AllocError>
+/// Appends the line of a session. It is written in `line` first.
+pub fn session_text(out: &mut Vec<u8>, line: &mut Line, pair: &Pair) -> Result<(), AllocError>
     requires { HasText pair.now.key }
     ensures appended { OnOk result (out.new.items ≡ out.old.items ++ session_line pair.now) }
     ensures kept { OnErr result (out.new.items ≡ out.old.items) }
 {
-    let mut line = Line::new();
-    put_session(&mut line, pair);
-    append(out, &line)
+    line.clear();
+    put_session(line, pair);
+    append(out, line)
 }
 
 // Appends the line of a session.

@@ -11,7 +11,7 @@ use crate::pieces::{
     append, begin_line, end_line, put_digits, put_named, put_number, put_text, put_word,
 };
 use pcap_reader::CaptureFault;
-use std::alloc::{AllocError, Global};
+use std::alloc::AllocError;
 
 // The digits of numbers below 16.
 const HEX_DIGITS: &[u8; 16] = b"0123456789abcdef";
@@ -20,7 +20,7 @@ const HEX_DIGITS: &[u8; 16] = b"0123456789abcdef";
 ///
 /// Where `bound` is 0 calls take no steps and there is no table, so that there is no line for the
 /// leaves and none for the steps.
-pub fn tail_text(_alloc: Global, out: &mut Vec<u8>, tail: &Tail) -> Result<(), AllocError>
+pub fn tail_text(out: &mut Vec<u8>, tail: &Tail) -> Result<(), AllocError>
     requires { IsEnding tail.now.ending }
     ensures appended { OnOk result (out.new.items ≡ out.old.items ++ tail_lines tail.now) }
     ensures kept { OnErr result (out.new.items ≡ out.old.items) }
@@ -128,7 +128,8 @@ fn put_fault(out: &mut Line, fault: &CaptureFault)
 // Appends the name of a fault and its place in the file, and says that something was found there.
 fn put_place(out: &mut Line, name: &[u8], offset: u64)
     requires { length name.now + 31 ≤ room out.old }
-    ensures puts { Puts (text_in out.old) (name.now ∷ codes "at" ∷ decimal offset ∷ codes "found" ∷ []) (text_in out.new) }
+    ensures puts { Puts (text_in out.old) (name.now ∷ codes "at" ∷ decimal offset ∷ codes "found" ∷ [])
+        (text_in out.new) }
     ensures taken { room out.old ≤ room out.new + length name.now + 31 }
 {
     put_word(out, name);

@@ -6,8 +6,8 @@ ghost use Rattle.plain_map.specs.Calls.{key_in};
 ghost use Rattle.report_text.specs.Report.{IsEnding};
 
 use crate::{
-    Ending, Head, Tail, Trial, head_text, order_text, outcome_text, pending_text, session_text,
-    tail_text, trial_text,
+    Ending, Head, Line, Tail, Trial, head_text, order_text, outcome_text, pending_text,
+    session_text, tail_text, trial_text,
 };
 use hash_bits::Hashing;
 use pcap_reader::CaptureFault;
@@ -57,7 +57,6 @@ fn answered(
     requires seats { seats ≤ 8 }
     requires key { HasText (key_in call) }
 {
-    let alloc = *out.allocator();
     let record = Record {
         seat: name.1,
         number: 1,
@@ -68,18 +67,24 @@ fn answered(
         seen,
         place: 0,
     };
-    outcome_text(alloc, out, seats, name.1, &Outcome::Answered(record))
+    outcome_text(
+        out,
+        &mut Line::new(),
+        seats,
+        &[],
+        name.1,
+        &Outcome::Answered(record),
+    )
 }
 
 /// Appends the line of a refused insert of packet 2.
 fn refused(out: &mut Vec<u8>, what: FullKind, left: u64, need: u64) -> Result<(), AllocError> {
-    let alloc = *out.allocator();
     let outcome = Outcome::Refused {
         packet: 2,
         call: Call::Insert(key(2), 2),
         full: Full { what, left, need },
     };
-    outcome_text(alloc, out, 1, 0, &outcome)
+    outcome_text(out, &mut Line::new(), 1, &[], 0, &outcome)
 }
 
 // The lines of calls by their replies and causes; the numbers are those of a browsing session that was
@@ -170,12 +175,33 @@ fn calls_are_told(rt: HostRuntime) -> Result<(), Fail> {
     Ok(())
 }
 
+// What the seats had answered before is added to what a call saw.
+#[test]
+fn earlier_calls_are_told(rt: HostRuntime) -> Result<(), Fail> {
+    let outcome = Outcome::Answered(Record {
+        seat: 1,
+        number: 1,
+        packet: 70_001,
+        call: Call::Lookup(PAGES),
+        reply: Reply::Absent,
+        steps: 13,
+        seen: seen(2, 1),
+        place: 0,
+    });
+    let mut out = Vec::new(rt.alloc());
+    outcome_text(&mut out, &mut Line::new(), 3, &[u32::MAX, 40], 1, &outcome)?;
+    let text: &[u8] = b"\
+        call 70001 seat 1 lookup 93.184.216.34:443-192.168.1.10:50412/tcp absent steps 13 after 4294967297,41,0\n";
+    assert_eq!(rt; out.as_slice(), text);
+    Ok(())
+}
+
 /// The report of a run of one seat that inserted one flow.
 fn one_insert(alloc: Global, head: &Head, steps: u64, tail: &Tail) -> Result<Vec<u8>, AllocError>
     requires { IsEnding tail.now.ending }
 {
     let mut out = Vec::new(alloc);
-    head_text(alloc, &mut out, head)?;
+    head_text(&mut out, head)?;
     answered(
         &mut out,
         1,
@@ -190,13 +216,13 @@ fn one_insert(alloc: Global, head: &Head, steps: u64, tail: &Tail) -> Result<Vec
         number: 1,
         packet: 1,
     };
-    order_text(alloc, &mut out, &[first])?;
+    order_text(&mut out, &mut Line::new(), &[first])?;
     let pair = Pair {
         key: key(1),
         value: 1,
     };
-    session_text(alloc, &mut out, &pair)?;
-    tail_text(alloc, &mut out, tail)?;
+    session_text(&mut out, &mut Line::new(), &pair)?;
+    tail_text(&mut out, tail)?;
     Ok(out)
 }
 
@@ -214,12 +240,12 @@ fn settings_are_told(rt: HostRuntime) -> Result<(), Fail> {
         hashing: Hashing::Mix(u64::MAX),
         share: Share::Block,
     };
-    head_text(alloc, &mut out, &head)?;
+    head_text(&mut out, &head)?;
     let flow = Head {
         share: Share::Flow,
         ..head
     };
-    head_text(alloc, &mut out, &flow)?;
+    head_text(&mut out, &flow)?;
     let text: &[u8] = b"\
         flowdir play seats 2 items 2 depth 12 start 1 hash mix seed 18446744073709551615 share block\n\
         flowdir play seats 2 items 2 depth 12 start 1 hash mix seed 18446744073709551615 share flow\n";
@@ -308,8 +334,7 @@ fn one_insert_is_reported(rt: HostRuntime) -> Result<(), Fail> {
 fn ended(out: &mut Vec<u8>, ending: Ending) -> Result<(), AllocError>
     requires { IsEnding ending }
 {
-    let alloc = *out.allocator();
-    tail_text(alloc, out, &tail_of(ending))
+    tail_text(out, &tail_of(ending))
 }
 
 // Each way in which an input ends; the numbers are those of captures that were worked by hand.
@@ -368,7 +393,6 @@ fn endings_are_told(rt: HostRuntime) -> Result<(), Fail> {
 // Orders of no call, of two calls in another order than their packets', of one full line and of one more.
 #[test]
 fn orders_are_told(rt: HostRuntime) -> Result<(), Fail> {
-    let alloc = rt.alloc();
     let mut order = [CallId {
         seat: 0,
         number: 0,
@@ -377,11 +401,12 @@ fn orders_are_told(rt: HostRuntime) -> Result<(), Fail> {
     for (packet, id) in (1..).zip(&mut order) {
         id.packet = packet;
     }
-    let mut out = Vec::new(alloc);
-    order_text(alloc, &mut out, &[])?;
-    order_text(alloc, &mut out, &[order[1], order[0]])?;
-    order_text(alloc, &mut out, &order[..16])?;
-    order_text(alloc, &mut out, &order)?;
+    let mut out = Vec::new(rt.alloc());
+    let mut line = Line::new();
+    order_text(&mut out, &mut line, &[])?;
+    order_text(&mut out, &mut line, &[order[1], order[0]])?;
+    order_text(&mut out, &mut line, &order[..16])?;
+    order_text(&mut out, &mut line, &order)?;
     let text: &[u8] = b"\
         order 2 1\n\
         order 1 2 3 4 5 6 7 8 9 10 11 12 13 14 15 16\n\
@@ -402,7 +427,7 @@ fn a_pending_call_is_told(rt: HostRuntime) -> Result<(), Fail> {
         seen: seen(0, 1),
     };
     let mut text = Vec::new(rt.alloc());
-    pending_text(rt.alloc(), &mut text, 2, &pending)?;
+    pending_text(&mut text, &mut Line::new(), 2, &pending)?;
     assert_eq!(rt;
         text.as_slice(),
         b"pending 7 seat 0 insert 10.0.0.1:1-10.0.0.2:80/tcp after 0,1\n".as_slice()
@@ -432,7 +457,7 @@ fn a_trial_is_told(rt: HostRuntime) -> Result<(), Fail> {
         sessions: 2,
     };
     let mut text = Vec::new(rt.alloc());
-    trial_text(rt.alloc(), &mut text, &trial)?;
+    trial_text(&mut text, &trial)?;
     let wanted = b"flowdir trial number 0 packets 3 seats 2 items 8 depth 10 start 0 seed 0\n\
         calls 3 new 2 old 0 noroom 0 gone 0 found 0 absent 1 full 0\n\
         sessions 2\n";

@@ -6,7 +6,7 @@ ghost use Rattle.report_text.specs.Lines.{room, text_in};
 
 use crate::line::Line;
 use crate::pieces::{append, begin_line, end_line, put_named, put_number, put_word};
-use std::alloc::{AllocError, Global};
+use std::alloc::AllocError;
 
 /// What a trial tells: its settings, how the calls of the made capture were answered, and what is left.
 #[derive(Clone, Copy, Debug, PartialEq, Eq)]
@@ -34,7 +34,7 @@ pub struct Trial {
 }
 
 /// Appends the three lines of a trial.
-pub fn trial_text(_alloc: Global, out: &mut Vec<u8>, trial: &Trial) -> Result<(), AllocError>
+pub fn trial_text(out: &mut Vec<u8>, trial: &Trial) -> Result<(), AllocError>
     ensures appended { OnOk result (out.new.items ≡ out.old.items ++ trial_lines trial.now) }
     ensures kept { OnErr result (out.new.items ≡ out.old.items) }
 {

@@ -31,7 +31,7 @@ use edge_traits::{Failed, Sink, Source, write_all};
 use plain_map::{Call, OpenFault, Pending, session_laws};
 use play_runner::{Played, Segment, most_steps};
 use report_text::{
-    Ending, Head, Tail, head_text, order_text, outcome_text, pending_text, tail_text,
+    Ending, Head, Line, Tail, head_text, order_text, outcome_text, pending_text, tail_text,
 };
 use std::alloc::{AllocError, Global};
 use step_counts::{SeatRows, Settings, automatic_rows, bound};
@@ -121,10 +121,10 @@ fn report_of(alloc: Global, plan: &Plan, input: &Input) -> Result<Vec<u8>, Alloc
     let service = service_of(plan);
     let played = play_calls(alloc, plan, &service, &input.calls)?;
     let mut text = Vec::new(alloc);
-    head_text(alloc, &mut text, &play_head(plan))?;
-    put_played(alloc, &mut text, plan.seats, &played)?;
-    put_sessions(alloc, &mut text, &played.pairs)?;
-    tail_text(alloc, &mut text, &play_tail(&service, input, &played))?;
+    head_text(&mut text, &play_head(plan))?;
+    put_played(&mut text, plan.seats, &played)?;
+    put_sessions(&mut text, &played.pairs)?;
+    tail_text(&mut text, &play_tail(&service, input, &played))?;
     Ok(text)
 }
 
@@ -208,26 +208,22 @@ fn schedule_in(alloc: Global, plan: &Plan) -> Result<Vec<Segment>, AllocError>
 }
 
 /// Appends the lines of the calls that ended, of those that were under way, and of the order.
-fn put_played(
-    alloc: Global,
-    text: &mut Vec<u8>,
-    seats: u32,
-    played: &Played,
-) -> Result<(), AllocError>
+fn put_played(text: &mut Vec<u8>, seats: u32, played: &Played) -> Result<(), AllocError>
     requires seats { seats ≤ 8 }
     requires ended { All (λ ended. HasText (key_in (call_in ended.1))) played.now.outcomes.items }
     requires under_way { All (λ begun. HasText (key_in begun.call)) played.now.pending.items }
     ensures { OnOk result (text.new.items ≡ text.old.items ++ batch_lines seats (played_lines played.now)) }
 {
-    put_outcomes(alloc, text, seats, &played.outcomes)?;
-    put_pending(alloc, text, seats, &played.pending)?;
-    order_text(alloc, text, &played.order)
+    let mut line = Line::new();
+    put_outcomes(text, &mut line, seats, &played.outcomes)?;
+    put_pending(text, &mut line, seats, &played.pending)?;
+    order_text(text, &mut line, &played.order)
 }
 
 /// A line for each call that ended.
 fn put_outcomes(
-    alloc: Global,
     text: &mut Vec<u8>,
+    line: &mut Line,
     seats: u32,
     outcomes: &[(u32, Outcome)],
 ) -> Result<(), AllocError>
@@ -237,15 +233,15 @@ fn put_outcomes(
         ≡ text.old.items ++ flat_map (λ ended. outcome_line seats ended.0 ended.1) outcomes.now) }
 {
     for ended in outcomes {
-        outcome_text(alloc, text, seats, ended.0, &ended.1)?;
+        outcome_text(text, line, seats, &[], ended.0, &ended.1)?;
     }
     Ok(())
 }
 
 /// A line for each call that was under way.
 fn put_pending(
-    alloc: Global,
     text: &mut Vec<u8>,
+    line: &mut Line,
     seats: u32,
     pending: &[Pending],
 ) -> Result<(), AllocError>
@@ -254,7 +250,7 @@ fn put_pending(
     ensures { OnOk result (text.new.items ≡ text.old.items ++ flat_map (pending_line seats) pending.now) }
 {
     for begun in pending {
-        pending_text(alloc, text, seats, begun)?;
+        pending_text(text, line, seats, begun)?;
     }
     Ok(())
 }

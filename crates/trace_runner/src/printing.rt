@@ -20,7 +20,7 @@ use batch_runner::{Service, Workspace, served_laws};
 use command_line::Plan;
 use edge_traits::{Failed, Gate, Sink, write_all};
 use plain_map::{Call, Pair, session_laws};
-use report_text::{Ending, Head, Tail, session_text, tail_text};
+use report_text::{Ending, Head, Line, Tail, session_text, tail_text};
 use std::alloc::{AllocError, Global};
 use std::thread::Threads;
 use step_counts::bound;
@@ -81,7 +81,6 @@ pub(crate) fn serve_part<R: Threads + Sync, K: Sink, G: Gate + Sync>(
 
 /// Puts the lines of the sessions that are left, and the last lines.
 pub(crate) fn finish<K: Sink>(
-    alloc: Global,
     service: &Service,
     progress: &Progress,
     packets: u32,
@@ -106,23 +105,20 @@ pub(crate) fn finish<K: Sink>(
 {
     served_laws();
     session_laws();
-    put_sessions(alloc, text, &progress.pairs)?;
-    tail_text(alloc, text, &tail_with(service, progress, packets, ending))?;
+    put_sessions(text, &progress.pairs)?;
+    tail_text(text, &tail_with(service, progress, packets, ending))?;
     put(sink, text)?;
     Ok(())
 }
 
 /// A line for each session that is left.
-pub(crate) fn put_sessions(
-    alloc: Global,
-    text: &mut Vec<u8>,
-    pairs: &[Pair],
-) -> Result<(), AllocError>
+pub(crate) fn put_sessions(text: &mut Vec<u8>, pairs: &[Pair]) -> Result<(), AllocError>
     requires { All (λ pair. HasText pair.key) pairs.now }
     ensures { OnOk result (text.new.items ≡ text.old.items ++ flat_map session_line pairs.now) }
 {
+    let mut line = Line::new();
     for pair in pairs {
-        session_text(alloc, text, pair)?;
+        session_text(text, &mut line, pair)?;
     }
     Ok(())
 }

@@ -72,14 +72,7 @@ impl Progress {
         ensures counted { OnOk result (self.new.totals.calls ≡ self.old.totals.calls + length calls.now) }
     {
         let (batch, order) = serve_batch(rt, alloc, service, workspace, &self.pairs, calls, gate)?;
-        batch_text(
-            alloc,
-            text,
-            service.settings.seats,
-            &self.before,
-            &batch,
-            &order,
-        )?;
+        batch_text(text, service.settings.seats, &self.before, &batch, &order)?;
         self.keep(service, calls, batch);
         Ok(())
     }

@@ -78,7 +78,7 @@ fn serve_input<R: Threads + Sync, S: Source, K: Sink, G: Gate + Sync>(
 {
     let service = service_of(plan);
     let mut text = Vec::with_capacity(alloc, TEXT_ROOM)?;
-    head_text(alloc, &mut text, &head_of(plan))?;
+    head_text(&mut text, &head_of(plan))?;
     match open(alloc, source) {
         Ok(mut reader) => serve_packets(
             rt,
@@ -247,19 +247,18 @@ fn serve_last<R: Threads + Sync, K: Sink, G: Gate + Sync>(
     serving_laws();
     let packets = last.before + last.packets;
     if last.packets == 0 && last.before > 0 {
-        return end_run(alloc, service, progress, packets, last.ending, text, sink);
+        return end_run(service, progress, packets, last.ending, text, sink);
     }
     match serve_part(
         rt, alloc, service, progress, workspace, calls, gate, text, sink,
     ) {
-        Ok(()) => end_run(alloc, service, progress, packets, last.ending, text, sink),
+        Ok(()) => end_run(service, progress, packets, last.ending, text, sink),
         Err(stop) => Err(stop),
     }
 }
 
 /// Puts what is left of the report, where all batches were served.
 fn end_run<K: Sink>(
-    alloc: Global,
     service: &Service,
     progress: &Progress,
     packets: u32,
@@ -280,7 +279,7 @@ fn end_run<K: Sink>(
     ensures counted { K.faults sink.old ≤ K.faults sink.new }
 {
     serving_laws();
-    match finish(alloc, service, progress, packets, &ending, text, sink) {
+    match finish(service, progress, packets, &ending, text, sink) {
         Ok(()) => Ok(ending),
         Err(stop) => Err(stop),
     }

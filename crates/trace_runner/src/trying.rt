@@ -69,7 +69,7 @@ fn text_of<R: Threads + Sync, G: Gate + Sync>(
         Ok(mut reader) => {
             let tried = try_packets(rt, alloc, &service, &mut reader, &mut source, gate)?;
             let mut text = Vec::new(alloc);
-            trial_text(alloc, &mut text, &trial_of(plan, &tried.progress))?;
+            trial_text(&mut text, &trial_of(plan, &tried.progress))?;
             Ok(text)
         }
         Err(_unopened) => Err(AllocError),

@@ -1,10 +1,10 @@
-use Rattle.std.proofs.Common.{◌≡◌, ◌+◌, ◌*◌, ◌≤◌, ◌++◌, codes, decimal, take}
-use Rattle.std.specs.List.{flat_map}
-use Rattle.report_text.specs.Lines.{room, text_in}
+use Rattle.std.proofs.Common.{◌≡◌, ◌+◌, ◌*◌, ◌≤◌, ◌++◌}
+use Rattle.batch_orders.specs.Batches.{with_counts}
+use Rattle.report_text.specs.Lines.{counts_word, room, text_in}
 use Rattle.report_text.proofs.calls.put_counts.Given as goal
 
-abbrev pub invariant-loop-count : goal.invariant-loop-count
-invariant-loop-count l = record {
-  written : text_in l.out ≡ text_in l.initial.out ++ flat_map (λ n. codes "," ++ decimal n) (take l.count-index l.others);
-  space : room l.initial.out ≤ room l.out + 11 * l.count-index;
+abbrev pub invariant-loop-seat : goal.invariant-loop-seat
+invariant-loop-seat l = record {
+  written : text_in l.out ≡ text_in l.fn.out ++ counts_word l.seat (with_counts l.before l.seen.counts);
+  space : room l.fn.out ≤ room l.out + 11 * l.seat;
 }

@@ -10,7 +10,7 @@ line_put : (c : goal.In_default) → c.append.new.out.items ≡ c.loop-ids.out.i
 line_put c =
     c.in_default.ensures.appended
     ∙ ap (λ (text : List ℕ). c.loop-ids.out.items ++ text)
-    (c.put_order.ensures ∙ ap (λ (text : List ℕ). text ++ order_line c.in-Some.ids.now) c.new-line.ensures.empty)
+    (c.put_order.ensures ∙ ap (λ (text : List ℕ). text ++ order_line c.in-Some.ids.now) c.clear.ensures.empty)
 
 -- the line has 16 calls, or all that are left
 line_size : (c : goal.In_default) →
