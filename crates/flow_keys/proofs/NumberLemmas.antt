@@ -1,11 +1,11 @@
 -- The texts of small numbers, and the rows of the table of them.
-use Rattle.std.proofs.Common.{◌≡◌, ℕ, ◌+◌, ◌/◌, ◌%◌, ◌^◌, ◌<◌, ◌≤◌, List, [], ◌∷◌, ◌++◌, length, take, get_or, map, cond, ltb, Bool, true, false, ◌-◌, inl, inr, refl, sym, ap, ◌∙◌, append_assoc, length-append, arith, eq-zero-or-pos}
+use Rattle.std.proofs.Common.{◌≡◌, ℕ, ◌+◌, ◌/◌, ◌%◌, ◌^◌, ◌<◌, ◌≤◌, List, [], ◌∷◌, ◌++◌, codes, length, take, get_or, map, cond, ltb, Bool, true, false, ◌-◌, inl, inr, refl, sym, ap, ◌∙◌, append_assoc, length-append, arith, eq-zero-or-pos}
 use Rattle.std.specs.Prelude.{decimal}
 use Rattle.std.specs.List.{range_with_len}
 use Rattle.std.proofs.lemmas.Fmt.{decimal_digit, decimal_step}
 use Rattle.std.proofs.lemmas.List.{length-take-le, take-take}
 use Rattle.std.proofs.lemmas.Bool.{cond_above, cond_below}
-use Rattle.std.proofs.Math.Seq.{take-append-add}
+use Rattle.std.proofs.Math.Seq.{take-append-add, take-append_seam}
 use Rattle.std.proofs.lemmas.List.FromFn.{get_or-map-range_with_len}
 use Rattle.flow_keys.specs.declared.octets.TheConstants.{OCTETS}
 
@@ -55,25 +55,33 @@ row_at n small =
     ap (λ (rows : List (List ℕ)). get_or rows n []) rows_are
     ∙ get_or-map-range_with_len octet_row 0 256 n n [] small (omega arith)
 
--- so its first bytes are the number's text
-pub octet_text : (n : ℕ) → n < 256 → take (length (decimal n)) (get_or OCTETS n []) ≡ decimal n
-octet_text n small =
+-- so its first bytes are the number's text and a dot
+pub octet_dotted : (n : ℕ) → n < 256 → take (length (decimal n) + 1) (get_or OCTETS n []) ≡ decimal n ++ codes "."
+octet_dotted n small =
     elim (eq-zero-or-pos (n - 9)) [
       | inl low ↦
-          (λ i. take (length_1 n (omega arith) i) ((row_at n small ∙ sym (cond_below n 10 _ _ (omega arith))) i))
-          ∙ sym (decimal_digit n (omega arith))
+          (λ i. take (length_1 n (omega arith) i + 1) ((row_at n small ∙ sym (cond_below n 10 _ _ (omega arith))) i))
+          ∙ ap (λ (text : List ℕ). text ++ codes ".") (sym (decimal_digit n (omega arith)))
       | inr more ↦ elim (eq-zero-or-pos (n - 99)) [
         | inl low ↦
-            (λ i. take (length_2 n (omega arith) (omega arith) i)
+            (λ i. take (length_2 n (omega arith) (omega arith) i + 1)
             ((row_at n small ∙ sym (cond_above n 10 _ _ _ (omega arith) (cond_below n 100 _ _ (omega arith)))) i))
-            ∙ sym (digits_2 n (omega arith) (omega arith))
+            ∙ ap (λ (text : List ℕ). text ++ codes ".") (sym (digits_2 n (omega arith) (omega arith)))
         | inr high ↦
-            (λ i. take (length_3 n (omega arith) (omega arith) i)
-            ((row_at n small ∙ sym (cond_above n 10 _ _ _ (omega arith) (cond_above n 100 _ _ _ (omega arith) refl)))
-            i))
-            ∙ sym (digits_3 n (omega arith) (omega arith))
+            (λ i. take (length_3 n (omega arith) (omega arith) i + 1)
+            ((row_at n small ∙
+            sym (cond_above n 10 _ _ _ (omega arith) (cond_above n 100 _ _ _ (omega arith) refl))) i))
+            ∙ ap (λ (text : List ℕ). text ++ codes ".") (sym (digits_3 n (omega arith) (omega arith)))
       ]
     ]
+
+-- of which the dot is the last
+pub octet_text : (n : ℕ) → n < 256 → take (length (decimal n)) (get_or OCTETS n []) ≡ decimal n
+octet_text n small =
+    let m : ℕ = length (decimal n) in
+    sym (take-take m (m + 1) (get_or OCTETS n []) (omega arith))
+    ∙ ap (take m) (octet_dotted n small)
+    ∙ take-append_seam (decimal n) (codes ".")
 
 -- a front of what was put after a text
 pub put_front : (old row new : List ℕ) (at n m : ℕ) → at ≤ length old → n ≤ length row → at + length row ≡ m →

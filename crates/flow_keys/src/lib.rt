@@ -13,5 +13,4 @@ mod written;
 pub use calls::call_of;
 pub use keys::key_of;
 pub use laws::{both_directions, one_flow};
-pub use texts::key_text;
-pub use written::KeyText;
+pub use texts::write_key;

@@ -1,6 +1,6 @@
 //! Keys, calls and texts worked by hand.
 
-use crate::{call_of, key_of, key_text};
+use crate::{call_of, key_of, write_key};
 use packet_heads::{Endpoint, Heads, Protocol};
 use plain_map::{Call, Key};
 
@@ -89,8 +89,9 @@ fn keys_of_worked_flows(rt: HostRuntime) {
     for (source, target, protocol, key, text) in rows {
         let found = key_of(&between(source, target, protocol));
         assert_eq!(rt; found, key, "at {text}");
-        let written = key_text(&found);
-        assert_eq!(rt; &written.bytes[..written.length], text.as_bytes());
+        let mut buffer = [0; 50];
+        let end = write_key(&found, &mut buffer, 2);
+        assert_eq!(rt; &buffer[2..end], text.as_bytes());
     }
 }
 

@@ -34,7 +34,8 @@ counts_more (count ∷ counts) (suc i) later inside =
     ap (λ (n : ℕ). join_by decimal (codes ",") (take n (count ∷ counts))) (sym succ)
     ∙ ap (λ (ns : List ℕ). decimal count ++ flat_map each ns) more
     ∙ ap (λ (text : List ℕ). decimal count ++ text)
-    (flat_map-append each front (next ∷ []) ∙ ap (λ (text : List ℕ). flat_map each front ++ text) (append-nil (each next)))
+    (flat_map-append each front (next ∷ [])
+    ∙ ap (λ (text : List ℕ). flat_map each front ++ text) (append-nil (each next)))
     ∙ sym (append_assoc (decimal count) (flat_map each front) (each next))
 
 -- so it is with the text before them

@@ -2,4 +2,4 @@ pub mod LineLemmas
 pub mod ReportLemmas
 pub mod OrderLemmas
 mod CountLemmas
-mod WrittenLemmas
+mod DigitLemmas

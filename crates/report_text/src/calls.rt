@@ -9,8 +9,9 @@ ghost use Rattle.report_text.specs.Report.{after_words, call_in, call_words, ful
 ghost use Rattle.report_text.specs.Lines.{counts_word, room, Puts, text_in};
 
 use crate::line::Line;
-use crate::pieces::{append, begin_line, end_line, put_named, put_number, put_text, put_word};
-use flow_keys::key_text;
+use crate::pieces::{
+    append, begin_line, end_line, put_key, put_named, put_number, put_text, put_word,
+};
 use plain_map::{Call, Full, FullKind, Pending, Record, Reply, Seen};
 use std::alloc::AllocError;
 use trace_share::Outcome;
@@ -117,8 +118,7 @@ fn put_call(out: &mut Line, packet: u32, seat: u32, call: &Call)
     put_number(out, packet);
     put_named(out, b"seat", seat);
     put_word(out, verb_word(call));
-    let text = key_text(call.key());
-    put_word(out, &text.bytes[..text.length]);
+    put_key(out, call.key());
 }
 
 // The word for what a call asks.

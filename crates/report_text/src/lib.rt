@@ -2,6 +2,7 @@
 #![tactic(auto)]
 
 mod calls;
+mod digits;
 mod head;
 mod line;
 mod order;

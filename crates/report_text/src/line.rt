@@ -2,27 +2,28 @@
 
 ghost use Rattle.std.specs.Prelude.{◌≡◌, ◌+◌, ◌≤◌, [], ◌++◌, length, take};
 ghost use Rattle.std.specs.Fmt.{decimal};
-ghost use Rattle.report_text.specs.declared.line.TheConstants.{DIGITS, LINE_ROOM};
+ghost use Rattle.report_text.specs.declared.line.TheConstants.{LINE_ROOM};
 
+use crate::digits::digit_count;
+use flow_keys::write_key;
 use itoa::write_digits;
+use plain_map::Key;
 
 /// How long the text can become.
 pub(crate) const LINE_ROOM: usize = 512;
-
-// The length of the longest number.
-const DIGITS: usize = 20;
 
 /// A place to write lines in, one after another. It is made once and used for as many as there are: each begins it
 /// again, so what it held before does not count.
 #[derive(Drop)]
 pub struct Line {
     // The text stands in the first `length` bytes, and behind it anything.
-    bytes: [u8; 532],
+    bytes: [u8; 512],
     length: usize,
     ghost within: { length ≤ LINE_ROOM },
 }
 
 impl Line {
+    ghost use Rattle.flow_keys.specs.FlowText.{HasText, flow_text};
     ghost use Rattle.report_text.specs.Lines.{room, text_in};
 
     /// No text yet.
@@ -33,7 +34,7 @@ impl Line {
         ensures space { room result ≡ LINE_ROOM }
     {
         Line {
-            bytes: [0; 532],
+            bytes: [0; 512],
             length: 0,
         }
     }
@@ -69,21 +70,21 @@ impl Line {
         ensures appended { text_in self.new ≡ text_in self.old ++ decimal number }
         ensures taken { room self.old ≤ room self.new + length (decimal number) }
     {
-        let mut digits = [0; 2 * DIGITS];
-        let start = write_digits(number, &mut digits, DIGITS);
-        self.lay(&digits[start..start + DIGITS]);
-        self.length += DIGITS - start;
+        let end = self.length + digit_count(number);
+        write_digits(number, &mut self.bytes, end);
+        self.length = end;
     }
 
-    // Writes so many bytes after the text, which stays as it is.
+    /// Appends the text of a key.
     #[inline(always)]
-    fn lay(&mut self, bytes: &[u8])
-        requires { length bytes.now ≡ DIGITS }
-        ensures laid { take (self.old.length + DIGITS) self.new.bytes
-            ≡ take self.old.length self.old.bytes ++ bytes.now }
-        ensures length { self.new.length ≡ self.old.length }
+    #[tactic(auto, unfolding(crate::specs::Lines::room, crate::specs::Lines::text_in))]
+    pub(crate) fn put_key(&mut self, key: &Key)
+        requires key { HasText key.now }
+        requires space { 48 ≤ room self.old }
+        ensures appended { text_in self.new ≡ text_in self.old ++ flow_text key.now }
+        ensures taken { room self.old ≤ room self.new + 47 }
     {
-        self.bytes[self.length..self.length + DIGITS].copy_from_slice(bytes);
+        self.length = write_key(key, &mut self.bytes, self.length);
     }
 
     /// All of it.

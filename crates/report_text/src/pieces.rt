@@ -1,10 +1,12 @@
 //! The pieces of a line. No piece takes memory.
 
 ghost use Rattle.std.specs.Prelude.{◌≡◌, ◌+◌, ◌≤◌, [], ◌∷◌, ◌++◌, decimal, length, OnOk, OnErr};
+ghost use Rattle.flow_keys.specs.FlowText.{HasText, flow_text};
 ghost use Rattle.report_text.specs.Lines.{room, text_in, Begins, Ends, Puts};
 
 use crate::line::Line;
 use itoa::Integer;
+use plain_map::Key;
 use std::alloc::AllocError;
 
 /// A number whose text is what `decimal` says.
@@ -73,6 +75,18 @@ pub fn put_word(out: &mut Line, word: &[u8])
 {
     put_text(out, b" ");
     put_text(out, word);
+}
+
+/// Appends the text of a key as a word.
+#[inline(always)]
+pub fn put_key(out: &mut Line, key: &Key)
+    requires key { HasText key.now }
+    requires space { 49 ≤ room out.old }
+    ensures puts { Puts (text_in out.old) (flow_text key.now ∷ []) (text_in out.new) }
+    ensures taken { room out.old ≤ room out.new + 48 }
+{
+    put_text(out, b" ");
+    out.put_key(key);
 }
 
 /// Appends a number as a word.

@@ -6,8 +6,7 @@ ghost use Rattle.report_text.specs.Report.{session_line};
 ghost use Rattle.report_text.specs.Lines.{room, text_in};
 
 use crate::line::Line;
-use crate::pieces::{append, begin_line, end_line, put_number, put_word};
-use flow_keys::key_text;
+use crate::pieces::{append, begin_line, end_line, put_key, put_number};
 use plain_map::Pair;
 use std::alloc::AllocError;
 
@@ -29,8 +28,7 @@ fn put_session(out: &mut Line, pair: &Pair)
     ensures { text_in out.new ≡ text_in out.old ++ session_line pair.now }
 {
     begin_line(out, b"session");
-    let key = key_text(&pair.key);
-    put_word(out, &key.bytes[..key.length]);
+    put_key(out, &pair.key);
     put_number(out, pair.value);
     end_line(out);
 }

@@ -6,5 +6,5 @@ pub returns : goal.returns
 unfolding session_line
 returns c =
     line_whole c.begin_line.ensures.begins
-    (rw c.key_text-key.ensures.text at c.put_word.ensures.puts ⨟ c.put_number.ensures.puts)
+    (c.put_key.ensures.puts ⨟ c.put_number.ensures.puts)
     c.end_line.ensures.ends
