@@ -3,3 +3,4 @@ pub mod Outcomes
 pub mod Tries
 pub mod Coming
 mod Ends
+mod Playable

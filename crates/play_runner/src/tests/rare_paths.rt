@@ -338,21 +338,24 @@ const TWO_BUCKETS_AT_ONCE: Worked = Worked {
     unbegun: 0,
 };
 
+/// All of them.
+pub const RARE: [Worked; 11] = [
+    LOST_TWICE_THEN_APPLIED,
+    LOST_TWICE_THEN_FROZEN,
+    HELPED_BY_A_CHANGE,
+    FOUND_IN_ROUND_2,
+    LOST_ROOT_THEN_LEFT,
+    LOST_ROOT_THEN_CHANGED,
+    LOST_ROOT_TWICE,
+    LAST_LOOK,
+    CHANGED_IN_ROUND_2,
+    TWO_LEAVES_SHOW_ONE,
+    TWO_BUCKETS_AT_ONCE,
+];
+
 #[test]
 fn rare_paths(rt: HostRuntime) -> Result<(), Fail> {
-    for worked in [
-        LOST_TWICE_THEN_APPLIED,
-        LOST_TWICE_THEN_FROZEN,
-        HELPED_BY_A_CHANGE,
-        FOUND_IN_ROUND_2,
-        LOST_ROOT_THEN_LEFT,
-        LOST_ROOT_THEN_CHANGED,
-        LOST_ROOT_TWICE,
-        LAST_LOOK,
-        CHANGED_IN_ROUND_2,
-        TWO_LEAVES_SHOW_ONE,
-        TWO_BUCKETS_AT_ONCE,
-    ] {
+    for worked in RARE {
         check(&rt, rt.alloc(), &worked)?;
     }
     Ok(())

@@ -40,8 +40,8 @@ fn full_of(outcome: &Outcome) -> Option<(FullKind, u64, u64)> {
     }
 }
 
-// A seat with few rows is refused the first update for which they may not suffice, and those after it. A refused call is
-// in no order.
+// A seat with few rows is refused the first update for which they may not suffice, and those after it. A refused call
+// is in no order.
 #[test]
 fn refused_inserts(rt: HostRuntime) -> Result<(), Fail> {
     let settings = Settings::new(1, 2, 1, 1)?;

@@ -127,16 +127,16 @@ fn can_play(own: &[(u32, Call)]) -> bool
     own.len() <= u32::MAX as usize && own.iter().all(|begin| is_playable(*begin))
 }
 
-// Whether the calls of all seats can be played.
-fn all_can_play(calls: &[Vec<(u32, Call)>]) -> bool
+/// Whether the calls of all seats can be played.
+pub fn all_can_play(calls: &[Vec<(u32, Call)>]) -> bool
     ensures { IsTrue result
         ↔ All (λ own. All IsPlayable own.items × (length own.items ≤ 2 ^ 32 - 1)) calls.now }
 {
     calls.iter().all(|own| can_play(own))
 }
 
-// A table with these ranges and no pairs, by the hash `ports`.
-fn core_of(alloc: Global, settings: &Settings, rows: &[SeatRows]) -> Result<CoreWorld, Fail>
+/// A table with these ranges and no pairs, by the hash `ports`.
+pub fn core_of(alloc: Global, settings: &Settings, rows: &[SeatRows]) -> Result<CoreWorld, Fail>
     ensures opened { IfOk result (λ core. core ≡ opened core.setup) }
     ensures room { IfOk result (λ core. IsSetup core.setup) }
 {
@@ -159,6 +159,13 @@ pub fn play_with(
     if !all_can_play(calls) {
         return Err(Fail::from("no such calls"));
     }
+    let schedule = schedule_of(alloc, worked)?;
+    let played = play(alloc, core, calls, &worked.stops, &schedule)?;
+    Ok(played)
+}
+
+/// The segments of the schedule.
+pub fn schedule_of(alloc: Global, worked: &Worked) -> Result<Vec<Segment>, AllocError> {
     let mut schedule = Vec::new(alloc);
     for (seat, slots) in worked.schedule {
         schedule.push(Segment {
@@ -166,8 +173,7 @@ pub fn play_with(
             slots: *slots,
         })?;
     }
-    let played = play(alloc, core, calls, &worked.stops, &schedule)?;
-    Ok(played)
+    Ok(schedule)
 }
 
 /// The calls of each seat.
@@ -184,9 +190,19 @@ pub fn play_of(alloc: Global, worked: &Worked) -> Result<Played, Fail> {
     let [seats, items, depth, start] = worked.settings;
     let settings = Settings::new(seats, items, depth, start)?;
     let calls = calls_of(alloc, worked)?;
-    let mut rows = Vec::new(alloc);
-    for own in &calls {
-        rows.push(automatic(&settings, own))?;
-    }
+    let rows = rows_for(alloc, &settings, &calls)?;
     play_with(alloc, &settings, &rows, &calls, worked)
+}
+
+/// For each seat the ranges that suffice for its calls.
+pub fn rows_for(
+    alloc: Global,
+    settings: &Settings,
+    calls: &[Vec<(u32, Call)>],
+) -> Result<Vec<SeatRows>, AllocError> {
+    let mut rows = Vec::new(alloc);
+    for own in calls {
+        rows.push(automatic(settings, own))?;
+    }
+    Ok(rows)
 }
