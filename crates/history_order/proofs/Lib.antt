@@ -33,3 +33,4 @@ pub mod Spoken
 pub mod Falls
 pub mod Runs
 pub mod Zeros
+pub mod Alone

@@ -22,7 +22,7 @@ ghost use Rattle.history_order.specs.Tables.{
 };
 
 use crate::calls::{Closed, id_at, place_at};
-use crate::ready::{callers_of, is_free, is_marked_done};
+use crate::ready::{callers_of, is_alone, is_free, is_marked_done};
 use crate::tables::{Found, Progress, Unit};
 use closed_words::Words;
 use plain_map::{CallId, MOST_SEATS};
@@ -154,7 +154,7 @@ fn tell_one<W: Words>(
     }
 }
 
-/// The calls of the unit of the seat's next call are told, in the order of the seats. A lookup comes alone.
+/// The calls of the unit of the seat's next call are told, in the order of the seats. Most come alone.
 #[inline(always)]
 pub(crate) fn tell<W: Words>(
     closed: &Closed<W>,
@@ -171,7 +171,7 @@ pub(crate) fn tell<W: Words>(
         count_with (map (λ log. log.items) closed.now.logs.now) closed.now.begun.now found.now seat unit
         other (slice_index count.old other)) }
 {
-    if let Unit::Lookup = unit {
+    if is_alone(found, unit, seat) {
         return tell_one(closed, found, count, true, seat, unit, seat, out);
     }
     let callers = callers_of(found, unit, seat);

@@ -1,6 +1,6 @@
 //! Which units may be placed.
 
-ghost use Rattle.std.specs.Prelude.{◌≡◌, ℕ, ◌<◌, ◌==◌, false, map, slice_index_or};
+ghost use Rattle.std.specs.Prelude.{◌≡◌, ℕ, ◌<◌, ◌==◌, true, false, map, slice_index_or};
 ghost use Rattle.std.specs.List.{list_all};
 ghost use Rattle.std.specs.Option.{option_map_or};
 ghost use Rattle.history_order.specs.Calls.{call_at, seen_in};
@@ -83,6 +83,27 @@ fn only(seat: usize) -> [bool; MOST_SEATS]
         callers[seat] = true;
     }
     callers
+}
+
+/// Whether all calls of the unit are of this seat, whose next one is among them.
+#[inline(always)]
+pub(crate) fn is_alone(found: &Found, unit: Unit, seat: usize) -> bool
+    ensures { result ≡ true → (other : ℕ) → other < MOST_SEATS →
+        has_call_in found.now unit seat other ≡ (seat == other) }
+{
+    match unit {
+        Unit::Lookup => true,
+        _ => are_only(&callers_of(found, unit, seat), seat),
+    }
+}
+
+// Whether this seat is set, and no other.
+#[inline(always)]
+fn are_only(callers: &[bool; MOST_SEATS], seat: usize) -> bool
+    ensures { result ≡ true → (other : ℕ) → other < MOST_SEATS →
+        slice_index_or callers.now other false ≡ (seat == other) }
+{
+    *callers == only(seat)
 }
 
 /// Whether the unit has no calls.
@@ -257,7 +278,7 @@ fn is_none_or_next<W: Words>(
     !callers[other] || is_next_in(closed, found, count, unit, other)
 }
 
-// Whether so it is with each call of the unit. A lookup comes alone.
+// Whether so it is with each call of the unit. Most have one alone.
 #[inline(always)]
 fn are_next_in<W: Words>(
     closed: &Closed<W>,
@@ -270,7 +291,7 @@ fn are_next_in<W: Words>(
     ensures { result ≡ are_next_in (map (λ log. log.items) closed.now.logs.now) closed.now.begun.now
         found.now count.now seat unit }
 {
-    if let Unit::Lookup = unit {
+    if is_alone(found, unit, seat) {
         return is_next_in(closed, found, count, unit, seat);
     }
     let callers = callers_of(found, unit, seat);

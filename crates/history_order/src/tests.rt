@@ -2,7 +2,7 @@ ghost use Rattle.std.specs.Prelude.{◌≡◌, IfOk, length};
 
 use crate::calls::{Closed, id_at, place_at, seen_at};
 use crate::moves::{place_row, tell};
-use crate::ready::{callers_of, is_due, is_free, is_ready_in, unit_in};
+use crate::ready::{callers_of, is_alone, is_due, is_free, is_ready_in, unit_in};
 use crate::tables::{Found, Progress, Unit};
 use closed_words::Starts;
 use plain_map::{Call, CallId, Key, Pending, Record, Reply, Seen};
@@ -154,6 +154,8 @@ fn a_lookup_waits_for_its_row(rt: HostRuntime) -> Result<(), Fail> {
     assert!(rt; is_due(&closed, &found, &progress, 1));
     assert!(rt; !is_ready_in(&closed, &found, &progress, &count, 0));
     assert!(rt; is_ready_in(&closed, &found, &progress, &count, 1));
+    assert!(rt; is_alone(&found, Unit::Row(1), 1));
+    assert!(rt; !is_alone(&found, Unit::Row(1), 0));
     let mut told = Vec::new(alloc);
     tell(&closed, &found, &mut count, 1, Unit::Row(1), &mut told)?;
     place_row(&found, &mut progress, 1)?;

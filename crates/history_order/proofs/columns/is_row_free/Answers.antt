@@ -1,5 +1,5 @@
 -- The flag of a seat is whether its update is new in the row.
-use Rattle.std.proofs.Common.{◌≡◌, ◌∷◌, [], ◌<◌, ◌≤◌, ℕ, List, Bool, true, false, not, get_or, ap, ◌∙◌, sym, arith, lt-ltb}
+use Rattle.std.proofs.Common.{◌≡◌, ◌∷◌, [], ◌<◌, ℕ, Bool, false, not, get_or, ap, ◌∙◌, sym, arith, lt-ltb}
 use Rattle.std.specs.Prelude.{◌&&◌, is_some}
 use Rattle.step_counts.specs.declared.settings.Settings.{Settings}
 use Rattle.word_rows.specs.LayoutView.{shape_of}

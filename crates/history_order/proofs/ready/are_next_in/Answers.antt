@@ -1,6 +1,7 @@
 use Rattle.std.proofs.Common.{ℕ, Bool, ◌+◌, ◌-◌, ◌∙◌, sym, map, arith}
 use Rattle.plain_map.specs.declared.records.TheConstants.{MOST_SEATS}
 use Rattle.history_order.specs.Tables.{is_none_or_next}
+use Rattle.history_order.proofs.Alone.{next_alone}
 use Rattle.history_order.proofs.Ranges.{range_goes, range_stops, all_ends}
 use Rattle.history_order.proofs.ready.are_next_in.Goals as goal
 
@@ -23,3 +24,9 @@ returns g c =
     let f : ℕ → Bool = is_none_or_next (map (λ log. log.items) c.args.closed.now.logs.now) c.args.closed.now.begun.now
     c.args.found.now c.args.count.now c.args.seat c.args.unit in
     all_ends f c.loop-other.other MOST_SEATS (omega arith) ∙ c.loop-other.invariant
+
+pub returns-then-is_alone : goal.returns-then-is_alone
+returns-then-is_alone g c =
+    c.is_next_in.ensures
+    ∙ sym (next_alone (map (λ log. log.items) c.args.closed.now.logs.now) c.args.closed.now.begun.now c.args.found.now
+    c.args.count.now c.args.seat c.args.unit c.requires (c.is_alone.ensures c.if-is_alone.true))
