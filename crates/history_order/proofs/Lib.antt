@@ -34,3 +34,4 @@ pub mod Falls
 pub mod Runs
 pub mod Zeros
 pub mod Alone
+pub mod Rows

@@ -1,6 +1,7 @@
 -- What the tables say is what is told.
 use Rattle.std.proofs.Common.{◌≡◌, ℕ, zero, suc, ◌+◌, ◌<◌, ◌≤◌, Bool, true, false, List, [], ◌∷◌, length, get_or, Some, None, refl, inl, inr, sym, ap, ◌∙◌, subst, arith, add-one, eqb-true}
 use Rattle.std.specs.Prelude.{◌==◌, ◌&&◌, slice_get, slice_index_or}
+use Rattle.std.specs.Option.{option_map_or}
 use Rattle.std.proofs.lemmas.Bool.{cases_Bool, cases_lt}
 use Rattle.std.proofs.lemmas.List.{get_or_past}
 use Rattle.plain_map.specs.declared.records.Record.{Record}
@@ -20,10 +21,12 @@ use Rattle.history_order.specs.Told.{Told}
 use Rattle.history_order.specs.Filled.{IsVersion, Filled, Begun}
 use Rattle.history_order.specs.Filling.{firsts_in, bases_in, new_beside}
 use Rattle.history_order.specs.Columns.{base_in, is_caller, is_free}
-use Rattle.history_order.specs.Fills.{IsFound, IsBegun, version_leaves, exchanged_rows}
+use Rattle.history_order.specs.Fills.{IsFound, IsBegun, version_rows, version_leaves, exchanged_rows}
+use Rattle.history_order.specs.Tables.{HasBases}
 use Rattle.history_order.specs.declared.tables.Version.{Version}
 use Rattle.history_order.specs.declared.tables.Found.{Found}
 use Rattle.history_order.specs.declared.tables.Progress.{Progress}
+use Rattle.history_order.proofs.Loops.{length_leaves}
 use Rattle.history_order.proofs.Counts.{count_same, count_none}
 use Rattle.history_order.proofs.After.{after_cases, both_ways}
 use Rattle.history_order.proofs.Exchanges.{Before, new_born}
@@ -44,6 +47,42 @@ callers_told shape words logs found f exchanged callers are same row seat there 
       | inl wrote ↦ wrote.is ∙ ap (λ r. is_caller shape words (r ∷ []) seat) (some_one wrote.by row wrote.here)
       | inr kept ↦ absurd (kept.none row (subst (In row) are there) refl less)
     ]
+
+-- the column of bases says what the words say
+pub bases_told : (shape : Shape) (words : List ℕ) (logs : List (List Record)) (found : Found) →
+    IsFound shape words logs found → HasBases shape words found
+bases_told shape words logs found f row base e =
+    elim (after_cases (λ r. Some r) (base_in shape words) row (count_of shape BucketRows)
+    (exchanged_rows shape words logs) None) [
+      | inl wrote ↦ ap (base_in shape words) (sym (some_one wrote.by row wrote.here)) ∙ sym wrote.is ∙ sym (f.bases row)
+          ∙ e
+      | inr kept ↦ let none : None ≡ Some base = sym kept.is ∙ sym (f.bases row) ∙ e in cc
+    ]
+
+-- an empty one says nothing
+pub none_based : (shape : Shape) (words : List ℕ) (found : Found) → found.bases.items ≡ [] →
+    HasBases shape words found
+none_based shape words found empty row base e =
+    let none : None ≡ Some base = sym (ap (λ bases. get_or bases row None) empty) ∙ e in cc
+
+-- the first version has the opening's rows
+pub opening_told : (shape : Shape) (words : List ℕ) (logs : List (List Record)) (found : Found) →
+    IsFound shape words logs found →
+    option_map_or (λ (v : Version). v.firsts.items) (slice_get found.versions.items 0) []
+    ≡ firsts_in shape words (get_or (version_leaves shape words logs) 0 [])
+opening_told shape words logs found f = by_first found.versions.items refl
+  where
+    no_leaf : (ls : List (List ℕ)) → length ls ≡ 0 → get_or ls 0 [] ≡ []
+    no_leaf [] e = refl
+    no_leaf (l ∷ ls) e = cc
+
+    by_first : (vs : List Version) → vs ≡ found.versions.items →
+        option_map_or (λ (v : Version). v.firsts.items) (slice_get vs 0) []
+        ≡ firsts_in shape words (get_or (version_leaves shape words logs) 0 [])
+    by_first [] e =
+        ap (firsts_in shape words) (sym (no_leaf (version_leaves shape words logs)
+        (length_leaves shape words [] (version_rows shape words logs) ∙ sym f.many ∙ ap length (sym e))))
+    by_first (v ∷ vs) e = (f.made 0 v (ap (λ xs. slice_get xs 0) (sym e))).firsts
 
 module _ (words : List ℕ) (logs : List (List Record)) (begun : List Pending) (t : Told words logs begun) where
   -- the place of a row's piece

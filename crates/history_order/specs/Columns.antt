@@ -25,6 +25,12 @@ after_all at value place many [] before = before
 after_all at value place many (x ∷ xs) before =
     after_all at value place many xs (written place many (at x) (value x) before)
 
+-- one list of units, and the same with a unit more, where the place is one of it
+abbrev pub IsUnitPut : (at : Option ℕ) (unit : Unit) (old new : List (Option Unit)) → Type 0
+IsUnitPut at unit old new = (length new ≡ length old)
+    × ((place : ℕ) → slice_index_or new place None
+    ≡ written place (length old) at (Some unit) (slice_index_or old place None))
+
 -- the members with their places
 abbrev pub numbered_from : {A : Type 0} → ℕ → List A → List (ℕ × A)
 numbered_from from [] = []

@@ -1,14 +1,17 @@
 -- The tables, list by list: what they are filled with, whatever the words.
-use Rattle.std.specs.Prelude.{◌≡◌, ℕ, ◌<◌, true, false, List, [], ◌∷◌, length, map, reverse, Some, None, slice_get, slice_index_or, flat_map, filter}
+use Rattle.std.specs.Prelude.{◌≡◌, ℕ, ◌+◌, ◌<◌, true, false, List, [], ◌∷◌, length, map, reverse, Option, Some, None, slice_get, slice_index_or, flat_map, filter}
 use Rattle.plain_map.specs.declared.records.Record.{Record}
 use Rattle.plain_map.specs.declared.full.FullKind.TheVariants.{BucketRows}
 use Rattle.word_rows.specs.Shape.{Shape, count_of}
 use Rattle.core_model.specs.Reading.{directory_rows}
 use Rattle.history_order.specs.Closing.{log_of}
 use Rattle.history_order.specs.Filling.{leaves_from, exchanged_in, firsts_in}
-use Rattle.history_order.specs.Columns.{IsMade, after_all, base_in, is_caller, is_free, looks_in, unit_at}
+use Rattle.history_order.specs.Columns.{IsMade, after_all, base_in, is_caller, is_free, looks_in, row_place, unit_at}
 use Rattle.history_order.specs.declared.tables.Version.{Version}
+use Rattle.history_order.specs.declared.tables.Columns.{Columns}
 use Rattle.history_order.specs.declared.tables.Found.{Found}
+use Rattle.history_order.specs.declared.tables.Unit.{Unit}
+use Rattle.history_order.specs.declared.tables.Unit.TheVariants.{Row}
 use Rattle.history_order.specs.declared.tables.Progress.{Progress}
 
 module _ (shape : Shape) (words : List ℕ) (logs : List (List Record)) where
@@ -22,6 +25,29 @@ module _ (shape : Shape) (words : List ℕ) (logs : List (List Record)) where
   abbrev pub exchanged_rows : List ℕ
   exchanged_rows = exchanged_in shape words version_leaves
 
+  -- the lists of units by seat, where those of these rows are written
+  pub record AreUnits (rows : List ℕ) (lists : List (List (Option Unit))) : Type 0 where
+    pub seats : length lists ≡ shape.settings.seats
+    pub many : (seat : ℕ) → seat < shape.settings.seats →
+        length (slice_index_or lists seat []) ≡ length (log_of logs seat) + 1
+    pub reads : (seat place : ℕ) → seat < shape.settings.seats →
+        slice_index_or (slice_index_or lists seat []) place None
+        ≡ after_all (row_place shape words seat) (λ row. Some (Row row)) place (length (log_of logs seat) + 1) rows None
+
+  -- the columns, where their rows are written
+  pub record AreWritten (columns : Columns) : Type 0 where
+    pub bases : (place : ℕ) → slice_index_or columns.bases.items place None
+        ≡ after_all (λ row. Some row) (base_in shape words) place (count_of shape BucketRows) columns.rows.items None
+    pub bases_rows : length columns.bases.items ≡ count_of shape BucketRows
+    pub next_rows : length columns.next.items ≡ count_of shape BucketRows
+    pub next : (place : ℕ) → slice_index_or columns.next.items place None
+        ≡ after_all (base_in shape words) (λ row. Some row) place (count_of shape BucketRows) columns.rows.items None
+    pub callers_rows : length columns.callers.items ≡ count_of shape BucketRows
+    pub callers : (place seat : ℕ) → slice_index_or (slice_index_or columns.callers.items place []) seat false
+        ≡ after_all (λ row. Some row) (λ row. is_caller shape words (row ∷ []) seat) place
+        (count_of shape BucketRows) columns.rows.items false
+    pub units : AreUnits columns.rows.items (map (λ list. list.items) columns.units.items)
+
   -- what is found
   pub record IsFound (found : Found) : Type 0 where
     pub many : length found.versions.items ≡ length version_rows
@@ -30,6 +56,8 @@ module _ (shape : Shape) (words : List ℕ) (logs : List (List Record)) where
     pub units : (seat place : ℕ) → seat < shape.settings.seats →
         slice_index_or (slice_index_or (map (λ list. list.items) found.units.items) seat []) place None
         ≡ unit_at shape words exchanged_rows found.versions.items (log_of logs seat) seat place
+    pub bases : (place : ℕ) → slice_index_or found.bases.items place None
+        ≡ after_all (λ row. Some row) (base_in shape words) place (count_of shape BucketRows) exchanged_rows None
     pub next_rows : length found.next.items ≡ count_of shape BucketRows
     pub next : (place : ℕ) → slice_index_or found.next.items place None
         ≡ after_all (base_in shape words) (λ row. Some row) place (count_of shape BucketRows) exchanged_rows None

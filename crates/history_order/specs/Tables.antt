@@ -51,6 +51,11 @@ is_marked placed row = slice_index_or placed row false
 abbrev pub is_marked_done : List Bool → List ℕ → ℕ → Bool
 is_marked_done placed looks row = is_marked placed row && (slice_index looks row == 0)
 
+-- where the column of bases names a row, the words name it
+abbrev pub HasBases : Shape → List ℕ → Found → Type 0
+HasBases shape words found = (row base : ℕ) → slice_index_or found.bases.items row None ≡ Some base →
+    (bucket_row shape words row).base ≡ Some base
+
 -- what the unit was made from is placed
 abbrev pub has_marked_base : Shape → List ℕ → Found → Progress → Unit → Bool
 has_marked_base shape words found progress Lookup = false

@@ -28,7 +28,7 @@ ghost use Rattle.history_order.specs.Columns.{
 ghost use Rattle.history_order.specs.declared.tables.Unit.TheVariants.{Lookup, Row, Version as VersionAt};
 
 use crate::tables::{Unit, Version};
-use closed_words::{Starts, Words, new_number, row_base};
+use closed_words::{Starts, Words, new_number};
 use plain_map::{Call, MOST_SEATS, Record};
 use std::alloc::AllocError;
 
@@ -91,60 +91,6 @@ pub(crate) fn callers_in<W: Words>(starts: &Starts, words: &W, rows: &[u64]) -> 
         callers[seat as usize] = new_in(starts, words, rows, seat).is_some();
     }
     callers
-}
-
-/// By bucket row: the one of these rows that was made from it.
-pub(crate) fn next<W: Words>(
-    kept: Vec<Option<u64>>,
-    starts: &Starts,
-    words: &W,
-    exchanged: &[u64],
-) -> Result<Vec<Option<u64>>, AllocError>
-    ensures rows { IfOk result (λ next. length next.items ≡ count_of (shape_of starts.now.layout) BucketRows) }
-    ensures next { IfOk result (λ next. (place : ℕ) → slice_index_or next.items place None
-        ≡ after_all (base_in (shape_of starts.now.layout) (W.words words.now)) (λ row. Some row) place
-        (count_of (shape_of starts.now.layout) BucketRows) exchanged.now None) }
-{
-    let mut next = column(kept, starts.bucket_row_count(), None)?;
-    for row in exchanged {
-        put(&mut next, row_base(starts, words, *row), Some(*row));
-    }
-    Ok(next)
-}
-
-/// By bucket row and seat, whether the seat's update is new in it, if it is one of these rows.
-pub(crate) fn callers<W: Words>(
-    kept: Vec<[bool; MOST_SEATS]>,
-    starts: &Starts,
-    words: &W,
-    exchanged: &[u64],
-) -> Result<Vec<[bool; MOST_SEATS]>, AllocError>
-    ensures rows { IfOk result (λ callers. length callers.items ≡ count_of (shape_of starts.now.layout) BucketRows) }
-    ensures callers { IfOk result (λ callers. (place seat : ℕ) →
-        slice_index_or (slice_index_or callers.items place []) seat false
-        ≡ after_all (λ row. Some row) (λ row. is_caller (shape_of starts.now.layout) (W.words words.now) (row ∷ []) seat)
-        place (count_of (shape_of starts.now.layout) BucketRows) exchanged.now false) }
-{
-    let mut callers = column(kept, starts.bucket_row_count(), [false; MOST_SEATS])?;
-    write_callers(starts, words, exchanged, &mut callers);
-    Ok(callers)
-}
-
-// The callers of these rows.
-fn write_callers<W: Words>(
-    starts: &Starts,
-    words: &W,
-    exchanged: &[u64],
-    callers: &mut [[bool; MOST_SEATS]],
-)
-    ensures len { length callers.new ≡ length callers.old }
-    ensures reads { (place seat : ℕ) → slice_index_or (slice_index_or callers.new place []) seat false
-        ≡ after_all (λ row. Some row) (λ row. is_caller (shape_of starts.now.layout) (W.words words.now) (row ∷ []) seat)
-        place (length callers.old) exchanged.now (slice_index_or (slice_index_or callers.old place []) seat false) }
-{
-    for row in exchanged {
-        put(callers, Some(*row), callers_in(starts, words, &[*row]));
-    }
 }
 
 /// By bucket row, whether it is one of these.

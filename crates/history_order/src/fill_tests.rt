@@ -90,6 +90,10 @@ fn fills_a_small_table(rt: HostRuntime) -> Result<(), Fail> {
     let tables = fill(alloc, kept, &starts, &words, &logs)?;
     let found = &tables.found;
     assert_eq!(rt;
+        found.bases.as_slice(),
+        [None, None, Some(0), None, None, None].as_slice()
+    );
+    assert_eq!(rt;
         found.next.as_slice(),
         [Some(2), None, None, None, None, None].as_slice()
     );

@@ -2,21 +2,12 @@
 //!
 //! The only error of each is want of memory.
 
-ghost use Rattle.std.specs.Prelude.{◌≡◌, ℕ, ◌==◌, ◌++◌, [], IfOk, OnOk, List, false, flat_map, map, slice_index_or};
+ghost use Rattle.std.specs.Prelude.{◌≡◌, ℕ, ◌==◌, ◌++◌, [], IfOk, OnOk, List, false, map, slice_index_or};
 ghost use Rattle.std.specs.Prelude.{◌||◌};
 ghost use Rattle.word_rows.specs.LayoutView.{shape_of};
-ghost use Rattle.history_order.specs.Filling.{
-  AreMet,
-  bases_in,
-  entries_of,
-  exchanged_in,
-  exchanged_of,
-  firsts_in,
-  leaves_from,
-  new_beside,
-};
+ghost use Rattle.history_order.specs.Filling.{AreMet, bases_in, entries_of, leaves_from, new_beside};
 
-use closed_words::{Starts, Words, entry, entry_count, first_row, is_exchanged, row_base, row_of};
+use closed_words::{Starts, Words, entry, entry_count, row_base};
 use std::alloc::{AllocError, Global};
 
 /// For each of the directory rows the buckets that it names and no row before it, in the order of the last places.
@@ -86,24 +77,6 @@ fn meet(met: &mut Vec<bool>, number: u64) -> Result<(), AllocError>
     Ok(())
 }
 
-/// The first rows of the buckets.
-pub(crate) fn firsts<W: Words>(
-    alloc: Global,
-    starts: &Starts,
-    words: &W,
-    buckets: &[u64],
-) -> Result<Vec<u64>, AllocError>
-    ensures { IfOk result (λ rows. rows.items ≡ firsts_in (shape_of starts.now.layout) (W.words words.now) buckets.now) }
-{
-    let mut rows = Vec::new(alloc);
-    for bucket in buckets {
-        if let Some(row) = first_row(starts, words, *bucket) {
-            rows.push(row)?;
-        }
-    }
-    Ok(rows)
-}
-
 /// The rows that the rows were made from.
 pub(crate) fn bases<W: Words>(
     alloc: Global,
@@ -120,61 +93,4 @@ pub(crate) fn bases<W: Words>(
         }
     }
     Ok(bases)
-}
-
-/// The rows of the buckets that were published by an exchange of a bucket word.
-pub(crate) fn exchanged<W: Words>(
-    alloc: Global,
-    starts: &Starts,
-    words: &W,
-    leaves: &[Vec<u64>],
-) -> Result<Vec<u64>, AllocError>
-    ensures { IfOk result (λ rows. rows.items ≡ exchanged_in (shape_of starts.now.layout) (W.words words.now)
-        (map (λ buckets. buckets.items) leaves.now)) }
-{
-    let mut rows = Vec::new(alloc);
-    for buckets in leaves {
-        push_all(starts, words, buckets, &mut rows)?;
-    }
-    Ok(rows)
-}
-
-// Those of these buckets, after those that stand there.
-fn push_all<W: Words>(
-    starts: &Starts,
-    words: &W,
-    buckets: &[u64],
-    rows: &mut Vec<u64>,
-) -> Result<(), AllocError>
-    ensures { OnOk result (rows.new.items ≡ rows.old.items
-        ++ flat_map (exchanged_of (shape_of starts.now.layout) (W.words words.now)) buckets.now) }
-{
-    for bucket in buckets {
-        push_exchanged(starts, words, *bucket, rows)?;
-    }
-    Ok(())
-}
-
-// Those of a bucket, from its row in use on.
-fn push_exchanged<W: Words>(
-    starts: &Starts,
-    words: &W,
-    bucket: u64,
-    rows: &mut Vec<u64>,
-) -> Result<(), AllocError>
-    ensures { OnOk result (rows.new.items ≡ rows.old.items
-        ++ exchanged_of (shape_of starts.now.layout) (W.words words.now) bucket) }
-{
-    let mut next = Some(row_of(starts, words, bucket));
-    for _ in 0..starts.bucket_row_count() {
-        let Some(row) = next else {
-            return Ok(());
-        };
-        if !is_exchanged(starts, words, row) {
-            return Ok(());
-        }
-        rows.push(row)?;
-        next = row_base(starts, words, row);
-    }
-    Ok(())
 }

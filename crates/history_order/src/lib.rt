@@ -10,12 +10,14 @@ mod laws;
 mod leaves;
 mod moves;
 mod ready;
+mod row_columns;
 mod run_order;
 mod tables;
 #[cfg(test)]
 mod tests;
 mod turns;
 mod unit_lists;
+mod versions;
 
 pub use laws::turns_reach;
 pub use run_order::order;

@@ -1,12 +1,14 @@
 //! Which units may be placed.
 
-ghost use Rattle.std.specs.Prelude.{◌≡◌, ℕ, ◌<◌, ◌==◌, true, false, map, slice_index_or};
+ghost use Rattle.std.specs.Prelude.{◌≡◌, ℕ, ◌<◌, ◌==◌, None, true, false, map, slice_index_or};
 ghost use Rattle.std.specs.List.{list_all};
 ghost use Rattle.std.specs.Option.{option_map_or};
 ghost use Rattle.history_order.specs.Calls.{call_at, seen_in};
 ghost use Rattle.word_rows.specs.LayoutView.{shape_of};
 ghost use Rattle.plain_map.specs.declared.records.TheConstants.{MOST_SEATS};
+ghost use Rattle.core_model.specs.Reading.{bucket_row};
 ghost use Rattle.history_order.specs.Tables.{
+  HasBases,
   are_next_in,
   has_base_in,
   has_call_in,
@@ -148,6 +150,30 @@ fn are_marked_done(placed: &[bool], looks: &[u64], rows: &[u64]) -> bool
     true
 }
 
+// What the column of bases says of a row.
+#[inline(always)]
+fn known_base(bases: &[Option<u64>], row: u64) -> Option<u64>
+    ensures { result ≡ slice_index_or bases.now row None }
+{
+    if (row as usize) < bases.len() {
+        bases[row as usize]
+    } else {
+        None
+    }
+}
+
+// The row that a bucket row was made from. The words lie far apart, so they are asked only where the column is silent.
+#[inline(always)]
+fn base_of<W: Words>(closed: &Closed<W>, found: &Found, row: u64) -> Option<u64>
+    requires { HasBases (shape_of closed.now.starts.now.layout) (W.words closed.now.words.now) found.now }
+    ensures { result ≡ (bucket_row (shape_of closed.now.starts.now.layout) (W.words closed.now.words.now) row).base }
+{
+    match known_base(&found.bases, row) {
+        Some(base) => Some(base),
+        None => row_base(closed.starts, closed.words, row),
+    }
+}
+
 // Whether what the unit was made from is placed.
 #[inline(always)]
 fn has_marked_base<W: Words>(
@@ -156,12 +182,13 @@ fn has_marked_base<W: Words>(
     progress: &Progress,
     unit: Unit,
 ) -> bool
+    requires { HasBases (shape_of closed.now.starts.now.layout) (W.words closed.now.words.now) found.now }
     ensures { result ≡ has_marked_base (shape_of closed.now.starts.now.layout) (W.words closed.now.words.now)
         found.now progress.now unit }
 {
     match unit {
         Unit::Lookup => false,
-        Unit::Row(row) => match row_base(closed.starts, closed.words, row) {
+        Unit::Row(row) => match base_of(closed, found, row) {
             Some(base) => is_marked_done(&progress.placed, &progress.looks, base),
             None => true,
         },
@@ -181,6 +208,7 @@ pub(crate) fn is_due<W: Words>(
     progress: &Progress,
     row: u64,
 ) -> bool
+    requires { HasBases (shape_of closed.now.starts.now.layout) (W.words closed.now.words.now) found.now }
     ensures { result ≡ is_due (shape_of closed.now.starts.now.layout) (W.words closed.now.words.now)
         found.now progress.now row }
 {
@@ -194,6 +222,7 @@ pub(crate) fn is_version_due<W: Words>(
     found: &Found,
     progress: &Progress,
 ) -> bool
+    requires { HasBases (shape_of closed.now.starts.now.layout) (W.words closed.now.words.now) found.now }
     ensures { result ≡ is_version_due (shape_of closed.now.starts.now.layout) (W.words closed.now.words.now)
         found.now progress.now }
 {
@@ -313,7 +342,8 @@ fn has_base_in<W: Words>(
     seat: usize,
     unit: Unit,
 ) -> bool
-    requires { seat < MOST_SEATS }
+    requires seat { seat < MOST_SEATS }
+    requires bases { HasBases (shape_of closed.now.starts.now.layout) (W.words closed.now.words.now) found.now }
     ensures { result ≡ has_base_in (shape_of closed.now.starts.now.layout) (W.words closed.now.words.now)
         (map (λ log. log.items) closed.now.logs.now) found.now progress.now count.now seat unit }
 {
@@ -335,7 +365,8 @@ pub(crate) fn is_ready_in<W: Words>(
     count: &[u32; MOST_SEATS],
     seat: usize,
 ) -> bool
-    requires { seat < MOST_SEATS }
+    requires seat { seat < MOST_SEATS }
+    requires bases { HasBases (shape_of closed.now.starts.now.layout) (W.words closed.now.words.now) found.now }
     ensures { result ≡ is_ready_in (shape_of closed.now.starts.now.layout) (W.words closed.now.words.now)
         (map (λ log. log.items) closed.now.logs.now) closed.now.begun.now found.now progress.now count.now seat }
 {

@@ -24,9 +24,26 @@ pub(crate) struct Version {
     pub bases: Vec<u64>,
 }
 
+/// The bucket rows that were published by an exchange of a bucket word, and the columns that are written with each.
+#[derive(Debug, Drop)]
+pub(crate) struct Columns {
+    /// Bucket by bucket, from its row in use back.
+    pub rows: Vec<u64>,
+    /// As in `Found`.
+    pub bases: Vec<Option<u64>>,
+    /// As in `Found`.
+    pub next: Vec<Option<u64>>,
+    /// As in `Found`.
+    pub callers: Vec<[bool; MOST_SEATS]>,
+    /// As in `Found`, of the calls of these rows alone.
+    pub units: Vec<Vec<Option<Unit>>>,
+}
+
 /// What the words tell. No turn changes it.
 #[derive(Debug, Drop)]
 pub(crate) struct Found {
+    /// By bucket row: the bucket row that it was made from, where it was exchanged.
+    pub bases: Vec<Option<u64>>,
     /// By bucket row: the bucket row that was made from it by an exchange.
     pub next: Vec<Option<u64>>,
     /// By bucket row and seat, whether the seat's update is new in it, where the row was exchanged.
@@ -63,6 +80,7 @@ impl Tables {
     pub fn new(alloc: Global) -> Tables {
         Tables {
             found: Found {
+                bases: Vec::new(alloc),
                 next: Vec::new(alloc),
                 callers: Vec::new(alloc),
                 units: Vec::new(alloc),

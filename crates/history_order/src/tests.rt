@@ -1,4 +1,4 @@
-ghost use Rattle.std.specs.Prelude.{◌≡◌, IfOk, length};
+ghost use Rattle.std.specs.Prelude.{◌≡◌, [], IfOk, length};
 
 use crate::calls::{Closed, id_at, place_at, seen_at};
 use crate::moves::{place_row, tell};
@@ -62,13 +62,16 @@ fn logs_of(alloc: Global) -> Result<Vec<Vec<Record>>, AllocError> {
 }
 
 // Bucket row 1 was made from row 0 and has the insert of seat 1.
-fn found_of(alloc: Global) -> Result<Found, AllocError> {
+fn found_of(alloc: Global) -> Result<Found, AllocError>
+    ensures { IfOk result (λ found. found.bases.items ≡ []) }
+{
     let mut units = Vec::new(alloc);
     let first = Vec::from_slice(alloc, &[Some(Unit::Lookup)])?;
     let second = Vec::from_slice(alloc, &[Some(Unit::Row(1))])?;
     units.push(first)?;
     units.push(second)?;
     Ok(Found {
+        bases: Vec::new(alloc),
         next: Vec::from_slice(alloc, &[Some(1), None])?,
         callers: Vec::from_slice(alloc, &[NO_CALLS, CALL_OF_SEAT_1])?,
         units,
@@ -136,6 +139,7 @@ fn units_and_their_calls(rt: HostRuntime) -> Result<(), Fail> {
 
 // The lookup waits for its row and for the insert that its caller had seen. After the insert's turn it may come.
 #[test]
+#[tactic(auto, using(crate::proofs::TablesTell::none_based))]
 fn a_lookup_waits_for_its_row(rt: HostRuntime) -> Result<(), Fail> {
     let alloc = rt.alloc();
     let settings = Settings::new(2, 1, 0, 0)?;

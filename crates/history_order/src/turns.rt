@@ -10,7 +10,7 @@ ghost use Rattle.plain_map.specs.History.{ids_of};
 ghost use Rattle.core_model.specs.Order.{order_of};
 ghost use Rattle.history_order.specs.Closing.{closing_with};
 ghost use Rattle.history_order.specs.Begins.{Begins};
-ghost use Rattle.history_order.specs.Tables.{is_ready_in};
+ghost use Rattle.history_order.specs.Tables.{HasBases, is_ready_in};
 
 use crate::calls::Closed;
 use crate::moves::{place, place_row, place_version, tell};
@@ -35,6 +35,7 @@ fn next_seat<W: Words>(
     progress: &Progress,
     count: &[u32; MOST_SEATS],
 ) -> Option<usize>
+    requires { HasBases (shape_of closed.now.starts.now.layout) (W.words closed.now.words.now) found.now }
     ensures { result ≡ find (is_ready_in (shape_of closed.now.starts.now.layout) (W.words closed.now.words.now)
         (map (λ log. log.items) closed.now.logs.now) closed.now.begun.now found.now progress.now count.now)
         (range_with_len 0 (shape_of closed.now.starts.now.layout).settings.seats) }
@@ -56,8 +57,9 @@ pub(crate) fn turns<W: Words>(
     progress: &mut Progress,
     out: &mut Vec<CallId>,
 ) -> Result<(), AllocError>
-    requires { Begins (shape_of closed.now.starts.now.layout) (W.words closed.now.words.now)
+    requires begins { Begins (shape_of closed.now.starts.now.layout) (W.words closed.now.words.now)
         (map (λ log. log.items) closed.now.logs.now) closed.now.begun.now found.now progress.old }
+    requires bases { HasBases (shape_of closed.now.starts.now.layout) (W.words closed.now.words.now) found.now }
     ensures { IfOk result (λ _. out.new.items ≡ out.old.items ++ ids_of (order_of
         (shape_of closed.now.starts.now.layout) (closing_with (W.words closed.now.words.now)
         (map (λ log. log.items) closed.now.logs.now) closed.now.begun.now))) }

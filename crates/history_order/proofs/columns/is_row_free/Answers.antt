@@ -1,5 +1,5 @@
 -- The flag of a seat is whether its update is new in the row.
-use Rattle.std.proofs.Common.{◌≡◌, ◌∷◌, [], ◌<◌, ℕ, Bool, false, not, get_or, ap, ◌∙◌, sym, arith, lt-ltb}
+use Rattle.std.proofs.Common.{◌≡◌, ◌∷◌, [], ◌<◌, ℕ, List, Bool, false, not, get_or, ap, ◌∙◌, sym, arith, lt-ltb}
 use Rattle.std.specs.Prelude.{◌&&◌, is_some}
 use Rattle.step_counts.specs.declared.settings.Settings.{Settings}
 use Rattle.word_rows.specs.LayoutView.{shape_of}
@@ -10,7 +10,8 @@ use Rattle.history_order.proofs.columns.is_row_free.Goals as goal
 pub returns-then-callers-row : goal.returns-then-callers-row
 returns-then-callers-row g c =
     let shape = shape_of c.args.starts.now.layout in
-    let new : ℕ → Bool = λ seat. is_some (new_in_rows shape (g.W.Words.words c.args.words.now) (c.args.row ∷ []) seat) in
+    let words : List ℕ = g.W.Words.words c.args.words.now in
+    let new : ℕ → Bool = λ seat. is_some (new_in_rows shape words (c.args.row ∷ []) seat) in
     let seats : ℕ = shape.settings.seats in
     let seat : ℕ = c.loop-seat.seat in
     let inside : seat < seats =
@@ -22,7 +23,8 @@ returns-then-callers-row g c =
 pub loop-seat-preserved : goal.loop-seat-preserved
 loop-seat-preserved g c =
     let shape = shape_of c.args.starts.now.layout in
-    let new : ℕ → Bool = λ seat. is_some (new_in_rows shape (g.W.Words.words c.args.words.now) (c.args.row ∷ []) seat) in
+    let words : List ℕ = g.W.Words.words c.args.words.now in
+    let new : ℕ → Bool = λ seat. is_some (new_in_rows shape words (c.args.row ∷ []) seat) in
     let seats : ℕ = shape.settings.seats in
     let seat : ℕ = c.loop-seat.seat in
     let inside : seat < seats =

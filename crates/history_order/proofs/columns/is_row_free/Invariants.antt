@@ -8,6 +8,7 @@ use Rattle.history_order.proofs.columns.is_row_free.Given as goal
 
 abbrev pub invariant-loop-seat : goal.invariant-loop-seat
 invariant-loop-seat g l =
-    list_all (λ seat. not (is_some (new_in_rows (shape_of l.starts.layout) (g.W.Words.words l.words) (l.row ∷ []) seat)))
+    list_all (λ seat. not
+    (is_some (new_in_rows (shape_of l.starts.layout) (g.W.Words.words l.words) (l.row ∷ []) seat)))
     (range_with_len l.seat ((shape_of l.starts.layout).settings.seats - l.seat))
     ≡ is_free (shape_of l.starts.layout) (g.W.Words.words l.words) (l.row ∷ [])

@@ -1,5 +1,6 @@
 -- Each list is what the lists before it make.
-use Rattle.std.proofs.Common.{◌≡◌, ◌∷◌, ℕ, [], List, Some, None, false, Vec, Global, length, map, get_or, sym, ap, ◌∙◌, subst}
+use Rattle.std.proofs.Common.{◌≡◌, ◌∷◌, ◌++◌, ℕ, [], List, Option, Some, None, false, Vec, Global, length, map, get_or, sym, ap, ◌∙◌, subst}
+use Rattle.std.proofs.lemmas.List.{length-map}
 use Rattle.plain_map.specs.declared.records.Record.{Record}
 use Rattle.plain_map.specs.declared.full.FullKind.TheVariants.{BucketRows}
 use Rattle.word_rows.specs.Shape.{Shape, count_of}
@@ -7,9 +8,12 @@ use Rattle.word_rows.specs.LayoutView.{shape_of}
 use Rattle.history_order.specs.Closing.{log_of}
 use Rattle.history_order.specs.Filling.{leaves_from, exchanged_in}
 use Rattle.history_order.specs.Columns.{IsMade, after_all, base_in, is_caller, unit_at}
-use Rattle.history_order.specs.Fills.{version_leaves, exchanged_rows}
+use Rattle.history_order.specs.Fills.{AreUnits, AreWritten, version_leaves, exchanged_rows}
+use Rattle.history_order.specs.declared.tables.Columns.{Columns}
+use Rattle.history_order.specs.declared.tables.Unit.{Unit}
 use Rattle.history_order.specs.declared.tables.Version.{Version}
 use Rattle.history_order.proofs.Loops.{length_leaves, length_items}
+use Rattle.history_order.proofs.Rows.{now_is}
 use Rattle.history_order.proofs.finding.find.Goals as goal
 
 pub versions-requires : goal.versions-requires
@@ -17,15 +21,43 @@ versions-requires g c =
     sym (length_items c.args.leaves.now) ∙ ap length c.requires.leaves
     ∙ length_leaves (shape_of c.args.starts.now.layout) (g.W.Words.words c.args.words.now) [] c.args.rows.now
 
-pub returns : goal.returns
-returns g c =
+pub units-requires : goal.units-requires
+units-requires g c =
     let shape : Shape = shape_of c.args.starts.now.layout in
     let words : List ℕ = g.W.Words.words c.args.words.now in
     let logs : List (List Record) = map (λ (v : Vec Record Global). v.items) c.args.logs.now in
-    let leaves_are : map (λ (v : Vec ℕ Global). v.items) c.args.leaves.now ≡ version_leaves shape words logs =
+    let item : Vec (Option Unit) Global → List (Option Unit) = λ (v : Vec (Option Unit) Global). v.items in
+    let columns : Columns = c.versions.new.columns in
+    let w : AreWritten shape words logs columns =
+    c.in_ok-versions.ensures.columns logs (c.in_ok-columns.ensures.columns words) in
+    ap length c.deref_mut.ensures.value ∙ sym (length-map columns.units.items item) ∙ w.units.seats
+
+pub returns-clause-exchanged : goal.returns-clause-exchanged
+returns-clause-exchanged g c =
+    let shape : Shape = shape_of c.args.starts.now.layout in
+    let words : List ℕ = g.W.Words.words c.args.words.now in
+    let leaves : List (List ℕ) = map (λ (v : Vec ℕ Global). v.items) c.args.leaves.now in
+    c.in_ok-versions.ensures.rows
+    ∙ ap (λ rows. rows ++ exchanged_in shape words leaves) c.in_ok-columns.ensures.rows
+    ∙ ap (exchanged_in shape words) (c.requires.leaves ∙ ap (leaves_from shape words []) c.requires.rows)
+
+pub returns-clause-found : goal.returns-clause-found
+returns-clause-found g c =
+    let shape : Shape = shape_of c.args.starts.now.layout in
+    let words : List ℕ = g.W.Words.words c.args.words.now in
+    let logs : List (List Record) = map (λ (v : Vec Record Global). v.items) c.args.logs.now in
+    let item : Vec (Option Unit) Global → List (Option Unit) = λ (v : Vec (Option Unit) Global). v.items in
+    let leaves : List (List ℕ) = map (λ (v : Vec ℕ Global). v.items) c.args.leaves.now in
+    let leaves_are : leaves ≡ version_leaves shape words logs =
     c.requires.leaves ∙ ap (leaves_from shape words []) c.requires.rows in
-    let exchanged_are : c.args.exchanged.now ≡ exchanged_rows shape words logs =
-    c.requires.exchanged ∙ ap (exchanged_in shape words) leaves_are in
+    let columns : Columns = c.versions.new.columns in
+    let rows_are : columns.rows.items ≡ exchanged_rows shape words logs =
+    c.in_ok-versions.ensures.rows
+    ∙ ap (λ rows. rows ++ exchanged_in shape words leaves) c.in_ok-columns.ensures.rows
+    ∙ ap (exchanged_in shape words) leaves_are in
+    let w : AreWritten shape words logs columns =
+    c.in_ok-versions.ensures.columns logs (c.in_ok-columns.ensures.columns words) in
+    let many : length c.units.new.units ≡ length c.deref_mut.result.now = c.units.ensures.many in
     let versions : List Version = c.in_ok-versions.versions.items in
     record {
       many = c.in_ok-versions.ensures.many ∙ ap length c.requires.rows;
@@ -35,15 +67,23 @@ returns g c =
           (subst (λ ls. IsMade shape words (get_or c.args.rows.now at 0) (get_or ls at []) version) leaves_are
           (c.in_ok-versions.ensures.made at version e));
       units = λ seat place less.
-          c.in_ok-units.ensures seat place less
-          ∙ ap (λ vs. unit_at shape words c.args.exchanged.now vs (log_of logs seat) seat place) c.deref.ensures.value
-          ∙ ap (λ xs. unit_at shape words xs versions (log_of logs seat) seat place) exchanged_are;
-      next_rows = c.in_ok-next.ensures.rows;
-      next = λ place. c.in_ok-next.ensures.next place
+          ap (λ us. get_or (get_or (map item us) seat []) place None)
+          (now_is columns.units c.deref_mut.result.now c.units.new.units c.deref_mut.ensures.value
+          c.deref_mut.ensures.len many)
+          ∙ c.units.ensures.units columns.rows.items
+          (subst (λ us. AreUnits shape words logs columns.rows.items (map item us)) (sym c.deref_mut.ensures.value)
+          w.units) seat place less
+          ∙ ap (λ vs. unit_at shape words columns.rows.items vs (log_of logs seat) seat place) c.deref.ensures.value
+          ∙ ap (λ xs. unit_at shape words xs versions (log_of logs seat) seat place) rows_are;
+      bases = λ place. w.bases place
+          ∙ ap (λ xs. after_all (λ row. Some row) (base_in shape words) place (count_of shape BucketRows) xs None)
+          rows_are;
+      next_rows = w.next_rows;
+      next = λ place. w.next place
           ∙ ap (λ xs. after_all (base_in shape words) (λ row. Some row) place (count_of shape BucketRows) xs None)
-          exchanged_are;
-      callers_rows = c.in_ok-callers.ensures.rows;
-      callers = λ place seat. c.in_ok-callers.ensures.callers place seat
+          rows_are;
+      callers_rows = w.callers_rows;
+      callers = λ place seat. w.callers place seat
           ∙ ap (λ xs. after_all (λ row. Some row) (λ row. is_caller shape words (row ∷ []) seat) place
-          (count_of shape BucketRows) xs false) exchanged_are;
+          (count_of shape BucketRows) xs false) rows_are;
     }

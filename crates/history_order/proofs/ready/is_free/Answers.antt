@@ -9,10 +9,14 @@ pub returns-then-callers-seat : goal.returns-then-callers-seat
 returns-then-callers-seat c =
     let f : ℕ → Bool = λ seat. not (has_call_in c.args.found.now c.args.unit 0 seat) in
     sym (range_stops f c.loop-seat.seat (MOST_SEATS - c.loop-seat.seat) (MOST_SEATS - (c.loop-seat.seat + 1))
-    (omega arith) (ap not (sym (c.callers_of-callers.ensures c.loop-seat.seat (omega arith)) ∙ c.if-callers-seat.true))) ∙ c.loop-seat.invariant
+    (omega arith)
+    (ap not (sym (c.callers_of-callers.ensures c.loop-seat.seat (omega arith)) ∙ c.if-callers-seat.true)))
+    ∙ c.loop-seat.invariant
 
 pub loop-seat-preserved : goal.loop-seat-preserved
 loop-seat-preserved c =
     let f : ℕ → Bool = λ seat. not (has_call_in c.args.found.now c.args.unit 0 seat) in
     sym (range_goes f c.loop-seat.seat (MOST_SEATS - c.loop-seat.seat) (MOST_SEATS - (c.loop-seat.seat + 1))
-    (omega arith) (ap not (sym (c.callers_of-callers.ensures c.loop-seat.seat (omega arith)) ∙ c.if-callers-seat.false))) ∙ c.loop-seat.invariant
+    (omega arith)
+    (ap not (sym (c.callers_of-callers.ensures c.loop-seat.seat (omega arith)) ∙ c.if-callers-seat.false)))
+    ∙ c.loop-seat.invariant

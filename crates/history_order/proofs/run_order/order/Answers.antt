@@ -6,8 +6,8 @@ use Rattle.word_rows.specs.LayoutView.{shape_of}
 use Rattle.history_order.proofs.ToldOfRun.{told_of_run}
 use Rattle.history_order.proofs.run_order.order.Goals as goal
 
-pub turns-requires : goal.turns-requires
-turns-requires g c =
+pub turns-requires-clause-begins : goal.turns-requires-clause-begins
+turns-requires-clause-begins g c =
     let shape : Shape = shape_of c.args.starts.now.layout in
     let words : List ℕ = g.W.Words.words c.args.words.now in
     let logs : List (List Record) = map (λ (v : Vec Record Global). v.items) c.args.logs.now in

@@ -11,7 +11,7 @@ pub loop-row-init : goal.loop-row-init
 loop-row-init g c = runs_start (shape_of c.args.closed.now.starts.now.layout)
     (g.W.Words.words c.args.closed.now.words.now) (map (λ log. log.items) c.args.closed.now.logs.now)
     c.args.closed.now.begun.now c.args.found.now c.args.progress.now (0 ∷ 0 ∷ 0 ∷ 0 ∷ 0 ∷ 0 ∷ 0 ∷ 0 ∷ [])
-    c.args.out.now.items c.requires refl eight_zeros
+    c.args.out.now.items c.requires.begins refl eight_zeros
 
 pub place_row-requires : goal.place_row-requires
 place_row-requires g c =
