@@ -2,32 +2,22 @@
 //!
 //! The only error of each is want of memory.
 
-ghost use Rattle.std.specs.Prelude.{◌≡◌, ℕ, ◌+◌, ◌<◌, [], ◌∷◌, IfOk, OnOk, None, not, filter, flat_map, nat_lt, Option, Some, false, length, map, slice_index_or, true};
+ghost use Rattle.std.specs.Prelude.{◌≡◌, ℕ, ◌+◌, ◌<◌, [], ◌∷◌, IfOk, OnOk, Some, not, filter, flat_map, false, length, slice_index_or, true};
 ghost use Rattle.plain_map.specs.declared.full.FullKind.TheVariants.{BucketRows};
 ghost use Rattle.core_placing.proofs.Lists.{In};
 ghost use Rattle.word_rows.specs.Shape.{count_of};
 ghost use Rattle.word_rows.specs.LayoutView.{shape_of};
 ghost use Rattle.core_model.specs.Order.{new_in_rows};
 ghost use Rattle.core_model.specs.SeatStates.{is_update};
-ghost use Rattle.history_order.specs.Closing.{log_of};
 ghost use Rattle.history_order.specs.Columns.{
   after_all,
-  base_in,
-  IsMade,
   is_caller,
   is_free,
   looks_in,
-  numbered_from,
-  look_place,
   place_of,
-  row_place,
-  unit_at,
-  version_place,
   written,
 };
-ghost use Rattle.history_order.specs.declared.tables.Unit.TheVariants.{Lookup, Row, Version as VersionAt};
 
-use crate::tables::{Unit, Version};
 use closed_words::{Starts, Words, new_number};
 use plain_map::{Call, MOST_SEATS, Record};
 use std::alloc::AllocError;
