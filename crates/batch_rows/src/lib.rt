@@ -5,7 +5,7 @@ mod crowds;
 mod rows;
 mod splits;
 
-pub use rows::{CALL_LIMIT, batch_rows, rows_for};
+pub use rows::{CALL_LIMIT, batch_rows, rows_for, updates_of};
 pub use splits::splits_of;
 
 #[cfg(test)]

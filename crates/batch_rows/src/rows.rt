@@ -72,8 +72,8 @@ pub fn batch_rows(settings: &Settings, updates: u32, splits: u64) -> SeatRows
     }
 }
 
-// How many of these calls are updates.
-fn updates_of(calls: &[(u32, Call)]) -> u32
+/// How many of these calls are updates.
+pub fn updates_of(calls: &[(u32, Call)]) -> u32
     requires few { length calls.now < CALL_LIMIT }
     ensures count { result ≡ updates_in_calls calls.now }
     ensures few { result < CALL_LIMIT }

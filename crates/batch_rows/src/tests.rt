@@ -2,7 +2,7 @@
 
 ghost use Rattle.std.specs.Prelude.{◌≡◌, IfOk, length, vec_len};
 
-use crate::{batch_rows, rows_for, splits_of};
+use crate::{batch_rows, rows_for, splits_of, updates_of};
 use hash_bits::Hashing;
 use plain_map::{Call, Key, Pair, Rules};
 use std::alloc::{AllocError, Global};
@@ -164,5 +164,19 @@ fn rows_of_each_share(rt: HostRuntime) -> Result<(), Fail> {
         &shares,
     )?;
     assert_eq!(rt; found.as_slice(), [given, given].as_slice());
+    Ok(())
+}
+
+// An insert and a remove are updates, a lookup is none.
+#[test]
+fn updates_are_counted(rt: HostRuntime) -> Result<(), Fail> {
+    let calls = [
+        (1, Call::Insert(key(1), 1)),
+        (2, Call::Lookup(key(1))),
+        (3, Call::Remove(key(1))),
+        (4, Call::Lookup(key(1))),
+    ];
+    assert_eq!(rt; updates_of(&calls), 2);
+    assert_eq!(rt; updates_of(&[]), 0);
     Ok(())
 }

@@ -9,7 +9,6 @@ ghost use Rattle.word_rows.specs.Shape.{AreBelow};
 ghost use Rattle.report_text.specs.Report.{IsEnding, batch_lines, call_in, outcome_line, pending_line, session_line};
 ghost use Rattle.core_model.specs.Schedules.{CanPlay, IsPlayable};
 ghost use Rattle.play_runner.specs.Played.{IsPlayed, as_segment};
-ghost use Rattle.batch_rows.specs.BatchRows.{updates_in_calls};
 ghost use Rattle.batch_rows.specs.declared.rows.TheConstants.{CALL_LIMIT};
 ghost use Rattle.batch_runner.specs.Served.{shares_of};
 ghost use Rattle.command_line.specs.Words.{IsInRange};
@@ -24,6 +23,7 @@ use crate::laws::playing_laws;
 use crate::printing::put_sessions;
 use crate::serving::service_of;
 use crate::status::Status;
+use batch_rows::updates_of;
 use batch_runner::Service;
 use command_line::Plan;
 use core_world::CoreWorld;
@@ -175,21 +175,6 @@ fn ranges_for(
         rows.push(automatic_rows(settings, updates_of(share)))?;
     }
     Ok(rows)
-}
-
-/// How many of these calls are updates.
-fn updates_of(calls: &[(u32, Call)]) -> u32
-    requires few { length calls.now < CALL_LIMIT }
-    ensures count { result ≡ updates_in_calls calls.now }
-    ensures few { result < CALL_LIMIT }
-{
-    let mut updates = 0;
-    for asked in calls {
-        if !matches!(asked.1, Call::Lookup(_)) {
-            updates += 1;
-        }
-    }
-    updates
 }
 
 /// The segments of the plan's schedule.

@@ -89,8 +89,8 @@ impl Gate for Meeting {
     fn told(&self, _seat: u32, _number: u32, _answer: u64) {}
 }
 
-/// Two callers are in their first calls at once, where a capture is served and where one is tried. A body that makes one
-/// call after the other reaches its limit of turns. No clause says that callers run in threads.
+/// Two callers are in their first calls at once, where a capture is served and where one is tried. A body that makes
+/// one call after the other reaches its limit of turns. No clause says that callers run in threads.
 #[test]
 fn two_callers_meet(rt: HostRuntime) -> Result<(), Fail> {
     let file = file_of(

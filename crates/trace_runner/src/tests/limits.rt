@@ -34,8 +34,8 @@ fn two_batches(alloc: Global) -> Result<Vec<u8>, AllocError> {
     Ok(file)
 }
 
-/// The second batch has the pair that the first one left, and rows of its own. A read that fails behind its packet comes
-/// when both batches are served. That the numbers are the ones that are meant is no clause's to say.
+/// The second batch has the pair that the first one left, and rows of its own. A read that fails behind its packet
+/// comes when both batches are served. That the numbers are the ones that are meant is no clause's to say.
 #[test]
 fn second_batch_has_what_the_first_left(rt: HostRuntime) -> Result<(), Fail> {
     assert_eq!(rt; PACKET_LIMIT, 4_000_000);
