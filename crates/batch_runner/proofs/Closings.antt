@@ -80,7 +80,8 @@ module _ (service : Service) (batch : Served) (of : IsOfRun service batch) where
   pub closing_is : closing_in batch ≡ closing_of world
   closing_is =
       let begun = none_begun 0 world.seats of.idle in
-      let c : (words : List ℕ) (records : List Record) → Closing = λ words records. record { words = words; records = records; begun = [] } in
+      let c : (words : List ℕ) (records : List Record)
+      → Closing = λ words records. record { words = words; records = records; begun = [] } in
       (λ i. c (of.words_are i) (records_are i))
       ∙ sym (λ i. record { words = world.words; records = flat_map records_at world.seats; begun = begun i })
 
@@ -110,5 +111,6 @@ module _ (service : Service) (batch : Served) (of : IsOfRun service batch) where
       let P : Record → Type 0 = HasSteps setup world.words in
       let all : All P (flat_map records_at world.seats) =
       all_of P world.seats (λ seat less. steps_are_bounded setup of.events seat of.run (omega (arith, less, long))) in
-      subst (λ (words : List ℕ). All (HasSteps setup words) (flat_map (λ (log : List Record). log) (map records_in batch.logs))) (sym of.words_are)
+      subst (λ (words : List ℕ). All (HasSteps setup words)
+      (flat_map (λ (log : List Record). log) (map records_in batch.logs))) (sym of.words_are)
       (subst (All P) (sym records_are) all)

@@ -91,7 +91,8 @@ few_items limit calls share seats shares few is =
     (λ (s : Vec (ℕ × Call) Global). vec_len s < limit) (λ s less. omega (arith, less, few, s.ok.0)) shares each
 
 -- there are rows for each share
-pub long_rows : (s : Settings) (hashing : Hashing) (given : Option SeatRows) (first : List Pair) (calls : List (ℕ × Call))
+pub long_rows : (s : Settings) (hashing : Hashing) (given : Option SeatRows) (first : List Pair)
+    (calls : List (ℕ × Call))
     (shares : List (List (ℕ × Call))) → length (rows_of s hashing given first calls shares) ≡ length shares
 long_rows s hashing (Some rows) first calls shares = length-replicate (length shares) rows
 long_rows s hashing None first calls shares =

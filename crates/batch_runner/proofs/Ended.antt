@@ -25,7 +25,8 @@ use Rattle.batch_runner.proofs.Shallow.{shallow}
 pub all_of_table : (t : TableValue) (shares : List (List (ℕ × Call))) (seats : List SeatValue)
     (logs : List (List Outcome)) → HaveMade t 0 shares seats logs → All (IsOf t) seats
 all_of_table t shares seats logs made =
-    All-from_get_or (IsOf t) seats (new_seat t 0) (λ i less. (one_made t 0 shares seats logs i (new_seat t 0) made less).1.of)
+    All-from_get_or (IsOf t) seats (new_seat t 0)
+    (λ i less. (one_made t 0 shares seats logs i (new_seat t 0) made less).1.of)
 
 module _ (service : Service) (first : List Pair) (calls : List (ℕ × Call)) (t : TableValue)
     (setup_is : t.setup ≡ setup_in service first calls) (shares : List (List (ℕ × Call)))
@@ -39,7 +40,8 @@ module _ (service : Service) (first : List Pair) (calls : List (ℕ × Call)) (t
   table = record { table_id = t.table_id; setup = setup }
 
   made_there : HaveMade table 0 shares seats logs
-  made_there = subst (λ (s : Setup). HaveMade (record { table_id = t.table_id; setup = s }) 0 shares seats logs) setup_is
+  made_there =
+      subst (λ (s : Setup). HaveMade (record { table_id = t.table_id; setup = s }) 0 shares seats logs) setup_is
       made
 
   -- there are as many logs and seats

@@ -90,7 +90,8 @@ module _ (t : TableValue) (words : List ℕ) (shares : List (List (ℕ × Call))
   none = new_seat t 0
 
   -- one seat
-  one : (i : ℕ) → i < length seats → (share : List (ℕ × Call)) × HasMade t i share (get_or seats i none) (get_or logs i [])
+  one : (i : ℕ) → i < length seats → (share : List (ℕ × Call))
+      × HasMade t i share (get_or seats i none) (get_or logs i [])
   one i less =
       let r = one_made t 0 shares seats logs i none made less in
       (r.0, subst (λ (k : ℕ). HasMade t k r.0 (get_or seats i none) (get_or logs i [])) (zero-add i) r.1)

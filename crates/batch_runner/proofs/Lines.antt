@@ -27,7 +27,8 @@ lines_more seats before xs i x start inside is =
     ap (λ (ys : List (ℕ × Outcome)). start ++ flat_map (line_on seats before) ys)
     (take_more xs i x inside ∙ ap (λ (y : ℕ × Outcome). take i xs ++ y ∷ []) (sym is))
     ∙ ap (λ (ls : List ℕ). start ++ ls) (flat_map-append (line_on seats before) (take i xs) (x ∷ []))
-    ∙ ap (λ (ls : List ℕ). start ++ (flat_map (line_on seats before) (take i xs) ++ ls)) (append-nil (line_on seats before x))
+    ∙ ap (λ (ls : List ℕ). start ++ (flat_map (line_on seats before) (take i xs) ++ ls))
+    (append-nil (line_on seats before x))
     ∙ sym (append_assoc start (flat_map (line_on seats before) (take i xs)) (line_on seats before x))
 
 -- all of them are those of the batch

@@ -188,7 +188,8 @@ module _ (share : Share) (seats : ℕ) (calls : List (ℕ × Call)) (logs : List
           kept : ℕ → List (ℕ × Outcome) → List Outcome
           kept s os = map (λ (o : ℕ × Outcome). o.1) (filter (λ (o : ℕ × Outcome). o.0 == s) os)
 
-          grown : (s : ℕ) → kept s (outcomes ++ (seat, outcome) ∷ []) ≡ kept s outcomes ++ cond (seat == s) (outcome ∷ []) []
+          grown : (s : ℕ) → kept s (outcomes ++ (seat, outcome) ∷ [])
+              ≡ kept s outcomes ++ cond (seat == s) (outcome ∷ []) []
           grown s =
               let test : ℕ × Outcome → Bool = λ (o : ℕ × Outcome). o.0 == s in
               let last : ℕ × Outcome → Outcome = λ (o : ℕ × Outcome). o.1 in
@@ -203,7 +204,8 @@ module _ (share : Share) (seats : ℕ) (calls : List (ℕ × Call)) (logs : List
               kept s outcomes ++ cond (seat == s) (outcome ∷ []) [] ≡ take (get_or then s 0) (get_or logs s [])
           each_at s under = elim (cases_eq seat s) [
             | inl same ↦ subst
-                (λ (k : ℕ). kept k outcomes ++ cond (seat == k) (outcome ∷ []) [] ≡ take (get_or then k 0) (get_or logs k []))
+                (λ (k : ℕ). kept k outcomes ++ cond (seat == k) (outcome ∷ []) []
+                ≡ take (get_or then k 0) (get_or logs k []))
                 same own_each
             | inr other ↦
                 ap (λ (b : Bool). kept s outcomes ++ cond b (outcome ∷ []) []) (other_is seat s other)

@@ -27,11 +27,13 @@ use Rattle.batch_runner.proofs.Closings.{closing_is, numbered, steps}
 
 module _ (service : Service) (batch : Served) (is : IsServed service batch) where
   -- the order is that of the run
-  order_is : order_in service batch ≡ order_of (shape_in service batch) (closed (setup_of_batch service batch) is.of_run.events)
+  order_is : order_in service batch
+      ≡ order_of (shape_in service batch) (closed (setup_of_batch service batch) is.of_run.events)
   order_is = ap (order_of (shape_in service batch)) (closing_is service batch is.of_run)
 
   -- what is left is what the run's table holds
-  moved : IsPermutation (closed_pairs (shape_in service batch) (closed (setup_of_batch service batch) is.of_run.events).words) batch.pairs
+  moved : IsPermutation (closed_pairs (shape_in service batch)
+      (closed (setup_of_batch service batch) is.of_run.events).words) batch.pairs
   moved = subst (λ (words : List ℕ). IsPermutation (closed_pairs (shape_in service batch) words) batch.pairs)
       is.of_run.words_are is.left
 
@@ -40,7 +42,8 @@ module _ (service : Service) (batch : Served) (is : IsServed service batch) wher
       × (sessions_with (rules_of service) batch.pairs
       ≡ sessions_after (rules_of service) (sessions_with (rules_of service) batch.first) (order_in service batch))
   reopens =
-      let r = pairs_reopen_in_any_turn (setup_of_batch service batch) is.of_run.events batch.pairs is.of_run.run moved in (
+      let r = pairs_reopen_in_any_turn (setup_of_batch service batch) is.of_run.events batch.pairs is.of_run.run moved
+      in (
         record { pairs = r.0; distinct = r.1; room = r.2 },
         r.3 ∙ ap (sessions_after (rules_of service) (sessions_with (rules_of service) batch.first)) (sym order_is),
       )
@@ -55,7 +58,8 @@ module _ (service : Service) (batch : Served) (is : IsServed service batch) wher
   -- its pairs are those that the next table begins with
   pub held : batch.pairs ≡ pairs_of (sessions_with (rules_of service) batch.pairs)
   held = sorted_pairs_are_held (setup_of_batch service batch) is.of_run.events batch.pairs is.of_run.run moved is.sorted
-      ∙ ap pairs_of (sym (pairs_reopen_in_any_turn (setup_of_batch service batch) is.of_run.events batch.pairs is.of_run.run moved).3)
+      ∙ ap pairs_of (sym (pairs_reopen_in_any_turn (setup_of_batch service batch) is.of_run.events batch.pairs
+      is.of_run.run moved).3)
 
   -- the order of the batch is right
   pub in_order : IsInOrder (rules_of service) (sessions_with (rules_of service) batch.first) (history_in service batch)
@@ -100,7 +104,8 @@ module _ (service : Service) (batch : Served) (is : IsServed service batch) wher
       of_order order = Warranted (rules_of service) service.settings.start batch.first order
           (closed_leaves (shape_in service batch) (closed (setup_of_batch service batch) is.of_run.events).words)
 
-      warranted : Warranted (rules_of service) service.settings.start batch.first (order_in service batch) (leaves_in service batch)
+      warranted : Warranted (rules_of service) service.settings.start batch.first (order_in service batch)
+          (leaves_in service batch)
       warranted = subst of_words (sym is.of_run.words_are)
           (subst of_order (sym order_is)
           (leaves_are_warranted (setup_of_batch service batch) is.of_run.events is.of_run.run))

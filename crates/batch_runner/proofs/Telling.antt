@@ -11,10 +11,11 @@ use Rattle.trace_share.specs.Outcomes.{asked_in, records_in}
 use Rattle.batch_orders.specs.Batches.{answered_then, with_counts}
 use Rattle.std.proofs.lemmas.Simd.{map-map}
 use Rattle.plain_map.specs.declared.records.Record.{Record}
+use Rattle.batch_rows.specs.declared.rows.TheConstants.{CALL_LIMIT}
 use Rattle.batch_runner.specs.declared.service.Service.{Service}
 use Rattle.batch_runner.specs.declared.batch.Batch.{Batch}
 use Rattle.batch_runner.specs.Served.{CanOpen, Served, IsServed, history_in, rules_of}
-use Rattle.batch_runner.specs.Told.{HasCounts, IsToldBy}
+use Rattle.batch_runner.specs.Told.{CanGoOn, HasCounts, IsToldBy}
 use Rattle.batch_runner.proofs.Deals.{long_dealt}
 use Rattle.batch_runner.proofs.Rights.{can_open}
 use Rattle.batch_runner.proofs.Counted.{counted, short_asked, unmap_all}
@@ -49,7 +50,16 @@ module _ (service : Service) (served : Served) (batch : Batch) (is : IsServed se
       (All-map (λ count. count ≤ length served.calls) (λ (log : List Outcome). length (records_in log)) served.logs
       (short_asked service served.calls served.logs is.of_run.asked))
 
-  -- which is how many calls the seats have answered then
+  -- so the next batch can be opened, and all is small
+  pub told_on : length served.calls < CALL_LIMIT → CanGoOn service served.calls batch
+  told_on few = record {
+    reopens = told_open;
+    counted = told_counted CALL_LIMIT few;
+    seats = omega (arith, told_seats, service.settings.seats_in_range.1);
+    answered = told_answered;
+  }
+
+  -- the answered ones are how many calls the seats have answered then
   pub told_then : (before : List ℕ) →
       with_counts before batch.answered.items ≡ answered_then before (history_in service served)
   told_then before = ap (with_counts before)

@@ -119,7 +119,8 @@ replies_end Absent rs r is = (λ i. record {
 -- ---- totals
 
 -- an answered call more
-answers_more : (all : List Outcome) (made : Record) → answers_in (all ++ Answered made ∷ []) ≡ answers_in all ++ made ∷ []
+answers_more : (all : List Outcome) (made : Record) → answers_in (all ++ Answered made ∷ [])
+    ≡ answers_in all ++ made ∷ []
 answers_more all made = flat_map-append record_in all (Answered made ∷ [])
 
 -- a refused one

@@ -108,7 +108,8 @@ made_by t n share w v f d =
       number_is = c.same.0.number ∙ ap (λ (s : SeatValue). s.holding.seat) was;
       asked = c.asked ∙ f.calls_are;
       records = c.answered_are ∙ ap (λ (s : SeatValue). (account_of s).records ++ records_in v.log.items) was;
-      refused = subst (λ (used : List SeatRows). RefusedByRoom (sizes_of t.setup.shape n) (need_of (settings_of t.setup)) [] used v.log.items)
+      refused = subst (λ (used : List SeatRows). RefusedByRoom (sizes_of t.setup.shape n)
+          (need_of (settings_of t.setup)) [] used v.log.items)
           used_is
           (subst (λ (s : SeatValue). RefusedByRoom (sizes_of s.holding.setup.shape s.holding.seat)
           (need_of (settings_of s.holding.setup)) (account_of s).spent c.used v.log.items) was c.refused);
@@ -151,7 +152,8 @@ fresh_more t n m all front more share ws now w m_is from more_is one now_is = re
 }
 
 -- the last of those that are through
-pub record LastThrough (t : TableValue) (n : ℕ) (shares : List (List (ℕ × Call))) (ws : List SeatWorker) (w : SeatWorker) :
+pub record LastThrough (t : TableValue) (n : ℕ) (shares : List (List (ℕ × Call))) (ws : List SeatWorker)
+    (w : SeatWorker) :
     Type 0 where
   pub front : List (List (ℕ × Call))
   pub share : List (ℕ × Call)
@@ -246,7 +248,8 @@ pub all_short : (shares : List (Vec (ℕ × Call) Global)) →
     All IsShort (map (λ (share : Vec (ℕ × Call) Global). share.items) shares)
 all_short [] askable short = All-nil IsShort
 all_short (share ∷ shares) askable short =
-    let A : Vec (ℕ × Call) Global → Type 0 = λ (s : Vec (ℕ × Call) Global). All (λ (call : ℕ × Call). IsAskable call.1) s.items in
+    let A : Vec (ℕ × Call) Global →
+    Type 0 = λ (s : Vec (ℕ × Call) Global). All (λ (call : ℕ × Call). IsAskable call.1) s.items in
     let S : Vec (ℕ × Call) Global → Type 0 = λ (s : Vec (ℕ × Call) Global). vec_len s < 2 ^ 32 in
     let few : length share.items < 2 ^ 32 = omega (arith, All-head S share shares short, share.ok.0) in
     All-cons IsShort share.items (map (λ (s : Vec (ℕ × Call) Global). s.items) shares)

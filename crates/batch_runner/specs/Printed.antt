@@ -1,6 +1,5 @@
--- What is printed of batches that were served: the numbers of a seat's calls go on from batch to batch, and so does what
--- was seen.
--- Source: this project's own; the lines are those of the report.
+-- What is printed of batches that were served: the numbers of a seat's calls go on from batch to batch, and so does
+-- what was seen. Source: this project's own; the lines are those of the report.
 use Rattle.std.specs.Prelude.{ℕ, ◌^◌, not, List, [], ◌∷◌, map, max, fold, filter, flat_map, count_by, is_some}
 use Rattle.plain_map.specs.declared.records.Record.{Record}
 use Rattle.plain_map.specs.History.{ids_of}

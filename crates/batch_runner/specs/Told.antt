@@ -1,5 +1,5 @@
 -- What is told of a batch.
-use Rattle.std.specs.Prelude.{◌≡◌, ℕ, ◌<◌, ◌≤◌, List, [], length, map, slice_index}
+use Rattle.std.specs.Prelude.{◌≡◌, ℕ, ◌<◌, ◌≤◌, All, List, [], length, map, slice_index, vec_len}
 use Rattle.plain_map.specs.declared.calls.Call.{Call}
 use Rattle.plain_map.specs.declared.keys.Pair.{Pair}
 use Rattle.plain_map.specs.declared.records.CallId.{CallId}
@@ -10,9 +10,10 @@ use Rattle.shared_table.specs.Values.{ClosedValue}
 use Rattle.trace_share.specs.declared.outcome.Outcome.{Outcome}
 use Rattle.trace_share.specs.declared.outcome.Outcome.TheVariants.{Answered, Refused}
 use Rattle.trace_share.specs.Outcomes.{asked_in, records_in}
+use Rattle.batch_rows.specs.declared.rows.TheConstants.{CALL_LIMIT}
 use Rattle.batch_runner.specs.declared.service.Service.{Service}
 use Rattle.batch_runner.specs.declared.batch.Batch.{Batch}
-use Rattle.batch_runner.specs.Served.{IsOfRun, Served, depth_in, leaves_in, order_in, setup_in, shares_of}
+use Rattle.batch_runner.specs.Served.{CanOpen, IsOfRun, Served, depth_in, leaves_in, order_in, rules_of, setup_in, shares_of}
 
 -- this is what the batch came to
 pub record IsToldBy (service : Service) (served : Served) (batch : Batch) : Type 0 where
@@ -60,3 +61,10 @@ abbrev pub HasCounts : (limit : ℕ) → Outcome → Type 0
 HasCounts limit (Answered made) =
     (made.number < limit) × ((seat : ℕ) → seat < 8 → slice_index made.seen.counts seat < limit)
 HasCounts limit (Refused packet call full) = Unit {0}
+
+-- the pairs that a batch of these calls leaves can open the next one, and its counts are small
+pub record CanGoOn (service : Service) (calls : List (ℕ × Call)) (batch : Batch) : Type 0 where
+  pub reopens : CanOpen (rules_of service) batch.pairs.items
+  pub counted : All (λ o. HasCounts CALL_LIMIT o.1) batch.outcomes.items
+  pub seats : vec_len batch.answered ≤ 8
+  pub answered : All (λ count. count ≤ length calls) batch.answered.items

@@ -1,23 +1,27 @@
 //! One batch.
 
-ghost use Rattle.std.specs.Prelude.{◌≡◌, ◌^◌, ◌<◌, ◌≤◌, All, IfOk, length, map, vec_len};
+ghost use Rattle.std.specs.Prelude.{◌≡◌, ◌^◌, ◌<◌, ◌≤◌, ◌++◌, All, IfOk, OnErr, length, map};
 ghost use Rattle.std.specs.Option.{ForSome};
+ghost use Rattle.plain_map.specs.Calls.{key_in};
 ghost use Rattle.plain_map.specs.Serving.{IsAskable};
+ghost use Rattle.flow_keys.specs.FlowText.{HasText};
 ghost use Rattle.word_rows.specs.Shape.{AreBelow};
 ghost use Rattle.shared_table.specs.Values.{new_seats};
+ghost use Rattle.report_text.specs.Report.{batch_lines};
 ghost use Rattle.batch_rows.specs.declared.rows.TheConstants.{CALL_LIMIT};
 ghost use Rattle.batch_runner.specs.Served.{CanOpen, IsServed, Served, rules_of, setup_in, shares_of};
-ghost use Rattle.batch_runner.specs.Told.{HasCounts, IsClosedBatch, IsOrderOf, IsToldBy, served_with};
+ghost use Rattle.batch_runner.specs.Printed.{lines_of};
+ghost use Rattle.batch_runner.specs.Told.{CanGoOn, IsClosedBatch, IsOrderOf, IsToldBy, served_with};
 
-use crate::outcomes::{counts_of, outcomes_of, records_of};
+use crate::ordering::order_in;
+use crate::outcomes::{counts_of, outcomes_of};
 use crate::service::Service;
+use crate::text::put_lines;
 use crate::workers::serve_shares;
 use crate::workspace::Workspace;
 use batch_rows::rows_for;
-use closed_words::Starts;
 use edge_traits::Gate;
-use history_order::order;
-use plain_map::{Call, CallId, OpenFault, Pair};
+use plain_map::{Call, CallId, MOST_SEATS, OpenFault, Pair};
 use shared_table::{ClosedTable, Directory, Seat, order_laws};
 use std::alloc::{AllocError, Global};
 use std::thread::Threads;
@@ -39,10 +43,57 @@ pub struct Batch {
 }
 
 /// Opens a table with these pairs, lets the seats make the calls that are dealt to them, in threads of their own,
-/// closes it, and tells what it came to, and all answered calls in their one order.
+/// closes it, and tells what it came to; appends the lines of the calls and of their one order.
 ///
-/// The gate is passed before each call and told of each answer. The only error is want of memory. What is left can open
-/// the next batch.
+/// `before` has how many calls each seat had answered before. The gate is passed before each call and told of each
+/// answer. The lines of the calls are written in a thread of their own while the order is made; where no thread can be
+/// made, the caller's does both. The only error is want of memory, after which the text is what it was. What is left
+/// can open the next batch.
+pub fn print_batch<R: Threads + Sync, G: Gate + Sync>(
+    rt: &R,
+    alloc: Global,
+    service: &Service,
+    workspace: &mut Workspace,
+    first: &[Pair],
+    calls: &[(u32, Call)],
+    gate: &G,
+    before: &[u32; MOST_SEATS],
+    out: &mut Vec<u8>,
+) -> Result<Batch, AllocError>
+    requires given { ForSome service.now.rows (AreBelow (2 ^ 32)) }
+    requires few { length calls.now < CALL_LIMIT }
+    requires askable { All (λ call. IsAskable call.1) calls.now }
+    requires texts { All (λ call. HasText (key_in call.1)) calls.now }
+    requires opens { CanOpen (rules_of service.now) first.now }
+    ensures served { IfOk result (λ batch. (served : Served) × (served.first ≡ first.now)
+        × (served.calls ≡ calls.now) × IsServed service.now served × IsToldBy service.now served batch
+        × (out.new.items ≡ out.old.items
+        ++ batch_lines service.now.settings.seats (lines_of service.now before.now served))) }
+    ensures goes_on { IfOk result (CanGoOn service.now calls.now) }
+    ensures kept { OnErr result (out.new.items ≡ out.old.items) }
+{
+    let (closed, logs) = close_batch(rt, alloc, service, workspace, first, calls, gate)?;
+    let batch = told(alloc, service, first, calls, &closed, &logs)?;
+    let start = out.len();
+    if let Err(failed) = put_lines(
+        rt,
+        alloc,
+        &mut workspace.tables,
+        &closed,
+        &logs,
+        service.settings.seats,
+        before,
+        &batch.outcomes,
+        out,
+    ) {
+        out.truncate(start);
+        return Err(failed);
+    }
+    workspace.blank.keep(closed);
+    Ok(batch)
+}
+
+/// The same without lines. The order comes beside what the batch came to.
 pub fn serve_batch<R: Threads + Sync, G: Gate + Sync>(
     rt: &R,
     alloc: Global,
@@ -59,22 +110,16 @@ pub fn serve_batch<R: Threads + Sync, G: Gate + Sync>(
     ensures served { IfOk result (λ told. (served : Served) × (served.first ≡ first.now)
         × (served.calls ≡ calls.now) × IsServed service.now served × IsToldBy service.now served told.0
         × IsOrderOf service.now served told.1.items) }
-    ensures reopens { IfOk result (λ told. CanOpen (rules_of service.now) told.0.pairs.items) }
-    ensures counted { IfOk result (λ told. All (λ o. HasCounts CALL_LIMIT o.1) told.0.outcomes.items) }
-    ensures seats { IfOk result (λ told. vec_len told.0.answered ≤ 8) }
-    ensures answered { IfOk result (λ told. All (λ count. count ≤ length calls.now) told.0.answered.items) }
+    ensures goes_on { IfOk result (λ told. CanGoOn service.now calls.now told.0) }
 {
     let (closed, logs) = close_batch(rt, alloc, service, workspace, first, calls, gate)?;
-    let records = records_of(alloc, &logs)?;
-    let starts = Starts::new(closed.layout());
-    let tables = &mut workspace.tables;
-    let order = order(alloc, tables, &starts, &closed, &records, &[])?;
+    let order = order_in(alloc, &mut workspace.tables, &closed, &logs)?;
     let batch = told(alloc, service, first, calls, &closed, &logs)?;
     workspace.blank.keep(closed);
     Ok((batch, order))
 }
 
-/// The same without the order.
+/// The same without lines and order.
 pub fn try_batch<R: Threads + Sync, G: Gate + Sync>(
     rt: &R,
     alloc: Global,
@@ -90,10 +135,7 @@ pub fn try_batch<R: Threads + Sync, G: Gate + Sync>(
     requires opens { CanOpen (rules_of service.now) first.now }
     ensures served { IfOk result (λ batch. (served : Served) × (served.first ≡ first.now)
         × (served.calls ≡ calls.now) × IsServed service.now served × IsToldBy service.now served batch) }
-    ensures reopens { IfOk result (λ batch. CanOpen (rules_of service.now) batch.pairs.items) }
-    ensures counted { IfOk result (λ batch. All (λ o. HasCounts CALL_LIMIT o.1) batch.outcomes.items) }
-    ensures seats { IfOk result (λ batch. vec_len batch.answered ≤ 8) }
-    ensures answered { IfOk result (λ batch. All (λ count. count ≤ length calls.now) batch.answered.items) }
+    ensures goes_on { IfOk result (CanGoOn service.now calls.now) }
 {
     let (closed, logs) = close_batch(rt, alloc, service, workspace, first, calls, gate)?;
     let batch = told(alloc, service, first, calls, &closed, &logs)?;

@@ -4,6 +4,7 @@
 mod batch;
 mod counts;
 mod laws;
+mod ordering;
 mod outcomes;
 mod service;
 mod text;
@@ -11,11 +12,10 @@ mod totals;
 mod workers;
 mod workspace;
 
-pub use batch::{Batch, serve_batch, try_batch};
+pub use batch::{Batch, print_batch, serve_batch, try_batch};
 pub use counts::go_on;
 pub use laws::served_laws;
 pub use service::Service;
-pub use text::batch_text;
 pub use totals::{Replies, Totals};
 pub use workspace::Workspace;
 

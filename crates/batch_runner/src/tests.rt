@@ -13,7 +13,7 @@ mod crowds;
 mod meetings;
 mod rows;
 
-use crate::{Batch, Service, Workspace, batch_text, go_on, serve_batch};
+use crate::{Batch, Service, Workspace, go_on, print_batch};
 use edge_traits::OpenGate;
 use hash_bits::Hashing;
 use plain_map::{Call, Key, MOST_SEATS, Pair};
@@ -112,8 +112,17 @@ pub(crate) fn put_batch<R: Threads + Sync>(
 {
     let calls = calls_of(alloc, frames)?;
     let mut workspace = Workspace::new(alloc);
-    let (batch, order) = serve_batch(rt, alloc, service, &mut workspace, first, &calls, &OpenGate)?;
-    batch_text(out, service.settings.seats, before, &batch, &order)?;
+    let batch = print_batch(
+        rt,
+        alloc,
+        service,
+        &mut workspace,
+        first,
+        &calls,
+        &OpenGate,
+        before,
+        out,
+    )?;
     go_on(before, &batch);
     Ok(batch)
 }

@@ -1,68 +1,72 @@
 //! The lines of a batch.
 
-ghost use Rattle.std.specs.Prelude.{◌≡◌, ℕ, ◌≤◌, ◌++◌, All, List, OnErr, OnOk, flat_map};
+ghost use Rattle.std.specs.Prelude.{◌≡◌, ℕ, ◌≤◌, [], ◌++◌, All, IfOk, List, OnErr, OnOk, flat_map, map};
 ghost use Rattle.plain_map.specs.Calls.{key_in};
+ghost use Rattle.plain_map.specs.History.{ids_of};
 ghost use Rattle.flow_keys.specs.FlowText.{HasText};
-ghost use Rattle.report_text.specs.Report.{batch_lines, call_in, order_lines, outcome_line};
-ghost use Rattle.batch_runner.specs.Served.{Served};
-ghost use Rattle.batch_runner.specs.Printed.{lines_of, outcome_on};
-ghost use Rattle.batch_runner.specs.Told.{IsOrderOf, IsToldBy};
-ghost use Rattle.batch_runner.specs.declared.service.Service.{Service};
+ghost use Rattle.core_model.specs.Order.{order_of};
+ghost use Rattle.history_order.specs.Closing.{IsOfARun, closing_with};
+ghost use Rattle.trace_share.specs.Outcomes.{records_in};
+ghost use Rattle.report_text.specs.Report.{call_in, order_lines, outcome_line};
+ghost use Rattle.batch_runner.specs.Printed.{outcome_on};
 
-use crate::batch::Batch;
+use crate::ordering::order_in;
+use history_order::Tables;
 use plain_map::{CallId, MOST_SEATS};
 use report_text::{Line, order_text, outcome_text};
-use std::alloc::AllocError;
+use shared_table::ClosedTable;
+use std::alloc::{AllocError, Global};
+use std::thread::{Threads, join_mut};
 use trace_share::Outcome;
 
-/// Appends the lines of a batch and of its order, before which the seats had answered so many calls. After want of memory
-/// the text is what it was.
-pub fn batch_text(
-    out: &mut Vec<u8>,
+/// Appends the lines of the calls, before which the seats had answered so many calls, and of the order of these logs.
+/// After want of memory some may stand there.
+///
+/// A thread of its own writes the lines of the calls while this one makes the order. It asks for memory only where the
+/// text has no room left.
+pub(crate) fn put_lines<R: Threads>(
+    rt: &R,
+    alloc: Global,
+    tables: &mut Tables,
+    closed: &ClosedTable,
+    logs: &[Vec<Outcome>],
     seats: u32,
     before: &[u32; MOST_SEATS],
-    batch: &Batch,
-    order: &[CallId],
-) -> Result<(), AllocError>
-    requires seats { seats ≤ 8 }
-    requires texts { All (λ o. HasText (key_in (call_in o.1))) batch.now.outcomes.items }
-    ensures appended { OnOk result ((service : Service) (served : Served) → IsToldBy service served batch.now →
-        IsOrderOf service served order.now →
-        out.new.items ≡ out.old.items ++ batch_lines seats (lines_of service before.now served)) }
-    ensures kept { OnErr result (out.new.items ≡ out.old.items) }
-{
-    let start = out.len();
-    if let Err(failed) = put_lines(out, seats, before, batch, order) {
-        out.truncate(start);
-        return Err(failed);
-    }
-    Ok(())
-}
-
-// Appends the lines of the calls and of their order. After want of memory some may stand there.
-fn put_lines(
+    outcomes: &[(u32, Outcome)],
     out: &mut Vec<u8>,
-    seats: u32,
-    before: &[u32; MOST_SEATS],
-    batch: &Batch,
-    order: &[CallId],
 ) -> Result<(), AllocError>
+    requires run { IsOfARun closed.now.shape closed.now.words (map records_in (map (λ log. log.items) logs.now)) [] }
     requires seats { seats ≤ 8 }
-    requires texts { All (λ o. HasText (key_in (call_in o.1))) batch.now.outcomes.items }
+    requires texts { All (λ o. HasText (key_in (call_in o.1))) outcomes.now }
     ensures appended { OnOk result (out.new.items ≡ out.old.items
-        ++ (flat_map (λ o. outcome_line seats o.0 (outcome_on before.now o.1)) batch.now.outcomes.items
-        ++ order_lines order.now)) }
+        ++ (flat_map (λ o. outcome_line seats o.0 (outcome_on before.now o.1)) outcomes.now
+        ++ order_lines (ids_of (order_of closed.now.shape
+        (closing_with closed.now.words (map records_in (map (λ log. log.items) logs.now)) []))))) }
     ensures begun { OnErr result ((lines : List ℕ) × (out.new.items ≡ out.old.items ++ lines)) }
 {
-    let mut line = Line::new();
-    outcomes_text(out, &mut line, seats, before, &batch.outcomes)?;
-    order_text(out, &mut line, order)
+    let (written, ordered) = join_mut(
+        rt,
+        &mut || -> Result<(), AllocError>
+            requires { (seats ≤ 8) × All (λ o. HasText (key_in (call_in o.1))) outcomes.now }
+            ensures appended { OnOk result (out.exit.now.items ≡ out.entry.now.items
+                ++ flat_map (λ o. outcome_line seats o.0 (outcome_on before.entry.now o.1)) outcomes.entry.now) }
+            ensures begun { OnErr result ((lines : List ℕ) × (out.exit.now.items ≡ out.entry.now.items ++ lines)) }
+        { outcomes_text(out, seats, before, outcomes) },
+        &mut || -> Result<Vec<CallId>, AllocError>
+            requires { IsOfARun closed.now.shape closed.now.words
+                (map records_in (map (λ log. log.items) logs.now)) [] }
+            ensures { IfOk result (λ order. order.items ≡ ids_of (order_of closed.entry.now.shape
+                (closing_with closed.entry.now.words
+                (map records_in (map (λ log. log.items) logs.entry.now)) []))) }
+        { order_in(alloc, tables, closed, logs) },
+    );
+    written?;
+    order_text(out, &mut Line::new(), &ordered?)
 }
 
 // Appends the lines of the calls. After want of memory some may stand there.
 fn outcomes_text(
     out: &mut Vec<u8>,
-    line: &mut Line,
     seats: u32,
     before: &[u32; MOST_SEATS],
     outcomes: &[(u32, Outcome)],
@@ -73,8 +77,9 @@ fn outcomes_text(
         ++ flat_map (λ o. outcome_line seats o.0 (outcome_on before.now o.1)) outcomes.now) }
     ensures begun { OnErr result ((lines : List ℕ) × (out.new.items ≡ out.old.items ++ lines)) }
 {
+    let mut line = Line::new();
     for (seat, outcome) in outcomes {
-        outcome_text(out, line, seats, before, *seat, outcome)?;
+        outcome_text(out, &mut line, seats, before, *seat, outcome)?;
     }
     Ok(())
 }

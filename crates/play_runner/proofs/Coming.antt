@@ -36,7 +36,8 @@ slot_taken p q seat hand left stands is goes took hands told = record {
   setup_is = ap (λ (core : CoreValue). core.setup) took.after_is;
   play_is = play_is;
   stands = record {
-    good = subst (λ (setup : Setup). IsGood setup (play_in q)) (sym (ap (λ (core : CoreValue). core.setup) took.after_is))
+    good = subst (λ (setup : Setup). IsGood setup (play_in q))
+        (sym (ap (λ (core : CoreValue). core.setup) took.after_is))
         (subst (IsGood p.core.setup) (sym play_is) (slot_keeps p.core.setup seat (play_in p) stands.good).good);
     told = told;
   };

@@ -1,17 +1,17 @@
 //! What is kept of the batches that were served.
 
-ghost use Rattle.std.specs.Prelude.{◌≡◌, ◌≤◌, ◌<◌, ◌^◌, ◌+◌, ℕ, List, [], ◌∷◌, ◌++◌, length, vec_len, All, OnOk};
+ghost use Rattle.std.specs.Prelude.{◌≡◌, ◌≤◌, ◌<◌, ◌^◌, ◌+◌, ℕ, List, [], ◌∷◌, ◌++◌, length, All, OnOk};
 ghost use Rattle.std.specs.Option.{ForSome};
 ghost use Rattle.plain_map.specs.Serving.{IsAskable};
 ghost use Rattle.word_rows.specs.Shape.{AreBelow};
 ghost use Rattle.report_text.specs.Report.{batch_lines};
 ghost use Rattle.batch_runner.specs.declared.service.Service.{Service};
-ghost use Rattle.batch_runner.specs.Served.{CanOpen, IsServed, Served, rules_of};
+ghost use Rattle.batch_runner.specs.Served.{IsServed, Served};
 ghost use Rattle.batch_runner.specs.Printed.{lines_of};
-ghost use Rattle.batch_runner.specs.Told.{IsToldBy};
+ghost use Rattle.batch_runner.specs.Told.{CanGoOn, IsToldBy};
 ghost use Rattle.trace_runner.specs.declared.intake.TheConstants.{BATCH, PACKET_LIMIT};
 
-use batch_runner::{Batch, Service, Totals, Workspace, batch_text, go_on, serve_batch, try_batch};
+use batch_runner::{Batch, Service, Totals, Workspace, go_on, print_batch, try_batch};
 use edge_traits::Gate;
 use plain_map::{Call, MOST_SEATS, Pair};
 use std::alloc::{AllocError, Global};
@@ -71,8 +71,17 @@ impl Progress {
             (lines_of service.now self.old.before served))) }
         ensures counted { OnOk result (self.new.totals.calls ≡ self.old.totals.calls + length calls.now) }
     {
-        let (batch, order) = serve_batch(rt, alloc, service, workspace, &self.pairs, calls, gate)?;
-        batch_text(text, service.settings.seats, &self.before, &batch, &order)?;
+        let batch = print_batch(
+            rt,
+            alloc,
+            service,
+            workspace,
+            &self.pairs,
+            calls,
+            gate,
+            &self.before,
+            text,
+        )?;
         self.keep(service, calls, batch);
         Ok(())
     }
@@ -111,9 +120,7 @@ impl Progress {
         requires going { IsGoing service.now self.old }
         requires all { self.old.totals.calls ≤ PACKET_LIMIT }
         requires asked { length batch.outcomes.items ≡ length calls.now }
-        requires seats { vec_len batch.answered ≤ 8 }
-        requires answered { All (λ count. count ≤ length calls.now) batch.answered.items }
-        requires reopens { CanOpen (rules_of service.now) batch.pairs.items }
+        requires goes_on { CanGoOn service.now calls.now batch }
         ensures served { (batches : List Served) (served : Served) → HasServed service.now self.old batches →
             served.first ≡ self.old.pairs.items → served.calls ≡ calls.now → IsServed service.now served →
             IsToldBy service.now served batch → HasServed service.now self.new (batches ++ served ∷ []) }

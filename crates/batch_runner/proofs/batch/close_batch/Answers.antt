@@ -111,7 +111,8 @@ close_in_place-closed-requires-clause-all g c =
     let out : Vec Outcome Global → List Outcome = λ (log : Vec Outcome Global). log.items in
     let logs : List (List Outcome) = map out c.in_ok-seats.logs.items in
     let seats : List SeatValue = c.in_ok-seats.seats.items in
-    c.in_ok-seats.seats.ok.0 ∙ all_seats service c.args.first.now calls d c.in_ok-directory.ensures.setup shares c.in_ok-shares.ensures seats logs c.in_ok-seats.ensures
+    c.in_ok-seats.seats.ok.0 ∙ all_seats service c.args.first.now calls d c.in_ok-directory.ensures.setup shares
+    c.in_ok-shares.ensures seats logs c.in_ok-seats.ensures
 
 pub returns : goal.returns
 returns g c =

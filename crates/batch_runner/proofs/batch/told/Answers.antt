@@ -1,14 +1,12 @@
-use Rattle.std.proofs.Common.{◌≡◌, ℕ, ◌^◌, ◌<◌, List, Vec, Global, length, map, refl, sym, ap, ◌∙◌, subst, arith}
+use Rattle.std.proofs.Common.{ℕ, ◌^◌, ◌<◌, List, Vec, Global, length, refl, sym, ap, ◌∙◌, subst, arith}
 use Rattle.std.specs.Prelude.{IsPermutation}
 use Rattle.std.proofs.lemmas.List.{length-map}
 use Rattle.std.proofs.lemmas.Simd.{map-map}
-use Rattle.plain_map.specs.declared.calls.Call.{Call}
 use Rattle.word_rows.specs.Shape.{Shape}
 use Rattle.closed_words.specs.Views.{as_leaf}
 use Rattle.core_model.specs.Closed.{closed_depth, closed_leaves, closed_pairs}
 use Rattle.trace_share.specs.declared.outcome.Outcome.{Outcome}
 use Rattle.trace_share.specs.Outcomes.{records_in}
-use Rattle.batch_runner.specs.declared.service.Service.{Service}
 use Rattle.batch_runner.proofs.Counted.{short_logs}
 use Rattle.batch_runner.proofs.batch.told.Goals as goal
 

@@ -78,7 +78,8 @@ loop-place-preserved c =
       until = until_next c.args.share c.args.seats c.args.calls.now logs c.requires.logs c.loop-place.place _
           taken c.loop-place.outcomes.items seat c.loop-place.invariant.until c.loop-place-test.true
           (get_or_default c.args.calls.now c.loop-place.place _ _ c.loop-place-test.true) c.seat_for-seat.ensures.seat
-          c.seat_for-seat.ensures.own outcome at (set taken seat (get_or taken seat 0 + 1)) c.push.new.self.items room refl
+          c.seat_for-seat.ensures.own outcome at (set taken seat (get_or taken seat 0 + 1)) c.push.new.self.items room
+          refl
           c.in_ok-push.ensures.items;
       eight = length-set taken seat (get_or taken seat 0 + 1) ∙ c.loop-place.invariant.eight;
     }

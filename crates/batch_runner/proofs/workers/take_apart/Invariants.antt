@@ -7,7 +7,8 @@ use Rattle.batch_runner.proofs.workers.take_apart.Given as goal
 abbrev pub invariant-loop-worker : goal.invariant-loop-worker
 invariant-loop-worker l = record {
   made : (shares : List (List (ℕ × Call))) → AreThrough l.fn.directory 0 shares l.fn.workers.items →
-      MadeFrom l.fn.directory (vec_len l.workers) shares l.workers.items l.seats.items (map (λ log. log.items) l.logs.items);
+      MadeFrom l.fn.directory (vec_len l.workers) shares l.workers.items l.seats.items
+      (map (λ log. log.items) l.logs.items);
   seats_len : vec_len l.seats + vec_len l.workers ≡ vec_len l.fn.workers;
   logs_len : vec_len l.logs ≡ vec_len l.seats;
   seats_room : vec_capacity l.seats ≡ vec_len l.fn.workers;

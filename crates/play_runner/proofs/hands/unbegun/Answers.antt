@@ -9,7 +9,8 @@ overflow_add-unbegun c =
     omega (
       arith,
       c.loop-hand.invariant,
-      sum_from (λ (hand : Hand). length hand.calls) c.args.hands.now c.loop-hand.hand-index no_hand c.loop-hand-test.true,
+      sum_from (λ (hand : Hand). length hand.calls) c.args.hands.now c.loop-hand.hand-index no_hand
+          c.loop-hand-test.true,
       calls_few c.args.hands.now c.requires.few c.requires.short,
     )
 
@@ -18,7 +19,8 @@ loop-hand-preserved c =
     omega (
       arith,
       c.loop-hand.invariant,
-      sum_from (λ (hand : Hand). length hand.calls) c.args.hands.now c.loop-hand.hand-index no_hand c.loop-hand-test.true,
+      sum_from (λ (hand : Hand). length hand.calls) c.args.hands.now c.loop-hand.hand-index no_hand
+          c.loop-hand-test.true,
     )
 
 pub returns : goal.returns

@@ -29,7 +29,8 @@ loop-preserved c =
 
 pub returns-then-all_done : goal.returns-then-all_done
 returns-then-all_done c =
-    rounds_in c.args.self.now c.loop.self c.most_rounds-most.result c.settings-settings.result c.settings-settings.ensures
+    rounds_in c.args.self.now c.loop.self c.most_rounds-most.result c.settings-settings.result
+    c.settings-settings.ensures
     (c.most_rounds-most.ensures
     ∙ ap (λ (hands : List Hand). rounds_of c.settings-settings.result (as_hands hands)) c.deref.ensures.value)
     (rounds_done c.args.self.now c.loop.self c.most_rounds-most.result c.loop.counter c.loop.invariant
@@ -37,7 +38,8 @@ returns-then-all_done c =
 
 pub returns : goal.returns
 returns c =
-    rounds_in c.args.self.now c.loop.self c.most_rounds-most.result c.settings-settings.result c.settings-settings.ensures
+    rounds_in c.args.self.now c.loop.self c.most_rounds-most.result c.settings-settings.result
+    c.settings-settings.ensures
     (c.most_rounds-most.ensures
     ∙ ap (λ (hands : List Hand). rounds_of c.settings-settings.result (as_hands hands)) c.deref.ensures.value)
     (rounds_done c.args.self.now c.loop.self c.most_rounds-most.result c.loop.counter c.loop.invariant
