@@ -22,8 +22,8 @@ use trace_share::Outcome;
 /// Appends the lines of the calls, before which the seats had answered so many calls, and of the order of these logs.
 /// After want of memory some may stand there.
 ///
-/// A thread of its own writes the lines of the calls while this one makes the order. It asks for memory only where the
-/// text has no room left.
+/// Where there are several seats, a thread of its own writes the lines of the calls while this one makes the order. It
+/// asks for memory only where the text has no room left. For one seat a second thread costs more than it saves.
 pub(crate) fn put_lines<R: Threads>(
     rt: &R,
     alloc: Global,
@@ -44,6 +44,11 @@ pub(crate) fn put_lines<R: Threads>(
         (closing_with closed.now.words (map records_in (map (λ log. log.items) logs.now)) []))))) }
     ensures begun { OnErr result ((lines : List ℕ) × (out.new.items ≡ out.old.items ++ lines)) }
 {
+    if seats == 1 {
+        outcomes_text(out, seats, before, outcomes)?;
+        let order = order_in(alloc, tables, closed, logs)?;
+        return order_text(out, &mut Line::new(), &order);
+    }
     let (written, ordered) = join_mut(
         rt,
         &mut || -> Result<(), AllocError>
