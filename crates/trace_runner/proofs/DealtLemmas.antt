@@ -1,6 +1,6 @@
 -- What is told of a play is told of calls that were dealt: what holds of each of these holds of each call that ended,
 -- that is under way, or that was answered.
-use Rattle.std.proofs.Common.{◌≡◌, ◌<◌, ℕ, ◌+◌, List, [], ◌∷◌, ◌++◌, Bool, true, false, cond, map, length, get_or, Option, Some, None, fold, inl, inr, refl, sym, subst, nat_lt}
+use Rattle.std.proofs.Common.{◌≡◌, ℕ, ◌+◌, List, [], ◌∷◌, Bool, true, false, cond, map, length, get_or, Option, Some, None, fold, inl, inr, refl, sym, subst, nat_lt}
 use Rattle.std.specs.Prelude.{replicate, slice_get}
 use Rattle.std.specs.List.{All, enumerate_from, flat_map, range_with_len}
 use Rattle.std.proofs.lemmas.List.{get_or_past}
@@ -8,7 +8,6 @@ use Rattle.std.proofs.lemmas.List.Elements.{All-append, All-cons, All-get_or, Al
 use Rattle.std.proofs.lemmas.Bool.{cases_lt}
 use Rattle.std.proofs.lemmas.Option.{slice_get_cases}
 use Rattle.plain_map.specs.declared.calls.Call.{Call}
-use Rattle.plain_map.specs.declared.calls.Reply.{Reply}
 use Rattle.plain_map.specs.declared.full.Full.{Full}
 use Rattle.plain_map.specs.declared.records.Record.{Record}
 use Rattle.plain_map.specs.declared.records.Pending.{Pending}

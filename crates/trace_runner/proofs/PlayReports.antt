@@ -1,5 +1,5 @@
 -- The report of a play: its text, and that it is what the definitions say.
-use Rattle.std.proofs.Common.{◌≡◌, ◌<◌, ◌≤◌, ◌^◌, ℕ, List, [], ◌∷◌, ◌++◌, length, Option, None, Result, Ok, Err, refl, sym, ap, subst, ◌∙◌, append_assoc, append-nil, arith}
+use Rattle.std.proofs.Common.{◌≡◌, ◌<◌, ◌≤◌, ◌^◌, ℕ, List, [], ◌++◌, length, Option, Result, Ok, Err, refl, sym, ap, subst, ◌∙◌, append_assoc, append-nil, arith}
 use Rattle.std.specs.Prelude.{OnOk}
 use Rattle.std.specs.List.{All, flat_map}
 use Rattle.std.proofs.lemmas.List.Elements.{All-weaker}
@@ -14,7 +14,7 @@ use Rattle.flow_keys.specs.FlowText.{HasText}
 use Rattle.trace_share.specs.declared.outcome.Outcome.{Outcome}
 use Rattle.report_text.specs.declared.parts.Ending.{Ending}
 use Rattle.report_text.specs.Report.{batch_lines, call_in as call_of, head_line, order_lines, outcome_line, pending_line, report_of, session_line, tail_lines}
-use Rattle.core_model.specs.Setup.{Setup, settings_of}
+use Rattle.core_model.specs.Setup.{Setup}
 use Rattle.core_model.specs.Worlds.{World}
 use Rattle.core_model.specs.Closed.{closed_depth}
 use Rattle.core_model.specs.Schedules.{CanPlay, Play}

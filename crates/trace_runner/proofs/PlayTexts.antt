@@ -1,12 +1,11 @@
 -- The calls that a play tells, and the pairs that it leaves, have keys with texts, since those of all calls have.
-use Rattle.std.proofs.Common.{◌≡◌, ℕ, List, [], ◌++◌, map, get_or, sym, subst}
+use Rattle.std.proofs.Common.{◌≡◌, ℕ, List, [], ◌++◌, map, sym, subst}
 use Rattle.std.specs.List.{All, filter}
 use Rattle.std.proofs.lemmas.List.Elements.{All-append, All-contains, All-filter, All-map, All-weaker}
 use Rattle.std.proofs.lemmas.List.Sorted.{All-permutation}
 use Rattle.plain_map.specs.declared.calls.Call.{Call}
 use Rattle.plain_map.specs.declared.keys.Pair.{Pair}
 use Rattle.plain_map.specs.declared.records.Pending.{Pending}
-use Rattle.plain_map.specs.declared.records.Record.{Record}
 use Rattle.plain_map.specs.Calls.{key_in}
 use Rattle.plain_map.specs.PlainObject.{pairs_of}
 use Rattle.plain_map.specs.History.{Placed, answered, call_in, pending, sessions_after}
@@ -19,11 +18,11 @@ use Rattle.report_text.specs.Report.{call_in as call_of}
 use Rattle.core_model.specs.Setup.{Setup, rules_of}
 use Rattle.core_model.specs.Order.{effects_of, order_of, took_effect}
 use Rattle.core_model.specs.Closed.{begun_of, closed_pairs, closing_of, records_of, sessions_with}
-use Rattle.core_model.specs.Schedules.{Play, Segment, play_of}
+use Rattle.core_model.specs.Schedules.{Play}
 use Rattle.play_runner.specs.declared.values.Played.{Played}
 use Rattle.play_runner.specs.Played.{IsPlayed}
 use Rattle.trace_runner.specs.Playing.{IsRightPlay}
-use Rattle.trace_runner.proofs.DealtLemmas.{ToldRight, told-dealt}
+use Rattle.trace_runner.proofs.DealtLemmas.{ToldRight}
 
 -- the key of a call has a text
 abbrev pub CallHasText : ℕ × Call → Type 0

@@ -1,11 +1,11 @@
 -- Where each seat has the automatic rows for the calls that it is dealt, no call of a play is refused.
-use Rattle.std.proofs.Common.{◌≡◌, ◌<◌, ◌≤◌, ℕ, ◌+◌, ◌⊎◌, List, [], ◌∷◌, ◌++◌, Bool, true, false, cond, map, length, get_or, Option, Some, None, is_some, fold, inl, inr, refl, sym, ap, ◌∙◌, subst, nat_lt, arith, append-nil, append_assoc, lt-ltb, All}
+use Rattle.std.proofs.Common.{◌≡◌, ◌<◌, ◌≤◌, ℕ, ◌+◌, ◌⊎◌, List, [], ◌∷◌, ◌++◌, Bool, true, false, cond, map, length, get_or, Option, Some, None, is_some, fold, inl, inr, refl, sym, ap, ◌∙◌, subst, arith, append-nil, append_assoc, lt-ltb, All}
 use Rattle.std.specs.Prelude.{count_by, slice_index}
 use Rattle.std.proofs.lemmas.List.{get_or_past, get_or-map, get_or-replicate, get_or-set_same, map-append}
 use Rattle.std.proofs.lemmas.List.FromFn.{get_or-map-range_with_len}
 use Rattle.std.proofs.lemmas.Simd.{map-map}
 use Rattle.std.proofs.lemmas.List.Elements.{All-append, All-cons, All-nil}
-use Rattle.std.proofs.lemmas.List.Sums.{fold-append, sum_by-append, sum_by-cons}
+use Rattle.std.proofs.lemmas.List.Sums.{sum_by-append, sum_by-cons}
 use Rattle.std.proofs.lemmas.Bool.{cases_eq, cases_lt, false≢true}
 use Rattle.plain_map.specs.declared.calls.Call.{Call}
 use Rattle.plain_map.specs.declared.calls.Call.TheVariants.{Insert, Remove, Lookup}
@@ -23,7 +23,7 @@ use Rattle.core_model.specs.Worlds.{World, act, begin_or_refuse, found_by, happe
 use Rattle.core_model.specs.Promises.{RowsSuffice, updates_in}
 use Rattle.step_counts.specs.StepCounts.{automatic_rows_of}
 use Rattle.core_model.specs.Schedules.{CanPlay, Hand, Play, Segment, empty_hand, events_of_slot, first_play, hand_after_slot, hand_of, is_refused, is_stopped, one_begins, play_of, slot, tried_of, untried_of, with_events, with_step}
-use Rattle.core_bounds.specs.Moments.{asked_by, asked_now, asked_of}
+use Rattle.core_bounds.specs.Moments.{asked_by, asked_of}
 use Rattle.core_bounds.proofs.WorldSteps.{step_same}
 use Rattle.core_schedules.proofs.Ends.{first_good}
 use Rattle.core_schedules.proofs.Slots.{no_seat, slot_keeps}

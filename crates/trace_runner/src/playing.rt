@@ -1,12 +1,12 @@
 //! Mode `play`: a capture is read whole, its calls are made by a schedule, and the report is put at once.
 
-ghost use Rattle.std.specs.Prelude.{◌≡◌, ◌≤◌, ◌<◌, ◌^◌, ℕ, [], ◌++◌, length, map, flat_map, vec_len, All, IfOk, OnOk, Some};
+ghost use Rattle.std.specs.Prelude.{◌≡◌, ◌≤◌, ◌<◌, ◌^◌, [], ◌++◌, length, map, flat_map, vec_len, All, IfOk, OnOk, Some};
 ghost use Rattle.std.specs.Option.{ForSome};
 ghost use Rattle.edge_traits.specs.Edge.{Rose};
 ghost use Rattle.flow_keys.specs.FlowText.{HasText};
 ghost use Rattle.plain_map.specs.Calls.{key_in};
 ghost use Rattle.word_rows.specs.Shape.{AreBelow};
-ghost use Rattle.report_text.specs.Report.{IsEnding, batch_lines, call_in, outcome_line, pending_line, session_line};
+ghost use Rattle.report_text.specs.Report.{IsEnding, batch_lines, call_in, outcome_line, pending_line};
 ghost use Rattle.core_model.specs.Schedules.{CanPlay, IsPlayable};
 ghost use Rattle.play_runner.specs.Played.{IsPlayed, as_segment};
 ghost use Rattle.batch_rows.specs.declared.rows.TheConstants.{CALL_LIMIT};

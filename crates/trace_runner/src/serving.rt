@@ -1,8 +1,7 @@
 //! Mode `serve`: a capture is read, served and printed batch by batch.
 
-ghost use Rattle.std.specs.Prelude.{◌≡◌, ◌≤◌, ◌<◌, ◌^◌, ◌+◌, ◌*◌, ◌⊎◌, ℕ, List, [], ◌++◌, false, Option, Ok, Some, length, map, All, IfOk};
+ghost use Rattle.std.specs.Prelude.{◌≡◌, ◌≤◌, ◌<◌, ◌^◌, ◌+◌, ℕ, List, [], ◌++◌, Option, Ok, Some, length, map, IfOk};
 ghost use Rattle.std.specs.Option.{ForSome};
-ghost use Rattle.std.specs.Io.KnownBytes.{Appends};
 ghost use Rattle.edge_traits.specs.Edge.{Rose};
 ghost use Rattle.pcap_reader.specs.Reading.{IsAtStart};
 ghost use Rattle.plain_map.specs.declared.calls.Call.{Call as ACall};

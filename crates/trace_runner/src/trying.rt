@@ -9,7 +9,7 @@ ghost use Rattle.word_rows.specs.Shape.{AreBelow};
 ghost use Rattle.batch_runner.specs.Served.{Served};
 ghost use Rattle.command_line.specs.Words.{IsInRange};
 ghost use Rattle.trace_runner.specs.Batches.{AreOfBatches, batch_count, batch_length};
-ghost use Rattle.trace_runner.specs.Reading.{AreBetween, HaveCome, HaveEnded};
+ghost use Rattle.trace_runner.specs.Reading.{AreBetween, HaveCome};
 ghost use Rattle.trace_runner.specs.Headline.{IsTrial, LeavesTried, seed_of, trial_of};
 ghost use Rattle.trace_runner.specs.Progress.{HasServed, HasTried, IsGoing};
 
