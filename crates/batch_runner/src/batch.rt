@@ -46,9 +46,9 @@ pub struct Batch {
 /// closes it, and tells what it came to; appends the lines of the calls and of their one order.
 ///
 /// `before` has how many calls each seat had answered before. The gate is passed before each call and told of each
-/// answer. Where there are several seats, the lines of the calls are written in a thread of their own while the order is
-/// made; where no thread can be made, the caller's does both. The only error is want of memory, after which the text is
-/// what it was. What is left can open the next batch.
+/// answer. Where there are several seats, the lines of the calls are written in a thread of their own while the order
+/// is made; where no thread can be made, the caller's does both. The only error is want of memory, after which the text
+/// is what it was. What is left can open the next batch.
 pub fn print_batch<R: Threads + Sync, G: Gate + Sync>(
     rt: &R,
     alloc: Global,

@@ -232,7 +232,8 @@ module _ (rules : Rules) (seats : ℕ) (directory : DirectoryState) (loaded : Li
         Leaves (split_for rules call most leaves)
     splits-walk call most leaves walk =
         let ap_ = apart rules seats directory loaded ops can replies seat leaves walk in
-        let any : (b : ℕ) → list_any (comes_from b) (split_for rules call most leaves) ≡ list_any (comes_from b) leaves =
+        let any : (b : ℕ) → list_any (comes_from b) (split_for rules call most leaves)
+        ≡ list_any (comes_from b) leaves =
         λ b. splits-any rules can.range call (comes_from b) (λ bit leaf. refl) most leaves in
         record {
           each = splits-each rules can.range call Leaf (λ leaf e o k. let

@@ -1,5 +1,5 @@
--- What is told of the directory tries with later roots than one that an update knew, and of the directory rows that they
--- make.
+-- What is told of the directory tries with later roots than one that an update knew, and of the directory rows that
+-- they make.
 use Rattle.std.proofs.Common.{◌≡◌, ◌≢◌, ℕ, ◌+◌, ◌<◌, ◌≤◌, true, List, length, get_or}
 use Rattle.std.specs.Prelude.{Option, None, All}
 use Rattle.plain_map.specs.declared.keys.Key.{Key}

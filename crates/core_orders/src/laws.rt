@@ -19,8 +19,8 @@ ghost use Rattle.core_orders.specs.KeyOrder.{
   SortedPairsAreHeld,
 };
 
-/// The order that the closed words tell is never stuck, it is legal for the plain object from the first pairs on, each call
-/// stands after all that its caller had seen, and each answered call and each update that took effect stands once.
+/// The order that the closed words tell is never stuck, it is legal for the plain object from the first pairs on, each
+/// call stands after all that its caller had seen, and each answered call and each update that took effect stands once.
 pub fn order_laws()
     ensures never_stuck { OrderIsNeverStuck }
     ensures legal { OrderIsLegal }
@@ -34,22 +34,22 @@ pub fn end_laws()
     ensures depth { DepthIsOfLeaves }
 {}
 
-/// Each leaf that is deeper than the starting depth has its cause: the bucket above it was full at some stage, of the first
-/// pairs or of the order.
+/// Each leaf that is deeper than the starting depth has its cause: the bucket above it was full at some stage, of the
+/// first pairs or of the order.
 pub fn warrant_laws()
     ensures warranted { LeavesAreWarranted }
 {}
 
-/// A lookup stands after exactly those updates of its row's keys that are applied in its row. And of the pieces that are left
-/// and ready at any moment of the placing, one at most has a call of each seat.
+/// A lookup stands after exactly those updates of its row's keys that are applied in its row. And of the pieces that
+/// are left and ready at any moment of the placing, one at most has a call of each seat.
 pub fn turn_laws()
     ensures lookups { LookupsStandByTheirRows }
     ensures one_ready { OneIsReady }
 {}
 
-/// The pairs of the closed table can open the next one, in whatever turn: each can be kept, their keys are distinct and find
-/// room, and that table begins with what is held after the order. Sorted by their keys they are the pairs of what is held.
-/// So that opening lacks room for none of them.
+/// The pairs of the closed table can open the next one, in whatever turn: each can be kept, their keys are distinct and
+/// find room, and that table begins with what is held after the order. Sorted by their keys they are the pairs of what
+/// is held. So that opening lacks room for none of them.
 pub fn reopen_laws()
     ensures reopen { PairsReopen }
     ensures any_turn { PairsReopenInAnyTurn }

@@ -1,4 +1,5 @@
-//! What the closed words tell: the published rows by positions, the calls that each of them took, and the order of them all.
+//! What the closed words tell: the published rows by positions, the calls that each of them took, and the order of them
+//! all.
 #![tactic(auto)]
 
 mod laws;

@@ -192,7 +192,8 @@ module _ (setup : Setup) (me : ℕ) (c : Common) (account : Account) (flight : F
   }
 
   -- the entry is the bucket of the key
-  pub entry : (root depth : ℕ) → root ≡ c.dir_row local.dir → depth ≡ (c.dir_at local.dir).depth → local.dir ≤ c.dir_top →
+  pub entry : (root depth : ℕ) → root ≡ c.dir_row local.dir → depth ≡ (c.dir_at local.dir).depth → local.dir
+      ≤ c.dir_top →
       c.memory.directory root (2 + bits setup depth key) ≡ lead setup c local.dir key
   entry root depth r e o =
       ap (λ x. c.memory.directory x (2 + bits setup depth key)) r

@@ -8,8 +8,8 @@ pub fn stuck_laws()
     ensures never { NeverStuck }
 {}
 
-/// Each step is on a word of the table, a seat stores only in words of its own that are not published, and it announces its last
-/// op row.
+/// Each step is on a word of the table, a seat stores only in words of its own that are not published, and it announces
+/// its last op row.
 pub fn step_laws()
     ensures within { StepsAreWithin }
     ensures own { StoresAreOwn }

@@ -8,7 +8,8 @@ pub const MOST_WORDS: usize = BUCKET_HEAD_WORDS
     + ITEM_WORDS * MOST_ITEMS as usize
     + SEAT_WORDS * MOST_SEATS;
 
-/// The most leaves that a directory change has room for: of each seat a bucket's two parts and a leaf for each split, and one.
+/// The most leaves that a directory change has room for: of each seat a bucket's two parts and a leaf for each split,
+/// and one.
 pub(crate) const MOST_LEAVES: usize = MOST_SEATS * (MOST_DEPTH as usize + 2) + 1;
 
 /// The most steps of finding all announced ops.

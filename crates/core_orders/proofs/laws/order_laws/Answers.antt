@@ -2,4 +2,10 @@ use Rattle.core_orders.proofs.Promised.{order_is_never_stuck, order_is_legal, or
 use Rattle.core_orders.proofs.laws.order_laws.Goals as goal
 
 pub returns : goal.returns
-returns c = record { never_stuck = order_is_never_stuck; legal = order_is_legal; after = order_is_after; whole = order_is_whole }
+returns c =
+    record {
+      never_stuck = order_is_never_stuck;
+      legal = order_is_legal;
+      after = order_is_after;
+      whole = order_is_whole;
+    }

@@ -20,7 +20,8 @@ pub loop-rest-preserved : goal.loop-rest-preserved
 loop-rest-preserved g c =
     let v = c.loop-rest.invariant in
     let inside : c.loop-rest.i < length c.loop-rest.row = omega (arith, v.len, v.at, c.loop-rest-test.true) in
-    let next = loaded_more (g.S.Steps.now c.args.steps.now) c.loop-rest.row c.loop-rest.i c.load-in-loop-rest.result inside v.goes
+    let next = loaded_more (g.S.Steps.now c.args.steps.now) c.loop-rest.row c.loop-rest.i c.load-in-loop-rest.result
+    inside v.goes
     v.fits c.load-in-loop-rest.ensures.goes c.load-in-loop-rest.ensures.fits in
     record {
       at = omega (arith, v.at);

@@ -12,6 +12,7 @@ loop-one-preserved g c =
 pub loop-rest-preserved : goal.loop-rest-preserved
 loop-rest-preserved g c =
     let v = c.loop-rest.invariant in
-    let next = stored_more (g.S.Steps.now c.args.steps.now) c.loop-rest.i v.goes v.fits c.store-in-loop-rest.ensures.goes
+    let next = stored_more (g.S.Steps.now c.args.steps.now) c.loop-rest.i v.goes v.fits
+    c.store-in-loop-rest.ensures.goes
     c.store-in-loop-rest.ensures.fits in
     record { at = omega (arith, v.at); goes = next.0; fits = next.1 }
