@@ -35,6 +35,14 @@ one_makes Flow n c i call some inside =
       alone = λ (s : ℕ) (within : s < n). refl;
     }
 
+-- where there is one seat it makes each call
+pub lone_makes : (share : Share) (n c i seat : ℕ) (call : ℕ × Call) → n ≡ 1 → i < c → seat < n →
+    makes share n c seat (i, call) ≡ (0 == seat)
+lone_makes share n c i seat call lone inside within =
+    let own : PassesOnce n (λ s. makes share n c s (i, call)) = one_makes share n c i call (omega arith) inside in
+    let first : own.seat ≡ 0 = omega (arith, own.below) in
+    own.alone seat within ∙ ap (λ (s : ℕ). s == seat) first
+
 -- lists that agree on each number agree end to end
 flat_map_same : {X : Type 0} (f g : ℕ → List X) (a n : ℕ) → ((s : ℕ) → a ≤ s → s < a + n → f s ≡ g s) →
     flat_map f (range_with_len a n) ≡ flat_map g (range_with_len a n)

@@ -22,7 +22,7 @@ pub enum Share {
     Flow,
 }
 
-/// The calls of each seat, seat 0 first, each seat's in their order.
+/// The calls of each seat, seat 0 first, each seat's in their order. Each list begins with room for an even part.
 pub fn deal(
     alloc: Global,
     share: Share,
@@ -33,7 +33,8 @@ pub fn deal(
     requires few { seats ≤ 8 }
     ensures { IfOk result (λ lists. map (λ list. list.items) lists.items ≡ dealt share seats calls.now) }
 {
-    let mut lists = empty_lists(alloc, seats)?;
+    let room = calls.len() / seats as usize + 1;
+    let mut lists = empty_lists(alloc, seats, room)?;
     for (place, call) in calls.iter().enumerate() {
         let seat = seat_for(share, seats, calls.len(), place, call);
         lists[seat as usize].push(*call)?;
@@ -41,24 +42,29 @@ pub fn deal(
     Ok(lists)
 }
 
-// An empty list for each seat.
-fn empty_lists(alloc: Global, seats: u32) -> Result<Vec<Vec<(u32, Call)>>, AllocError>
+// An empty list for each seat, with room for so many calls: it grows only where a seat gets more than that, so that a
+// list that is dealt evenly is never moved.
+fn empty_lists(alloc: Global, seats: u32, room: usize) -> Result<Vec<Vec<(u32, Call)>>, AllocError>
     ensures { IfOk result (λ lists. map (λ list. list.items) lists.items ≡ replicate seats []) }
 {
     let mut lists = Vec::with_capacity(alloc, seats as usize)?;
     for _ in 0..seats {
-        lists.push(Vec::new(alloc))?;
+        lists.push(Vec::with_capacity(alloc, room)?)?;
     }
     Ok(lists)
 }
 
-/// The seat that makes the call at a place, from 0, among so many calls of a batch.
+/// The seat that makes the call at a place, from 0, among so many calls of a batch. Of one seat nothing is divided or
+/// hashed, since it makes them all.
 pub fn seat_for(share: Share, seats: u32, count: usize, place: usize, call: &(u32, Call)) -> u32
     requires some { 1 ≤ seats }
     requires inside { place < count }
     ensures seat { result < seats }
     ensures own { (seat : ℕ) → seat < seats → makes share seats count seat (place, call.now) ≡ (result == seat) }
 {
+    if seats == 1 {
+        return 0;
+    }
     match share {
         Share::Round => (place % seats as usize) as u32,
         Share::Block => part_of(seats, count, place),
