@@ -1,23 +1,34 @@
 //! How often a bucket can be split in a batch, from the batch's own keys.
 
-ghost use Rattle.std.specs.Prelude.{◌≡◌, ◌++◌, ◌^◌, ◌<◌, ◌≤◌, IfOk, true};
+ghost use Rattle.std.specs.Prelude.{◌≡◌, ◌++◌, ◌^◌, ◌<◌, ◌≤◌, IfOk, length, true};
 ghost use Rattle.std.specs.List.{IsDistinct, list_any};
 ghost use Rattle.plain_map.specs.PlainObject.{InRange};
 ghost use Rattle.bucket_states.specs.Items.{same_key};
 ghost use Rattle.bucket_states.specs.Parts.{keys_of};
 ghost use Rattle.batch_rows.specs.BatchRows.{inserted_in_calls, splits_in_calls};
 ghost use Rattle.batch_rows.specs.Counts.{HaveSameKeys};
+ghost use Rattle.batch_rows.specs.declared.splits.TheConstants.{HINTS};
 
 use crate::crowds::crowded;
 use plain_map::{Call, Key, Pair, Rules};
 use std::alloc::{AllocError, Global};
 
+// How many hints there are to the places of keys.
+const HINTS: usize = 4_096;
+
+// 2^64 divided by the golden ratio, as an odd number: the highest bits of a product with it depend on each lower bit.
+const HINT_MULTIPLIER: u64 = 0x9e37_79b9_7f4a_7c15;
+
+// What is shifted out of a product, so that 12 bits are left.
+const HINT_SHIFT: u32 = 52;
+
 /// How often at most a bucket is split after the opening, in a table of this starting depth that begins with these
 /// pairs and is asked these calls.
 ///
 /// It is how many prefixes get more keys than a bucket has room for: of the pairs and the inserts together, less those
-/// of the pairs alone. It takes memory for the keys, and a word for each place of the greatest directory. It is quick
-/// where the keys of the inserts are among those of the pairs, which come sorted.
+/// of the pairs alone. It takes memory for the keys, for hints to their places, and a word for each place of the
+/// greatest directory. It is quick where the keys of the inserts are among those of the pairs, which come sorted: most
+/// are found by their hints, and nothing is put in order or counted.
 pub fn splits_of(
     alloc: Global,
     rules: &Rules,
@@ -31,11 +42,12 @@ pub fn splits_of(
     ensures few { IfOk result (λ splits. splits < 2 ^ 32) }
 {
     let mut keys = first_keys(alloc, first)?;
-    keep_once(&mut keys);
-    let added = new_keys(alloc, &keys, calls)?;
+    let hints = hints_of(alloc, &keys)?;
+    let added = new_keys(alloc, &keys, &hints, calls)?;
     if added.is_empty() {
         return Ok(0);
     }
+    keep_once(&mut keys);
     let before = crowded(alloc, rules, start, &keys)?;
     keys.extend_from_slice(&added)?;
     keep_once(&mut keys);
@@ -54,15 +66,40 @@ fn first_keys(alloc: Global, first: &[Pair]) -> Result<Vec<Key>, AllocError>
     Ok(keys)
 }
 
+// By the bits of a key that tell hints apart, the place of the last of these keys that has them, or 0 where none has.
+// Nothing relies on what the places are: whoever follows a hint compares the key that stands there.
+fn hints_of(alloc: Global, keys: &[Key]) -> Result<Vec<u32>, AllocError>
+    ensures { IfOk result (λ hints. length hints.items ≡ HINTS) }
+{
+    let mut hints = vec![in alloc; 0u32; HINTS]?;
+    for (key, place) in keys.iter().zip(0..u32::MAX) {
+        hints[hint_place(key)] = place;
+    }
+    Ok(hints)
+}
+
+// Where the hint to a key stands: one multiplication spreads both words over the bits that are kept.
+fn hint_place(key: &Key) -> usize
+    ensures { result < HINTS }
+{
+    ((key.k0 ^ (key.k0 >> 32) ^ key.k1).wrapping_mul(HINT_MULTIPLIER) >> HINT_SHIFT) as usize
+}
+
 // The keys of the inserts among these calls, but for those that are found among the first ones.
-fn new_keys(alloc: Global, keys: &[Key], calls: &[(u32, Call)]) -> Result<Vec<Key>, AllocError>
+fn new_keys(
+    alloc: Global,
+    keys: &[Key],
+    hints: &[u32],
+    calls: &[(u32, Call)],
+) -> Result<Vec<Key>, AllocError>
+    requires hints { length hints.now ≡ HINTS }
     ensures { IfOk result (λ added.
         HaveSameKeys (keys.now ++ added.items) (keys.now ++ inserted_in_calls calls.now)) }
 {
     let mut added = Vec::new(alloc);
     for asked in calls {
         if let Call::Insert(key, _) = asked.1 {
-            if !is_among(keys, &key) {
+            if !is_among(keys, hints, &key) {
                 added.push(key)?;
             }
         }
@@ -70,10 +107,15 @@ fn new_keys(alloc: Global, keys: &[Key], calls: &[(u32, Call)]) -> Result<Vec<Ke
     Ok(added)
 }
 
-// Whether the key is found among these, which is so where it is there and they are sorted.
-fn is_among(keys: &[Key], key: &Key) -> bool
+// Whether the key is found among these, by its hint or else by a search. It is where it is there and they are sorted.
+fn is_among(keys: &[Key], hints: &[u32], key: &Key) -> bool
+    requires hints { length hints.now ≡ HINTS }
     ensures { result ≡ true → list_any (same_key key.now) keys.now ≡ true }
 {
+    let hinted = hints[hint_place(key)] as usize;
+    if hinted < keys.len() && keys[hinted] == *key {
+        return true;
+    }
     keys.binary_search(key).is_ok()
 }
 
