@@ -2,7 +2,6 @@
 #![tactic(auto)]
 
 mod calls;
-mod digits;
 mod head;
 mod line;
 mod order;

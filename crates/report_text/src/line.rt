@@ -4,8 +4,7 @@ ghost use Rattle.std.specs.Prelude.{◌≡◌, ◌+◌, ◌≤◌, [], ◌++◌,
 ghost use Rattle.std.specs.Fmt.{decimal};
 ghost use Rattle.report_text.specs.declared.line.TheConstants.{LINE_ROOM};
 
-use crate::digits::digit_count;
-use flow_keys::write_key;
+use flow_keys::{digit_count, write_key};
 use itoa::write_digits;
 use plain_map::Key;
 
