@@ -31,7 +31,8 @@ for _ in $(seq "$turns"); do
     timed serve1 "$flowdir" serve --seats 1
     timed serve2 "$flowdir" serve --seats 2
     timed tcpdump tcpdump -n -r "$file"
-    timed trial "$flowdir" trial --number 0 --packets "$packets"
+    timed trial1 "$flowdir" trial --number 0 --packets "$packets" --seats 1
+    timed trial2 "$flowdir" trial --number 0 --packets "$packets" --seats 2
     timed softflowd softflowd -r "$file" -p "$work/pid" -c none
 done
 timed most "$flowdir" serve --seats 8 --items 16 --depth 12
@@ -39,8 +40,10 @@ cat /proc/loadavg
 awk '{ if (!($1 in least) || $2 < least[$1]) least[$1] = $2; if ($3 > most[$1]) most[$1] = $3 }
     END {
         for (name in least) printf "%s %.2f s, %.1f MB\n", name, least[name], most[name] / 1024
-        printf "serve with 1 seat %.2f of tcpdump, with 2 seats %.2f; trial %.2f of softflowd\n",
-            least["serve1"] / least["tcpdump"], least["serve2"] / least["tcpdump"], least["trial"] / least["softflowd"]
+        printf "serve with 1 seat %.2f of tcpdump, with 2 seats %.2f\n",
+            least["serve1"] / least["tcpdump"], least["serve2"] / least["tcpdump"]
+        printf "trial with 1 seat %.2f of softflowd, with 2 seats %.2f\n",
+            least["trial1"] / least["softflowd"], least["trial2"] / least["softflowd"]
     }' "$work/times"
 
 # The cost of a packet by the length of the capture, and of none. The shortest are served many times more, since they are over in
