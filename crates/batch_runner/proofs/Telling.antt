@@ -1,5 +1,5 @@
 -- What is told of a batch that was served.
-use Rattle.std.proofs.Common.{◌≡◌, ℕ, ◌<◌, ◌≤◌, List, length, map, sym, ap, ◌∙◌, subst, vec_len, arith}
+use Rattle.std.proofs.Common.{◌≡◌, ℕ, ◌≤◌, List, length, map, sym, ap, ◌∙◌, subst, vec_len, arith}
 use Rattle.std.specs.Prelude.{All}
 use Rattle.std.proofs.lemmas.List.{length-map}
 use Rattle.std.proofs.lemmas.List.Elements.{All-map, All-weaker}
@@ -11,26 +11,19 @@ use Rattle.trace_share.specs.Outcomes.{asked_in, records_in}
 use Rattle.batch_orders.specs.Batches.{answered_then, with_counts}
 use Rattle.std.proofs.lemmas.Simd.{map-map}
 use Rattle.plain_map.specs.declared.records.Record.{Record}
-use Rattle.batch_rows.specs.declared.rows.TheConstants.{CALL_LIMIT}
 use Rattle.batch_runner.specs.declared.service.Service.{Service}
 use Rattle.batch_runner.specs.declared.batch.Batch.{Batch}
 use Rattle.batch_runner.specs.Served.{CanOpen, Served, IsServed, history_in, rules_of}
-use Rattle.batch_runner.specs.Told.{CanGoOn, HasCounts, IsToldBy}
+use Rattle.batch_runner.specs.Told.{CanGoOn, IsToldBy}
 use Rattle.batch_runner.proofs.Deals.{long_dealt}
 use Rattle.batch_runner.proofs.Rights.{can_open}
-use Rattle.batch_runner.proofs.Counted.{counted, short_asked, unmap_all}
+use Rattle.batch_runner.proofs.Counted.{short_asked, unmap_all}
 
 module _ (service : Service) (served : Served) (batch : Batch) (is : IsServed service served)
     (told : IsToldBy service served batch) where
   -- its pairs can open the next
   pub told_open : CanOpen (rules_of service) batch.pairs.items
   told_open = subst (CanOpen (rules_of service)) (sym told.pairs) (can_open service served is)
-
-  -- its counts are small
-  pub told_counted : (limit : ℕ) → length served.calls < limit →
-      All (λ (o : ℕ × Outcome). HasCounts limit o.1) batch.outcomes.items
-  told_counted limit few = subst (All (λ (o : ℕ × Outcome). HasCounts limit o.1)) (sym told.outcomes)
-      (counted service served limit is few)
 
   -- there is a count for each seat
   pub told_seats : vec_len batch.answered ≡ service.settings.seats
@@ -50,11 +43,10 @@ module _ (service : Service) (served : Served) (batch : Batch) (is : IsServed se
       (All-map (λ count. count ≤ length served.calls) (λ (log : List Outcome). length (records_in log)) served.logs
       (short_asked service served.calls served.logs is.of_run.asked))
 
-  -- so the next batch can be opened, and all is small
-  pub told_on : length served.calls < CALL_LIMIT → CanGoOn service served.calls batch
-  told_on few = record {
+  -- so the next batch can be opened, and its counts are small
+  pub told_on : CanGoOn service served.calls batch
+  told_on = record {
     reopens = told_open;
-    counted = told_counted CALL_LIMIT few;
     seats = omega (arith, told_seats, service.settings.seats_in_range.1);
     answered = told_answered;
   }
@@ -67,14 +59,12 @@ module _ (service : Service) (served : Served) (batch : Batch) (is : IsServed se
 
   -- what holds of the calls that were asked holds of those that are told
   pub told_calls : (P : Call → Type 0) → All (λ (call : ℕ × Call). P call.1) served.calls →
-      All (λ (o : ℕ × Outcome). P (call_in o.1)) batch.outcomes.items
+      All (λ (o : ℕ × Outcome). P (call_in o.1)) served.outcomes
   told_calls P all =
       let Q : ℕ × Call → Type 0 = λ (call : ℕ × Call). P call.1 in
-      let f : ℕ × Outcome → ℕ × Call = λ (o : ℕ × Outcome). asked_in o.1 in
-      let asked = unmap_all Q f served.outcomes (subst (All Q) (sym is.outcomes.asked) all) in
       All-weaker (λ (o : ℕ × Outcome). P (asked_in o.1).1) (λ (o : ℕ × Outcome). P (call_in o.1))
-      (λ o. same_call o.1) batch.outcomes.items
-      (subst (All (λ (o : ℕ × Outcome). P (asked_in o.1).1)) (sym told.outcomes) asked)
+      (λ o. same_call o.1) served.outcomes
+      (unmap_all Q (λ (o : ℕ × Outcome). asked_in o.1) served.outcomes (subst (All Q) (sym is.outcomes.asked) all))
     where
       same_call : (o : Outcome) → P (asked_in o).1 → P (call_in o)
       same_call (Answered made) p = p

@@ -1,9 +1,10 @@
 -- One call more.
-use Rattle.std.proofs.Common.{◌≡◌, ℕ, ◌<◌, ◌≤◌, ◌+◌, max, Bool, true, false, cond, List, [], ◌∷◌, ◌++◌, length, map, take, filter, get_or, subst, refl, sym, ap, ◌∙◌, append_assoc, append-nil, length-append, arith}
+use Rattle.std.proofs.Common.{◌≡◌, ℕ, ◌<◌, ◌≤◌, ◌+◌, max, Bool, true, false, cond, List, [], ◌∷◌, ◌++◌, length, map, take, filter, get_or, fold, ◌^◌, subst, refl, sym, ap, ◌∙◌, append-nil, length-append, arith}
+use Rattle.std.proofs.lemmas.Int.{clamps}
 use Rattle.std.specs.Prelude.{count_by, is_some, not}
 use Rattle.std.proofs.lemmas.Grind.{flat_map-append}
 use Rattle.std.proofs.lemmas.List.{take_more, map-append}
-use Rattle.std.proofs.lemmas.List.Sums.{fold_push, count_by-le-length}
+use Rattle.std.proofs.lemmas.List.Sums.{fold-append, fold_push, count_by-le-length, length-filter}
 use Rattle.std.proofs.lemmas.List.Elements.{filter-append}
 use Rattle.plain_map.specs.declared.calls.Call.{Call}
 use Rattle.plain_map.specs.declared.calls.Call.TheVariants.{Insert, Remove, Lookup}
@@ -18,7 +19,7 @@ use Rattle.trace_share.specs.Outcomes.{full_in, record_in}
 use Rattle.batch_runner.specs.declared.totals.Totals.{Totals}
 use Rattle.batch_runner.specs.declared.totals.Replies.{Replies}
 use Rattle.batch_runner.specs.Printed.{answers_in, most_steps, refused_in}
-use Rattle.batch_runner.specs.Totals.{AreFewer, is_absent, is_found, is_gone, is_new, is_noroom, is_old, replies_in, totals_of, with_outcome, with_reply, with_steps}
+use Rattle.batch_runner.specs.Totals.{AreFewer, is_absent, is_found, is_gone, is_new, is_noroom, is_old, replies_in, totals_of, with_outcome, with_replies, with_reply, with_steps}
 
 -- ---- lists
 
@@ -212,16 +213,82 @@ replies_fit all limit replies is few =
 pub refused_fit : (all : List Outcome) → (totals_of all).refused ≤ length all
 refused_fit all = count_by-le-length (λ (o : Outcome). is_some (full_in o)) all
 
--- those of some calls of a batch more
-pub totals_more : (all : List Outcome) (xs : List (ℕ × Outcome)) (i : ℕ) (x : ℕ × Outcome) → i < length xs →
-    x ≡ get_or xs i x →
-    totals_of (all ++ map (λ o. o.1) (take (i + 1) xs))
-    ≡ with_outcome x.1 (totals_of (all ++ map (λ o. o.1) (take i xs)))
-totals_more all xs i x inside is =
-    let last : ℕ × Outcome → Outcome = λ (o : ℕ × Outcome). o.1 in
-    let more : map last (take (i + 1) xs) ≡ map last (take i xs) ++ x.1 ∷ [] =
-    ap (map last) (take_more xs i x inside ∙ ap (λ (y : ℕ × Outcome). take i xs ++ y ∷ []) (sym is))
-    ∙ map-append last (take i xs) (x ∷ []) in
-    ap (λ (os : List Outcome). totals_of (all ++ os)) more
-    ∙ ap totals_of (sym (append_assoc all (map last (take i xs)) (x.1 ∷ [])))
-    ∙ totals_end (all ++ map last (take i xs)) x.1
+-- those of one call of a list more
+pub totals_more : {A : Type 0} (f : A → Outcome) (xs : List A) (i : ℕ) (x : A) → i < length xs → x ≡ get_or xs i x →
+    totals_of (map f (take (i + 1) xs)) ≡ with_outcome (f x) (totals_of (map f (take i xs)))
+totals_more {A = A} f xs i x inside is =
+    ap (λ (ys : List A). totals_of (map f ys))
+    (take_more xs i x inside ∙ ap (λ (y : A). take i xs ++ y ∷ []) (sym is))
+    ∙ ap totals_of (map-append f (take i xs) (x ∷ []))
+    ∙ totals_end (map f (take i xs)) (f x)
+
+-- ---- two lists
+
+count_sum : {A : Type 0} (test : A → Bool) (xs ys : List A) →
+    count_by test (xs ++ ys) ≡ count_by test xs + count_by test ys
+count_sum test xs ys =
+    omega (
+      arith,
+      length-filter test (xs ++ ys),
+      ap length (filter-append test xs ys),
+      length-append (filter test xs) (filter test ys),
+      length-filter test xs,
+      length-filter test ys,
+    )
+
+-- the most steps from some on
+most_from : (most : ℕ) (rs : List Record) →
+    fold (λ (m : ℕ) (r : Record). max m r.steps) most rs ≡ max most (most_steps rs)
+most_from most [] = omega (arith, clamps)
+most_from most (r ∷ rs) =
+    omega (arith, clamps, most_from (max most r.steps) rs, most_from (max 0 r.steps) rs)
+
+-- and of those that pass
+steps_sum : (p : Record → Bool) (rs more : List Record) →
+    most_steps (filter p (rs ++ more)) ≡ max (most_steps (filter p rs)) (most_steps (filter p more))
+steps_sum p rs more =
+    ap most_steps (filter-append p rs more)
+    ∙ fold-append (λ (m : ℕ) (r : Record). max m r.steps) 0 (filter p rs) (filter p more)
+    ∙ most_from (most_steps (filter p rs)) (filter p more)
+
+replies_sum : (rs more : List Record) → replies_of (rs ++ more) ≡ with_replies (replies_of more) (replies_of rs)
+replies_sum rs more = (λ i. record {
+  new = count_sum (λ (r : Record). is_new r.reply) rs more i;
+  old = count_sum (λ (r : Record). is_old r.reply) rs more i;
+  noroom = count_sum (λ (r : Record). is_noroom r.reply) rs more i;
+  gone = count_sum (λ (r : Record). is_gone r.reply) rs more i;
+  found = count_sum (λ (r : Record). is_found r.reply) rs more i;
+  absent = count_sum (λ (r : Record). is_absent r.reply) rs more i;
+})
+
+-- those of a batch more
+abbrev pub with_totals : (batch : Totals) → Totals → Totals
+with_totals batch totals = record {
+  calls = totals.calls + batch.calls;
+  refused = totals.refused + batch.refused;
+  update = max totals.update batch.update;
+  lookup = max totals.lookup batch.lookup;
+  replies = with_replies batch.replies totals.replies;
+}
+
+pub totals_sum : (all more : List Outcome) →
+    totals_of (all ++ more) ≡ with_totals (totals_of more) (totals_of all)
+totals_sum all more =
+    (λ i. totals_by (length-append all more i)
+    (count_sum (λ (o : Outcome). is_some (full_in o)) all more i) (flat_map-append record_in all more i))
+    ∙ (λ i. record {
+      calls = length all + length more;
+      refused = refused_in all + refused_in more;
+      update = steps_sum is_updating (answers_in all) (answers_in more) i;
+      lookup = steps_sum is_looking (answers_in all) (answers_in more) i;
+      replies = replies_sum (answers_in all) (answers_in more) i;
+    })
+
+-- what is added to the totals of fewer than 2^63 calls
+pub totals_fit : (all : List Outcome) (totals : Totals) → totals ≡ totals_of all → length all < 2 ^ 63 →
+    (totals.calls < 2 ^ 63) × (totals.refused < 2 ^ 63) × AreFewer (2 ^ 63) totals.replies
+totals_fit all totals is few = (
+  omega (arith, ap (λ (t : Totals). t.calls) is, few),
+  omega (arith, ap (λ (t : Totals). t.refused) is, refused_fit all, few),
+  replies_fit all (2 ^ 63) totals.replies (ap (λ (t : Totals). t.replies) is) few,
+)

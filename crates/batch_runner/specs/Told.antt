@@ -1,5 +1,6 @@
 -- What is told of a batch.
-use Rattle.std.specs.Prelude.{◌≡◌, ℕ, ◌<◌, ◌≤◌, All, List, [], length, map, slice_index, vec_len}
+use Rattle.std.specs.Prelude.{◌≡◌, ℕ, ◌≤◌, All, List, [], length, map, vec_len}
+use Rattle.std.specs.Borrow.{Bor}
 use Rattle.plain_map.specs.declared.calls.Call.{Call}
 use Rattle.plain_map.specs.declared.keys.Pair.{Pair}
 use Rattle.plain_map.specs.declared.records.CallId.{CallId}
@@ -8,16 +9,15 @@ use Rattle.core_model.specs.Closed.{closed_depth}
 use Rattle.history_order.specs.Closing.{IsOfARun}
 use Rattle.shared_table.specs.Values.{ClosedValue}
 use Rattle.trace_share.specs.declared.outcome.Outcome.{Outcome}
-use Rattle.trace_share.specs.declared.outcome.Outcome.TheVariants.{Answered, Refused}
 use Rattle.trace_share.specs.Outcomes.{asked_in, records_in}
-use Rattle.batch_rows.specs.declared.rows.TheConstants.{CALL_LIMIT}
 use Rattle.batch_runner.specs.declared.service.Service.{Service}
 use Rattle.batch_runner.specs.declared.batch.Batch.{Batch}
+use Rattle.batch_runner.specs.Totals.{totals_of}
 use Rattle.batch_runner.specs.Served.{CanOpen, IsOfRun, Served, depth_in, leaves_in, order_in, rules_of, setup_in, shares_of}
 
 -- this is what the batch came to
 pub record IsToldBy (service : Service) (served : Served) (batch : Batch) : Type 0 where
-  pub outcomes : batch.outcomes.items ≡ served.outcomes
+  pub totals : batch.totals ≡ totals_of (map (λ o. o.1) served.outcomes)
   pub answered : batch.answered.items ≡ map (λ log. length (records_in log)) served.logs
   pub pairs : batch.pairs.items ≡ served.pairs
   pub leaves : batch.leaves ≡ length (leaves_in service served)
@@ -44,27 +44,24 @@ pub record IsClosedBatch (service : Service) (first : List Pair) (calls : List (
   pub of_a_run : IsOfARun closed.shape closed.words (map records_in logs) []
   pub shallow : closed_depth closed.shape closed.words ≤ service.settings.depth
 
--- a batch of which this is told
-abbrev pub served_with :
-    (first : List Pair) (calls : List (ℕ × Call)) (logs : List (List Outcome)) (words : List ℕ) → Batch → Served
-served_with first calls logs words batch = record {
+-- outcomes that are read where they stand in the logs, each with its seat
+abbrev pub read_there : List (ℕ × Bor Outcome) → List (ℕ × Outcome)
+read_there outcomes = map (λ o. (o.0, o.1.now)) outcomes
+
+-- a batch of which this is told, with these outcomes in packet order
+abbrev pub served_with : (first : List Pair) → (calls : List (ℕ × Call)) → (logs : List (List Outcome)) →
+    (words : List ℕ) → (outcomes : List (ℕ × Outcome)) → Batch → Served
+served_with first calls logs words outcomes batch = record {
   first = first;
   calls = calls;
   logs = logs;
   words = words;
-  outcomes = batch.outcomes.items;
+  outcomes = outcomes;
   pairs = batch.pairs.items;
 }
-
--- an answered call's number, and all counts that its caller had seen, are below this
-abbrev pub HasCounts : (limit : ℕ) → Outcome → Type 0
-HasCounts limit (Answered made) =
-    (made.number < limit) × ((seat : ℕ) → seat < 8 → slice_index made.seen.counts seat < limit)
-HasCounts limit (Refused packet call full) = Unit {0}
 
 -- the pairs that a batch of these calls leaves can open the next one, and its counts are small
 pub record CanGoOn (service : Service) (calls : List (ℕ × Call)) (batch : Batch) : Type 0 where
   pub reopens : CanOpen (rules_of service) batch.pairs.items
-  pub counted : All (λ o. HasCounts CALL_LIMIT o.1) batch.outcomes.items
   pub seats : vec_len batch.answered ≤ 8
   pub answered : All (λ count. count ≤ length calls) batch.answered.items

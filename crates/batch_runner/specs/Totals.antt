@@ -73,6 +73,17 @@ with_reply (Gone value) replies = record replies { gone = replies.gone + 1 }
 with_reply (Found value) replies = record replies { found = replies.found + 1 }
 with_reply Absent replies = record replies { absent = replies.absent + 1 }
 
+-- those of a batch more
+abbrev pub with_replies : (batch : Replies) → Replies → Replies
+with_replies batch replies = record {
+  new = replies.new + batch.new;
+  old = replies.old + batch.old;
+  noroom = replies.noroom + batch.noroom;
+  gone = replies.gone + batch.gone;
+  found = replies.found + batch.found;
+  absent = replies.absent + batch.absent;
+}
+
 -- the most steps, with those of one more call
 abbrev pub with_steps : Call → (steps : ℕ) → Totals → Totals
 with_steps (Lookup key) steps totals = record totals { lookup = max totals.lookup steps }

@@ -9,14 +9,15 @@ ghost use Rattle.word_rows.specs.Shape.{AreBelow};
 ghost use Rattle.shared_table.specs.Values.{new_seats};
 ghost use Rattle.report_text.specs.Report.{batch_lines};
 ghost use Rattle.batch_rows.specs.declared.rows.TheConstants.{CALL_LIMIT};
-ghost use Rattle.batch_runner.specs.Served.{CanOpen, IsServed, Served, rules_of, setup_in, shares_of};
+ghost use Rattle.batch_runner.specs.Served.{AreInPacketOrder, CanOpen, IsServed, Served, rules_of, setup_in, shares_of};
 ghost use Rattle.batch_runner.specs.Printed.{lines_of};
-ghost use Rattle.batch_runner.specs.Told.{CanGoOn, IsClosedBatch, IsOrderOf, IsToldBy, served_with};
+ghost use Rattle.batch_runner.specs.Told.{CanGoOn, IsClosedBatch, IsOrderOf, IsToldBy, read_there, served_with};
 
 use crate::ordering::order_in;
 use crate::outcomes::{counts_of, outcomes_of};
 use crate::service::Service;
 use crate::text::put_lines;
+use crate::totals::Totals;
 use crate::workers::serve_shares;
 use crate::workspace::Workspace;
 use batch_rows::rows_for;
@@ -30,8 +31,8 @@ use trace_share::{Outcome, deal};
 /// What a batch came to.
 #[derive(Drop)]
 pub struct Batch {
-    /// In packet order, each with its seat.
-    pub outcomes: Vec<(u32, Outcome)>,
+    /// What its calls came to.
+    pub totals: Totals,
     /// How many calls each seat has answered.
     pub answered: Vec<u32>,
     /// The pairs that are left, in the order of their keys.
@@ -73,7 +74,8 @@ pub fn print_batch<R: Threads + Sync, G: Gate + Sync>(
     ensures kept { OnErr result (out.new.items ≡ out.old.items) }
 {
     let (closed, logs) = close_batch(rt, alloc, service, workspace, first, calls, gate)?;
-    let batch = told(alloc, service, first, calls, &closed, &logs)?;
+    let outcomes = outcomes_of(alloc, service.share, service.settings.seats, calls, &logs)?;
+    let batch = told(alloc, service, first, calls, &closed, &logs, &outcomes)?;
     let start = out.len();
     if let Err(failed) = put_lines(
         rt,
@@ -83,7 +85,7 @@ pub fn print_batch<R: Threads + Sync, G: Gate + Sync>(
         &logs,
         service.settings.seats,
         before,
-        &batch.outcomes,
+        &outcomes,
         out,
     ) {
         out.truncate(start);
@@ -114,7 +116,8 @@ pub fn serve_batch<R: Threads + Sync, G: Gate + Sync>(
 {
     let (closed, logs) = close_batch(rt, alloc, service, workspace, first, calls, gate)?;
     let order = order_in(alloc, &mut workspace.tables, &closed, &logs)?;
-    let batch = told(alloc, service, first, calls, &closed, &logs)?;
+    let outcomes = outcomes_of(alloc, service.share, service.settings.seats, calls, &logs)?;
+    let batch = told(alloc, service, first, calls, &closed, &logs, &outcomes)?;
     workspace.blank.keep(closed);
     Ok((batch, order))
 }
@@ -138,13 +141,14 @@ pub fn try_batch<R: Threads + Sync, G: Gate + Sync>(
     ensures goes_on { IfOk result (CanGoOn service.now calls.now) }
 {
     let (closed, logs) = close_batch(rt, alloc, service, workspace, first, calls, gate)?;
-    let batch = told(alloc, service, first, calls, &closed, &logs)?;
+    let outcomes = outcomes_of(alloc, service.share, service.settings.seats, calls, &logs)?;
+    let batch = told(alloc, service, first, calls, &closed, &logs, &outcomes)?;
     workspace.blank.keep(closed);
     Ok(batch)
 }
 
-// Opens the table, lets the seats make their calls, and closes it. The logs are those of the seats, in order.
-fn close_batch<R: Threads + Sync, G: Gate + Sync>(
+/// Opens the table, lets the seats make their calls, and closes it. The logs are those of the seats, in order.
+pub(crate) fn close_batch<R: Threads + Sync, G: Gate + Sync>(
     rt: &R,
     alloc: Global,
     service: &Service,
@@ -168,24 +172,26 @@ fn close_batch<R: Threads + Sync, G: Gate + Sync>(
     Ok((closed, logs))
 }
 
-// What a batch came to whose table is closed.
-fn told(
+/// What a batch came to whose table is closed, with these outcomes in packet order.
+pub(crate) fn told(
     alloc: Global,
     service: &Service,
     first: &[Pair],
     calls: &[(u32, Call)],
     closed: &ClosedTable,
     logs: &[Vec<Outcome>],
+    outcomes: &[(u32, &Outcome)],
 ) -> Result<Batch, AllocError>
     requires few { length calls.now < CALL_LIMIT }
     requires closed { IsClosedBatch service.now first.now calls.now closed.now (map (λ log. log.items) logs.now) }
-    ensures served { IfOk result (λ batch. IsServed service.now
-        (served_with first.now calls.now (map (λ log. log.items) logs.now) closed.now.words batch)) }
-    ensures told { IfOk result (λ batch. IsToldBy service.now
-        (served_with first.now calls.now (map (λ log. log.items) logs.now) closed.now.words batch) batch) }
+    requires ordered { AreInPacketOrder calls.now (map (λ log. log.items) logs.now) (read_there outcomes.now) }
+    ensures served { IfOk result (λ batch. IsServed service.now (served_with first.now calls.now
+        (map (λ log. log.items) logs.now) closed.now.words (read_there outcomes.now) batch)) }
+    ensures told { IfOk result (λ batch. IsToldBy service.now (served_with first.now calls.now
+        (map (λ log. log.items) logs.now) closed.now.words (read_there outcomes.now) batch) batch) }
 {
     Ok(Batch {
-        outcomes: outcomes_of(alloc, service.share, service.settings.seats, calls, logs)?,
+        totals: Totals::of(outcomes),
         answered: counts_of(alloc, logs)?,
         pairs: closed.pairs(alloc)?,
         leaves: closed.leaves(alloc)?.len() as u64,

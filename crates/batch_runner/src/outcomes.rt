@@ -4,31 +4,32 @@ ghost use Rattle.std.specs.Prelude.{◌≡◌, ◌^◌, ◌<◌, ◌≤◌, All,
 ghost use Rattle.trace_share.specs.Deal.{dealt};
 ghost use Rattle.trace_share.specs.Outcomes.{asked_in, records_in};
 ghost use Rattle.batch_runner.specs.Served.{AreInPacketOrder};
+ghost use Rattle.batch_runner.specs.Told.{read_there};
 
 use plain_map::{Call, Record};
 use std::alloc::{AllocError, Global};
 use trace_share::{Outcome, Share, seat_for};
 
-/// All outcomes in the order of the calls, each with its seat: that of a call is the next one of the seat that it is
-/// dealt to.
-pub(crate) fn outcomes_of(
+/// All outcomes in the order of the calls, where they stand in the logs, each with its seat: that of a call is the next
+/// one of the seat that it is dealt to.
+pub(crate) fn outcomes_of<'a>(
     alloc: Global,
     share: Share,
     seats: u32,
     calls: &[(u32, Call)],
-    logs: &[Vec<Outcome>],
-) -> Result<Vec<(u32, Outcome)>, AllocError>
+    logs: &'a [Vec<Outcome>],
+) -> Result<Vec<(u32, &'a Outcome)>, AllocError>
     requires some { 1 ≤ seats }
     requires few { seats ≤ 8 }
     requires logs { map (map asked_in) (map (λ log. log.items) logs.now) ≡ dealt share seats calls.now }
     ensures { IfOk result (λ outcomes.
-        AreInPacketOrder calls.now (map (λ log. log.items) logs.now) outcomes.items) }
+        AreInPacketOrder calls.now (map (λ log. log.items) logs.now) (read_there outcomes.items)) }
 {
     let mut taken = [0usize; 8];
     let mut outcomes = Vec::with_capacity(alloc, calls.len())?;
     for (place, call) in calls.iter().enumerate() {
         let seat = seat_for(share, seats, calls.len(), place, call);
-        let outcome = logs[seat as usize][taken[seat as usize]];
+        let outcome = &logs[seat as usize][taken[seat as usize]];
         taken[seat as usize] += 1;
         outcomes.push((seat, outcome))?;
     }

@@ -10,6 +10,7 @@ ghost use Rattle.word_rows.specs.Shape.{AreBelow};
 ghost use Rattle.batch_runner.specs.Served.{CanOpen, rules_of};
 
 mod crowds;
+mod listing;
 mod meetings;
 mod rows;
 

@@ -32,14 +32,14 @@ pub(crate) fn put_lines<R: Threads>(
     logs: &[Vec<Outcome>],
     seats: u32,
     before: &[u32; MOST_SEATS],
-    outcomes: &[(u32, Outcome)],
+    outcomes: &[(u32, &Outcome)],
     out: &mut Vec<u8>,
 ) -> Result<(), AllocError>
     requires run { IsOfARun closed.now.shape closed.now.words (map records_in (map (λ log. log.items) logs.now)) [] }
     requires seats { seats ≤ 8 }
-    requires texts { All (λ o. HasText (key_in (call_in o.1))) outcomes.now }
+    requires texts { All (λ o. HasText (key_in (call_in o.1.now))) outcomes.now }
     ensures appended { OnOk result (out.new.items ≡ out.old.items
-        ++ (flat_map (λ o. outcome_line seats o.0 (outcome_on before.now o.1)) outcomes.now
+        ++ (flat_map (λ o. outcome_line seats o.0 (outcome_on before.now o.1.now)) outcomes.now
         ++ order_lines (ids_of (order_of closed.now.shape
         (closing_with closed.now.words (map records_in (map (λ log. log.items) logs.now)) []))))) }
     ensures begun { OnErr result ((lines : List ℕ) × (out.new.items ≡ out.old.items ++ lines)) }
@@ -52,9 +52,9 @@ pub(crate) fn put_lines<R: Threads>(
     let (written, ordered) = join_mut(
         rt,
         &mut || -> Result<(), AllocError>
-            requires { (seats ≤ 8) × All (λ o. HasText (key_in (call_in o.1))) outcomes.now }
+            requires { (seats ≤ 8) × All (λ o. HasText (key_in (call_in o.1.now))) outcomes.now }
             ensures appended { OnOk result (out.exit.now.items ≡ out.entry.now.items
-                ++ flat_map (λ o. outcome_line seats o.0 (outcome_on before.entry.now o.1)) outcomes.entry.now) }
+                ++ flat_map (λ o. outcome_line seats o.0 (outcome_on before.entry.now o.1.now)) outcomes.entry.now) }
             ensures begun { OnErr result ((lines : List ℕ) × (out.exit.now.items ≡ out.entry.now.items ++ lines)) }
         { outcomes_text(out, seats, before, outcomes) },
         &mut || -> Result<Vec<CallId>, AllocError>
@@ -74,12 +74,12 @@ fn outcomes_text(
     out: &mut Vec<u8>,
     seats: u32,
     before: &[u32; MOST_SEATS],
-    outcomes: &[(u32, Outcome)],
+    outcomes: &[(u32, &Outcome)],
 ) -> Result<(), AllocError>
     requires seats { seats ≤ 8 }
-    requires texts { All (λ o. HasText (key_in (call_in o.1))) outcomes.now }
+    requires texts { All (λ o. HasText (key_in (call_in o.1.now))) outcomes.now }
     ensures appended { OnOk result (out.new.items ≡ out.old.items
-        ++ flat_map (λ o. outcome_line seats o.0 (outcome_on before.now o.1)) outcomes.now) }
+        ++ flat_map (λ o. outcome_line seats o.0 (outcome_on before.now o.1.now)) outcomes.now) }
     ensures begun { OnErr result ((lines : List ℕ) × (out.new.items ≡ out.old.items ++ lines)) }
 {
     let mut line = Line::new();

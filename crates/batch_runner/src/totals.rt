@@ -2,7 +2,7 @@
 
 ghost use Rattle.std.specs.Prelude.{◌≡◌, ◌+◌, ◌-◌, ◌^◌, ◌<◌, [], List, ◌++◌, length, map};
 ghost use Rattle.trace_share.specs.declared.outcome.Outcome.{Outcome as AnOutcome};
-ghost use Rattle.batch_runner.specs.Totals.{AreFewer, totals_of, with_outcome, with_reply};
+ghost use Rattle.batch_runner.specs.Totals.{AreFewer, totals_of, with_outcome, with_replies, with_reply};
 
 use plain_map::{Call, Reply};
 use trace_share::Outcome;
@@ -53,15 +53,30 @@ impl Totals {
         }
     }
 
-    /// Those of a batch are put to all that came before.
-    pub fn add(&mut self, outcomes: &[(u32, Outcome)])
-        requires { (all : List AnOutcome) × (self.old ≡ totals_of all) × (length all + length outcomes.now < 2 ^ 64) }
-        ensures { (all : List AnOutcome) → self.old ≡ totals_of all →
-            self.new ≡ totals_of (all ++ map (λ o. o.1) outcomes.now) }
+    /// Of these calls, each with its seat.
+    pub(crate) fn of(outcomes: &[(u32, &Outcome)]) -> Totals
+        ensures { result ≡ totals_of (map (λ o. o.1.now) outcomes.now) }
     {
-        for outcome in outcomes {
-            self.put(&outcome.1);
+        let mut totals = Totals::new();
+        for told in outcomes {
+            totals.put(told.1);
         }
+        totals
+    }
+
+    /// Those of a batch are put to all that came before.
+    pub fn add(&mut self, batch: &Totals)
+        requires all { (all : List AnOutcome) × (self.old ≡ totals_of all) × (length all < 2 ^ 63) }
+        requires more { (more : List AnOutcome) × (batch.now ≡ totals_of more) × (length more < 2 ^ 63) }
+        ensures calls { self.new.calls ≡ self.old.calls + batch.now.calls }
+        ensures totals { (all more : List AnOutcome) → self.old ≡ totals_of all → batch.now ≡ totals_of more →
+            self.new ≡ totals_of (all ++ more) }
+    {
+        self.calls += batch.calls;
+        self.refused += batch.refused;
+        self.update = self.update.max(batch.update);
+        self.lookup = self.lookup.max(batch.lookup);
+        self.replies.add(&batch.replies);
     }
 
     // One call more.
@@ -86,6 +101,19 @@ impl Totals {
 }
 
 impl Replies {
+    // Those of a batch more.
+    fn add(&mut self, batch: &Replies)
+        requires { AreFewer (2 ^ 63) self.now × AreFewer (2 ^ 63) batch.now }
+        ensures { self.exit.now ≡ with_replies batch.now self.entry.now }
+    {
+        self.new += batch.new;
+        self.old += batch.old;
+        self.noroom += batch.noroom;
+        self.gone += batch.gone;
+        self.found += batch.found;
+        self.absent += batch.absent;
+    }
+
     // One reply more.
     fn put(&mut self, reply: Reply)
         requires { AreFewer (2 ^ 64 - 1) self.now }

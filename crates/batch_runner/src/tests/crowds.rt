@@ -6,9 +6,10 @@ ghost use Rattle.plain_map.specs.PlainObject.{InRange};
 ghost use Rattle.word_rows.specs.Shape.{AreBelow};
 
 use super::Frame::{Ack, Fin, Syn};
+use super::listing::{Listed, list_batch};
 use super::meetings::serve_frames;
 use super::{Frame, calls_of, service_of};
-use crate::{Batch, Service, Workspace, serve_batch};
+use crate::Service;
 use edge_traits::OpenGate;
 use plain_map::{CallId, PlainMap, Record, Rules};
 use std::alloc::{AllocError, Global};
@@ -40,9 +41,9 @@ fn frames_of(alloc: Global, first: u32, count: u16) -> Result<Vec<(u32, Frame)>,
 }
 
 // The record of a packet among these outcomes, the first of which is of this packet.
-fn record_at(batch: &Batch, first: u32, packet: u32) -> Option<Record> {
+fn record_at(listed: &Listed, first: u32, packet: u32) -> Option<Record> {
     let place = packet.wrapping_sub(first) as usize;
-    match batch.outcomes.get(place) {
+    match listed.outcomes.get(place) {
         Some((_, Outcome::Answered(made))) => Some(*made),
         _ => None,
     }
@@ -76,24 +77,18 @@ impl Checker {
     }
 
     // Whether each call of a batch stands once and rightly, and the pairs of the plain map are left.
-    fn follows(
-        &mut self,
-        rules: &Rules,
-        batch: &Batch,
-        order: &[CallId],
-        first: u32,
-    ) -> Result<bool, AllocError>
+    fn follows(&mut self, rules: &Rules, listed: &Listed, first: u32) -> Result<bool, AllocError>
         requires { InRange rules.now }
     {
         self.stood = [0; 8];
-        let mut right = order.len() == batch.outcomes.len();
-        for id in order {
-            let Some(made) = record_at(batch, first, id.packet) else {
+        let mut right = listed.order.len() == listed.outcomes.len();
+        for id in &listed.order {
+            let Some(made) = record_at(listed, first, id.packet) else {
                 return Ok(false);
             };
             right = self.stands(rules, id, &made)? && right;
         }
-        Ok(right && self.map.pairs() == batch.pairs.as_slice())
+        Ok(right && self.map.pairs() == listed.batch.pairs.as_slice())
     }
 }
 
@@ -122,22 +117,13 @@ fn are_right<R: Threads + Sync>(
         map: PlainMap::new(alloc),
         stood: [0; 8],
     };
-    let (one, order) = serve_frames(rt, alloc, service, &frames_of(alloc, 1, count)?, &OpenGate)?;
-    let first = checker.follows(&rules, &one, &order, 1)?;
+    let one = serve_frames(rt, alloc, service, &frames_of(alloc, 1, count)?, &OpenGate)?;
+    let first = checker.follows(&rules, &one, 1)?;
 
     let later = u32::from(count) + 1;
     let calls = calls_of(alloc, &frames_of(alloc, later, count)?)?;
-    let mut workspace = Workspace::new(alloc);
-    let (two, order) = serve_batch(
-        rt,
-        alloc,
-        service,
-        &mut workspace,
-        &one.pairs,
-        &calls,
-        &OpenGate,
-    )?;
-    Ok(checker.follows(&rules, &two, &order, later)? && first)
+    let two = list_batch(rt, alloc, service, &one.batch.pairs, &calls, &OpenGate)?;
+    Ok(checker.follows(&rules, &two, later)? && first)
 }
 
 #[test]

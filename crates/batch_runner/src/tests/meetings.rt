@@ -6,10 +6,11 @@ ghost use Rattle.word_rows.specs.Shape.{AreBelow};
 ghost use Rattle.batch_runner.specs.Served.{CanOpen, rules_of};
 
 use super::Frame::Syn;
+use super::listing::{Listed, list_batch};
 use super::{Frame, calls_of, service_of};
-use crate::{Batch, Service, Workspace, serve_batch};
+use crate::Service;
 use edge_traits::{Gate, OpenGate};
-use plain_map::{CallId, Full, FullKind, Reply};
+use plain_map::{Full, FullKind, Reply};
 use std::alloc::{AllocError, Global};
 use std::sync::atomic::AtomicU64;
 use std::sync::atomic::Ordering::SeqCst;
@@ -51,27 +52,19 @@ pub(super) fn serve_frames<R: Threads + Sync, G: Gate + Sync>(
     service: &Service,
     frames: &[(u32, Frame)],
     gate: &G,
-) -> Result<(Batch, Vec<CallId>), AllocError>
+) -> Result<Listed, AllocError>
     requires given { ForSome service.now.rows (AreBelow (2 ^ 32)) }
     requires few { length frames.now < 2 ^ 16 }
-    ensures { IfOk result (λ told. CanOpen (rules_of service.now) told.0.pairs.items) }
+    ensures { IfOk result (λ listed. CanOpen (rules_of service.now) listed.batch.pairs.items) }
 {
     let calls = calls_of(alloc, frames)?;
-    serve_batch(
-        rt,
-        alloc,
-        service,
-        &mut Workspace::new(alloc),
-        &[],
-        &calls,
-        gate,
-    )
+    list_batch(rt, alloc, service, &[], &calls, gate)
 }
 
 // The seats and the replies of a batch, in packet order.
-fn seats_of(alloc: Global, batch: &Batch) -> Result<Vec<(u32, Option<Reply>)>, AllocError> {
+fn seats_of(alloc: Global, listed: &Listed) -> Result<Vec<(u32, Option<Reply>)>, AllocError> {
     let mut seats = Vec::new(alloc);
-    for (seat, outcome) in &batch.outcomes {
+    for (seat, outcome) in &listed.outcomes {
         seats.push(match outcome {
             Outcome::Answered(made) => (*seat, Some(made.reply)),
             Outcome::Refused { .. } => (*seat, None),
@@ -99,7 +92,7 @@ fn two_seats_meet(rt: HostRuntime) -> Result<(), Fail> {
         arrived: AtomicU64::new(0),
         late: AtomicU64::new(0),
     };
-    let (batch, order) = serve_frames(
+    let listed = serve_frames(
         &rt,
         rt.alloc(),
         &service,
@@ -107,15 +100,15 @@ fn two_seats_meet(rt: HostRuntime) -> Result<(), Fail> {
         &gate,
     )?;
     assert_eq!(rt; gate.late.load(SeqCst), 0);
-    let seats = seats_of(rt.alloc(), &batch)?;
+    let seats = seats_of(rt.alloc(), &listed)?;
     assert_eq!(rt;
         seats.as_slice(),
         [(0, Some(Reply::New)), (1, Some(Reply::New))].as_slice()
     );
-    assert_eq!(rt; batch.answered.as_slice(), [1, 1].as_slice());
-    assert_eq!(rt; order.len(), 2);
-    assert_eq!(rt; batch.pairs.len(), 2);
-    assert_eq!(rt; (batch.leaves, batch.depth), (2, 1));
+    assert_eq!(rt; listed.batch.answered.as_slice(), [1, 1].as_slice());
+    assert_eq!(rt; listed.order.len(), 2);
+    assert_eq!(rt; listed.batch.pairs.len(), 2);
+    assert_eq!(rt; (listed.batch.leaves, listed.batch.depth), (2, 1));
     Ok(())
 }
 
@@ -130,8 +123,8 @@ fn five_calls_are_shared(rt: HostRuntime) -> Result<(), Fail> {
         let Some(service) = service_of(2, 4, 3, 0, share) else {
             panic!(&rt; "settings in range");
         };
-        let (batch, _order) = serve_frames(&rt, rt.alloc(), &service, &FIVE, &OpenGate)?;
-        let seats = seats_of(rt.alloc(), &batch)?;
+        let listed = serve_frames(&rt, rt.alloc(), &service, &FIVE, &OpenGate)?;
+        let seats = seats_of(rt.alloc(), &listed)?;
         assert_eq!(rt; seats.len(), 5);
         for (seat, own) in seats.iter().zip(&wanted) {
             assert_eq!(rt; *seat, (*own, Some(Reply::New)));
@@ -165,15 +158,15 @@ fn rows_run_out(rt: HostRuntime) -> Result<(), Fail> {
             ..open
         };
         assert!(rt; are_small(&service.rows));
-        let (batch, order) = serve_frames(
+        let listed = serve_frames(
             &rt,
             rt.alloc(),
             &service,
             &[(1, Syn(1)), (2, Syn(2))],
             &OpenGate,
         )?;
-        assert_eq!(rt; order.len(), answered);
-        assert_eq!(rt; batch.pairs.len(), answered);
+        assert_eq!(rt; listed.order.len(), answered);
+        assert_eq!(rt; listed.batch.pairs.len(), answered);
         let Some(
             (
                 0,
@@ -183,7 +176,7 @@ fn rows_run_out(rt: HostRuntime) -> Result<(), Fail> {
                     ..
                 },
             ),
-        ) = batch.outcomes.get(1)
+        ) = listed.outcomes.get(1)
         else {
             panic!(&rt; "the second is refused");
         };

@@ -145,7 +145,6 @@ fn batches_go_on(rt: HostRuntime) -> Result<(), Fail> {
     };
     let mut before = [0; MOST_SEATS];
     let mut text = Vec::new(alloc);
-    let mut totals = Totals::new();
     let one = put_first(&rt, alloc, &service, &[(1, Syn(1))], &mut before, &mut text)?;
     let two = put_batch(
         &rt,
@@ -157,7 +156,6 @@ fn batches_go_on(rt: HostRuntime) -> Result<(), Fail> {
         &mut before,
         &mut text,
     )?;
-    totals.add(&two.outcomes);
     assert_eq!(rt;
         text.as_slice(),
         b"call 1 seat 0 insert 10.0.0.1:1-10.0.0.2:80/tcp new 1 steps 45 after 0\norder 1\n\
@@ -181,6 +179,6 @@ fn batches_go_on(rt: HostRuntime) -> Result<(), Fail> {
             absent: 0,
         },
     };
-    assert_eq!(rt; totals, wanted);
+    assert_eq!(rt; two.totals, wanted);
     Ok(())
 }

@@ -12,8 +12,8 @@ pub returns-clause-served : goal.returns-clause-served
 returns-clause-served g c =
     let logs : List (Vec Outcome Global) → List (List Record) =
     λ (ls : List (Vec Outcome Global)). map records_in (map (λ (log : Vec Outcome Global). log.items) ls) in
-    let records : logs c.deref.result.now ≡ logs c.deref-2.result.now =
-    ap logs (c.deref.ensures.value ∙ sym c.deref-2.ensures.value) in (
+    let records : logs c.deref.result.now ≡ logs c.deref-3.result.now =
+    ap logs (c.deref.ensures.value ∙ sym c.deref-3.ensures.value) in (
       _,
       refl,
       refl,
@@ -28,4 +28,4 @@ pub returns-clause-goes_on : goal.returns-clause-goes_on
 unfolding returns-clause-served
 returns-clause-goes_on g c =
     let s = returns-clause-served g c in
-    told_on c.args.service.now s.0 _ s.3 s.4 c.requires.few
+    told_on c.args.service.now s.0 _ s.3 s.4

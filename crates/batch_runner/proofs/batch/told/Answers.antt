@@ -1,4 +1,5 @@
 use Rattle.std.proofs.Common.{ℕ, ◌^◌, ◌<◌, List, Vec, Global, length, refl, sym, ap, ◌∙◌, subst, arith}
+use Rattle.std.specs.Borrow.{Bor}
 use Rattle.std.specs.Prelude.{IsPermutation}
 use Rattle.std.proofs.lemmas.List.{length-map}
 use Rattle.std.proofs.lemmas.Simd.{map-map}
@@ -7,11 +8,10 @@ use Rattle.closed_words.specs.Views.{as_leaf}
 use Rattle.core_model.specs.Closed.{closed_depth, closed_leaves, closed_pairs}
 use Rattle.trace_share.specs.declared.outcome.Outcome.{Outcome}
 use Rattle.trace_share.specs.Outcomes.{records_in}
+use Rattle.batch_runner.specs.Told.{read_there}
+use Rattle.batch_runner.specs.Totals.{totals_of}
 use Rattle.batch_runner.proofs.Counted.{short_logs}
 use Rattle.batch_runner.proofs.batch.told.Goals as goal
-
-pub outcomes_of-requires-clause-logs : goal.outcomes_of-requires-clause-logs
-outcomes_of-requires-clause-logs c = c.requires.closed.asked
 
 pub counts_of-requires : goal.counts_of-requires
 counts_of-requires c =
@@ -24,8 +24,8 @@ overflow_cast-result c =
 
 pub returns-clause-served : goal.returns-clause-served
 returns-clause-served c = record {
-  of_run = c.requires.closed.of_run c.in_ok-outcomes_of.field-0.items c.in_ok-pairs.field-0.items;
-  outcomes = c.in_ok-outcomes_of.ensures;
+  of_run = c.requires.closed.of_run (read_there c.args.outcomes.now) c.in_ok-pairs.field-0.items;
+  outcomes = c.requires.ordered;
   left = subst (λ (s : Shape). IsPermutation (closed_pairs s c.args.closed.now.words) c.in_ok-pairs.field-0.items)
       c.requires.closed.shape_is c.in_ok-pairs.ensures.held;
   sorted = c.in_ok-pairs.ensures.sorted;
@@ -36,7 +36,9 @@ returns-clause-told c =
     let words : List ℕ = c.args.closed.now.words in
     let item : Vec Outcome Global → List Outcome = λ (log : Vec Outcome Global). log.items in
     record {
-      outcomes = refl;
+      totals = c.of.ensures
+          ∙ ap totals_of (sym (map-map (λ (o : ℕ × Outcome). o.1) (λ (o : ℕ × Bor Outcome). (o.0, o.1.now))
+          c.args.outcomes.now));
       answered = c.in_ok-counts_of.ensures
           ∙ sym (map-map (λ (log : List Outcome). length (records_in log)) item c.args.logs.now);
       pairs = refl;

@@ -9,4 +9,4 @@ pub returns-clause-goes_on : goal.returns-clause-goes_on
 unfolding returns-clause-served
 returns-clause-goes_on g c =
     let s = returns-clause-served g c in
-    told_on c.args.service.now s.0 _ s.3 s.4 c.requires.few
+    told_on c.args.service.now s.0 _ s.3 s.4

@@ -1,6 +1,8 @@
-use Rattle.std.proofs.Common.{◌≡◌, ℕ, ◌<◌, ◌+◌, List, [], Vec, Global, length, map, get_or, set, refl, sym, ap, ◌∙◌, subst, arith}
-use Rattle.std.proofs.lemmas.List.{get_or_default, length-map, length-set}
+use Rattle.std.proofs.Common.{◌≡◌, ℕ, ◌<◌, ◌+◌, List, [], ◌∷◌, ◌++◌, Vec, Global, length, map, get_or, set, refl, sym, ap, ◌∙◌, subst, arith}
+use Rattle.std.proofs.lemmas.List.{get_or_default, length-map, length-set, map-append}
+use Rattle.std.specs.Borrow.{Bor}
 use Rattle.trace_share.specs.declared.outcome.Outcome.{Outcome}
+use Rattle.batch_runner.specs.Told.{read_there}
 use Rattle.batch_runner.proofs.Merges.{Until, held_log, many, one_left, until_end, until_next, until_start, zero_at, zeros}
 use Rattle.batch_runner.proofs.outcomes.outcomes_of.Goals as goal
 
@@ -9,7 +11,7 @@ loop-place-init c =
     let logs : List (List Outcome) = map (λ (log : Vec Outcome Global). log.items) c.args.logs.now in
     record {
       until = subst (Until c.args.share c.args.seats c.args.calls.now logs 0 (zeros 8))
-          (sym c.in_ok-outcomes.ensures.items)
+          (sym (ap read_there c.in_ok-outcomes.ensures.items))
           (until_start c.args.share c.args.seats c.args.calls.now logs c.requires.logs (zeros 8) (zero_at 8));
       eight = refl;
     }
@@ -29,7 +31,7 @@ index-outcome-requires c =
     let inside : seat < length c.args.logs.now =
     omega (arith, count, length-map c.args.logs.now item, c.seat_for-seat.ensures.seat) in
     let left = one_left c.args.share c.args.seats c.args.calls.now logs c.requires.logs c.loop-place.place _
-    c.loop-place.taken c.loop-place.outcomes.items seat c.loop-place.invariant.until c.loop-place-test.true
+    c.loop-place.taken (read_there c.loop-place.outcomes.items) seat c.loop-place.invariant.until c.loop-place-test.true
     (get_or_default c.args.calls.now c.loop-place.place _ _ c.loop-place-test.true) c.seat_for-seat.ensures.seat
     c.seat_for-seat.ensures.own in
     omega (
@@ -48,7 +50,7 @@ overflow_add-taken c =
     let inside : seat < length c.args.logs.now =
     omega (arith, count, length-map c.args.logs.now item, c.seat_for-seat.ensures.seat) in
     let left = one_left c.args.share c.args.seats c.args.calls.now logs c.requires.logs c.loop-place.place _
-    c.loop-place.taken c.loop-place.outcomes.items seat c.loop-place.invariant.until c.loop-place-test.true
+    c.loop-place.taken (read_there c.loop-place.outcomes.items) seat c.loop-place.invariant.until c.loop-place-test.true
     (get_or_default c.args.calls.now c.loop-place.place _ _ c.loop-place-test.true) c.seat_for-seat.ensures.seat
     c.seat_for-seat.ensures.own in
     omega (
@@ -74,13 +76,16 @@ loop-place-preserved c =
     let outcome : Outcome = c.index-outcome.result.now in
     let at : outcome ≡ get_or (get_or logs seat []) (get_or taken seat 0) outcome =
     c.index-outcome.ensures ∙ ap (λ (log : List Outcome). get_or log (get_or taken seat 0) outcome) log_is in
+    let one : List (ℕ × Bor Outcome) = (seat, c.index-outcome.result) ∷ [] in
+    let more : read_there c.push.new.self.items ≡ read_there c.loop-place.outcomes.items ++ (seat, outcome) ∷ [] =
+    ap read_there c.in_ok-push.ensures.items
+    ∙ map-append (λ (o : ℕ × Bor Outcome). (o.0, o.1.now)) c.loop-place.outcomes.items one in
     record {
-      until = until_next c.args.share c.args.seats c.args.calls.now logs c.requires.logs c.loop-place.place _
-          taken c.loop-place.outcomes.items seat c.loop-place.invariant.until c.loop-place-test.true
+      until = until_next c.args.share c.args.seats c.args.calls.now logs c.requires.logs c.loop-place.place _ taken
+          (read_there c.loop-place.outcomes.items) seat c.loop-place.invariant.until c.loop-place-test.true
           (get_or_default c.args.calls.now c.loop-place.place _ _ c.loop-place-test.true) c.seat_for-seat.ensures.seat
-          c.seat_for-seat.ensures.own outcome at (set taken seat (get_or taken seat 0 + 1)) c.push.new.self.items room
-          refl
-          c.in_ok-push.ensures.items;
+          c.seat_for-seat.ensures.own outcome at (set taken seat (get_or taken seat 0 + 1))
+          (read_there c.push.new.self.items) room refl more;
       eight = length-set taken seat (get_or taken seat 0 + 1) ∙ c.loop-place.invariant.eight;
     }
 
@@ -88,4 +93,4 @@ pub returns : goal.returns
 returns c =
     until_end c.args.share c.args.seats c.args.calls.now
     (map (λ (log : Vec Outcome Global). log.items) c.args.logs.now) c.requires.logs c.loop-place.place
-    c.loop-place.taken c.loop-place.outcomes.items c.loop-place-test.false c.loop-place.invariant.until
+    c.loop-place.taken (read_there c.loop-place.outcomes.items) c.loop-place-test.false c.loop-place.invariant.until

@@ -6,5 +6,5 @@ use Rattle.batch_runner.proofs.text.outcomes_text.Given as goal
 
 abbrev pub invariant-loop-seat : goal.invariant-loop-seat
 invariant-loop-seat l =
-    l.out.items ≡ l.fn.out.items ++ flat_map (λ o. outcome_line l.seats o.0 (outcome_on l.before o.1))
+    l.out.items ≡ l.fn.out.items ++ flat_map (λ o. outcome_line l.seats o.0 (outcome_on l.before o.1.now))
     (take l.seat-index l.outcomes)

@@ -1,20 +1,27 @@
-use Rattle.std.proofs.Common.{◌++◌, ℕ, List, map, sym, ap, ◌∙◌}
-use Rattle.std.proofs.lemmas.List.{get_or_default, take_all}
-use Rattle.trace_share.specs.declared.outcome.Outcome.{Outcome}
-use Rattle.batch_runner.specs.Totals.{totals_of, with_outcome}
-use Rattle.batch_runner.proofs.TotalLemmas.{totals_more}
+use Rattle.std.proofs.Common.{◌≡◌, ◌+◌, ◌++◌, max, ap, sym, ◌∙◌, arith}
+use Rattle.std.proofs.lemmas.Int.{clamps}
+use Rattle.batch_runner.specs.declared.totals.Totals.{Totals}
+use Rattle.batch_runner.specs.Totals.{totals_of}
+use Rattle.batch_runner.proofs.TotalLemmas.{totals_fit, totals_sum, with_totals}
 use Rattle.batch_runner.proofs.totals.Totals.add.Goals as goal
 
-pub loop-outcome-preserved : goal.loop-outcome-preserved
-loop-outcome-preserved c = λ all is.
-    let xs : List (ℕ × Outcome) = c.args.outcomes.now in
-    c.put.ensures ∙ ap (with_outcome _) (c.loop-outcome.invariant all is)
-    ∙ sym (totals_more all xs c.loop-outcome.outcome-index _ c.loop-outcome-test.true
-    (get_or_default xs c.loop-outcome.outcome-index _ _ c.loop-outcome-test.true))
+pub add-requires : goal.add-requires
+add-requires c =
+    let own = totals_fit c.requires.all.0 _ c.requires.all.1 c.requires.all.2 in
+    let more = totals_fit c.requires.more.0 _ c.requires.more.1 c.requires.more.2 in
+    (own.2, more.2)
 
-pub returns : goal.returns
-returns c = λ all is.
-    let xs : List (ℕ × Outcome) = c.args.outcomes.now in
-    c.loop-outcome.invariant all is
-    ∙ ap (λ (ys : List (ℕ × Outcome)). totals_of (all ++ map (λ o. o.1) ys))
-    (take_all c.loop-outcome.outcome-index xs c.loop-outcome-test.false)
+pub returns-clause-totals : goal.returns-clause-totals
+returns-clause-totals c = λ all more is adds.
+    let self : Totals = c.args.self.now in
+    let batch : Totals = c.args.batch.now in
+    let update : c.max-self.result ≡ max self.update batch.update = omega (arith, clamps, c.max-self.ensures) in
+    let lookup : c.max-self-2.result ≡ max self.lookup batch.lookup = omega (arith, clamps, c.max-self-2.ensures) in
+    (λ i. record {
+      calls = self.calls + batch.calls;
+      refused = self.refused + batch.refused;
+      update = update i;
+      lookup = lookup i;
+      replies = c.add.ensures i;
+    })
+    ∙ (λ i. with_totals (adds i) (is i)) ∙ sym (totals_sum all more)
