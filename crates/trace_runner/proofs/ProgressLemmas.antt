@@ -103,10 +103,19 @@ HasServed-none service progress before pairs totals leaves depth opens =
     }
 
 -- as many outcomes are told as there were calls
-pub as_many : (service : Service) (served : Served) (batch : Batch) → IsServed service served →
-    IsToldBy service served batch → length batch.outcomes.items ≡ length served.calls
-as_many service served batch is told =
-    ap length told.outcomes ∙ sym (length-map served.outcomes (λ o. asked_in o.1)) ∙ ap length is.outcomes.asked
+pub as_many : (service : Service) (served : Served) → IsServed service served →
+    length served.outcomes ≡ length served.calls
+as_many service served is = sym (length-map served.outcomes (λ o. asked_in o.1)) ∙ ap length is.outcomes.asked
+
+-- they are counted
+pub are_counted : (service : Service) (served : Served) (batch : Batch) → IsServed service served →
+    IsToldBy service served batch → (outcomes : List Outcome) × (batch.totals ≡ totals_of outcomes)
+    × (length outcomes ≡ length served.calls)
+are_counted service served batch is told = (
+  map (λ o. o.1) served.outcomes,
+  told.totals,
+  length-map served.outcomes (λ o. o.1) ∙ as_many service served is,
+)
 
 -- the counts of a batch are those of its records
 counts_are : (service : Service) (served : Served) (before : List ℕ) →
@@ -123,18 +132,18 @@ pub HasServed-more :
     IsToldBy service served batch → HasTexts calls → new.before ≡ with_counts old.before batch.answered.items →
     All (λ count. count ≤ old.totals.calls + length calls) new.before → new.pairs.items ≡ batch.pairs.items →
     CanOpen (rules_of service) batch.pairs.items →
-    new.totals ≡ totals_of (outcomes_in batches ++ map (λ o. o.1) batch.outcomes.items) →
-    length batch.outcomes.items ≡ length calls → new.leaves ≡ batch.leaves → new.depth ≡ batch.depth →
-    HasServed service new (batches ++ served ∷ [])
+    new.totals ≡ totals_of (outcomes_in batches ++ map (λ o. o.1) served.outcomes) → new.leaves ≡ batch.leaves →
+    new.depth ≡ batch.depth → HasServed service new (batches ++ served ∷ [])
 HasServed-more service old new batches served batch calls has first asked is told texts before few pairs opens totals
-    many leaves depth =
+    leaves depth =
     let counted : new.totals.calls ≡ old.totals.calls + length calls = omega (
       arith,
       ap (λ (t : Totals). t.calls) totals,
       ap (λ (t : Totals). t.calls) has.totals,
-      length-append (outcomes_in batches) (map (λ o. o.1) batch.outcomes.items),
-      length-map batch.outcomes.items (λ o. o.1),
-      many,
+      length-append (outcomes_in batches) (map (λ o. o.1) served.outcomes),
+      length-map served.outcomes (λ o. o.1),
+      as_many service served is,
+      ap length asked,
     ) in
     record {
       served = AreServed-more service [] batches served has.served (first ∙ has.pairs) is;
@@ -147,10 +156,7 @@ HasServed-more service old new batches served batch calls has first asked is tol
       few = subst (λ (most : ℕ). All (λ count. count ≤ most) new.before) (sym counted) few;
       pairs = pairs ∙ told.pairs ∙ sym (pairs_left-more [] batches served);
       opens = subst (CanOpen (rules_of service)) (sym pairs) opens;
-      totals = totals
-          ∙ ap (λ (outcomes : List (ℕ × Outcome)). totals_of (outcomes_in batches ++ map (λ o. o.1) outcomes))
-          told.outcomes
-          ∙ ap totals_of (sym (outcomes_in-more batches served));
+      totals = totals ∙ ap totals_of (sym (outcomes_in-more batches served));
       leaves = leaves ∙ told.leaves ∙ sym (leaves_left-more service 0 batches served);
       depth = depth ∙ told.depth ∙ sym (depth_left-more service 0 batches served);
     }

@@ -1,5 +1,5 @@
 -- How far the reading of an input has come.
-use Rattle.std.specs.Prelude.{◌≡◌, ◌≤◌, ◌<◌, ℕ, ◌+◌, List, [], ◌∷◌, ◌++◌, length, drop, flat_map, All, Option, Some, IfSome, IsSome, Result, Ok, Err}
+use Rattle.std.specs.Prelude.{◌≡◌, ◌≤◌, ◌<◌, ℕ, ◌+◌, List, [], ◌∷◌, ◌++◌, length, drop, flat_map, All, Option, Some, IfNone, IfSome, IsSome, MatchOption, Result, Ok, Err, false}
 use Rattle.pcap_reader.specs.declared.head.TheConstants.{FILE_HEAD}
 use Rattle.pcap_reader.specs.Capture.{Saved, bytes_of, HasFileHead, IsSaved, IsCut, IsRemainder}
 use Rattle.pcap_reader.specs.Reading.{GivesNone, Reading, Took, buffer_length, to_come}
@@ -11,6 +11,9 @@ use Rattle.plain_map.specs.Serving.{IsAskable}
 use Rattle.core_model.specs.Setup.{IsKey}
 use Rattle.flow_keys.specs.FlowText.{HasText}
 use Rattle.pcap_reader.specs.declared.fault.CaptureFault.{CaptureFault}
+use Rattle.edge_traits.specs.Edge.{Rose}
+use Rattle.trace_runner.specs.declared.intake.TheConstants.{BATCH}
+use Rattle.trace_runner.specs.declared.intake.Part.{Part}
 use Rattle.trace_runner.specs.PacketCalls.{MakeCalls, MakesCall, numbered}
 use Rattle.trace_runner.specs.Input.{ServesUpTo, packet_limit, packets_of}
 
@@ -94,3 +97,17 @@ pub record AreBetween (first last : ℕ) (calls : List (ℕ × Call)) : Type 0 w
   pub ascend : Ascending calls
   pub each : All (IsBetween first last) calls
   pub few : first + length calls ≤ last
+
+-- A batch was read of an input, behind so many packets: of a source with these bytes left before and now, and these
+-- faults, by a reader that stood at `old`. No more packets are taken in all than `most`.
+pub record IsBatchRead (most : ℕ) (before now : Option (List ℕ)) (faults_before faults_now : ℕ) (old new : Reading)
+    (many : ℕ) (calls : List (ℕ × Call)) (part : Part) : Type 0 where
+  pub read : (first : Option (List ℕ)) (all : List (ℕ × Call)) → HaveCome first before old many all →
+      MatchOption part.ending (HaveCome first now new (many + part.packets) (all ++ calls))
+      (HaveEndedUpTo most first now (many + part.packets) (all ++ calls))
+  pub between : AreBetween many (many + part.packets) calls
+  pub goes_on : IfNone part.ending ((new.ended ≡ false) × (new.given ≡ many + part.packets)
+      × (part.packets ≡ BATCH) × (many + part.packets < most))
+  pub few : part.packets ≤ BATCH
+  pub limited : many + part.packets ≤ most
+  pub read_fault : part.ending ≡ Some ReadFault → Rose faults_before faults_now

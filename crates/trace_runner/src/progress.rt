@@ -4,11 +4,13 @@ ghost use Rattle.std.specs.Prelude.{◌≡◌, ◌≤◌, ◌<◌, ◌^◌, ◌+
 ghost use Rattle.std.specs.Option.{ForSome};
 ghost use Rattle.plain_map.specs.Serving.{IsAskable};
 ghost use Rattle.word_rows.specs.Shape.{AreBelow};
+ghost use Rattle.trace_share.specs.declared.outcome.Outcome.{Outcome as AnOutcome};
 ghost use Rattle.report_text.specs.Report.{batch_lines};
 ghost use Rattle.batch_runner.specs.declared.service.Service.{Service};
 ghost use Rattle.batch_runner.specs.Served.{IsServed, Served};
 ghost use Rattle.batch_runner.specs.Printed.{lines_of};
 ghost use Rattle.batch_runner.specs.Told.{CanGoOn, IsToldBy};
+ghost use Rattle.batch_runner.specs.Totals.{totals_of};
 ghost use Rattle.trace_runner.specs.declared.intake.TheConstants.{BATCH, PACKET_LIMIT};
 
 use batch_runner::{Batch, Service, Totals, Workspace, go_on, print_batch, try_batch};
@@ -119,7 +121,8 @@ impl Progress {
         requires texts { HasTexts calls.now }
         requires going { IsGoing service.now self.old }
         requires all { self.old.totals.calls ≤ PACKET_LIMIT }
-        requires asked { length batch.outcomes.items ≡ length calls.now }
+        requires asked { (outcomes : List AnOutcome) × (batch.totals ≡ totals_of outcomes)
+            × (length outcomes ≡ length calls.now) }
         requires goes_on { CanGoOn service.now calls.now batch }
         ensures served { (batches : List Served) (served : Served) → HasServed service.now self.old batches →
             served.first ≡ self.old.pairs.items → served.calls ≡ calls.now → IsServed service.now served →
@@ -127,7 +130,7 @@ impl Progress {
         ensures counted { self.new.totals.calls ≡ self.old.totals.calls + length calls.now }
     {
         go_on(&mut self.before, &batch);
-        self.totals.add(&batch.outcomes);
+        self.totals.add(&batch.totals);
         self.leaves = batch.leaves;
         self.depth = batch.depth;
         self.pairs = batch.pairs;

@@ -1,19 +1,21 @@
 //! Mode `trial`: the made capture is served, and its counts are put.
 
-ghost use Rattle.std.specs.Prelude.{◌≡◌, ◌≤◌, ◌<◌, ◌^◌, ◌+◌, ◌*◌, ℕ, List, [], ◌++◌, length, map, Option, IfOk};
+ghost use Rattle.std.specs.Prelude.{◌≡◌, ◌≤◌, ◌<◌, ◌^◌, ◌+◌, ◌*◌, ℕ, List, [], ◌∷◌, ◌++◌, length, map, All, Option, IfOk, OnOk, false};
 ghost use Rattle.std.specs.Option.{ForSome};
+ghost use Rattle.std.specs.Thread.{IsSync};
 ghost use Rattle.edge_traits.specs.Edge.{Rose};
 ghost use Rattle.pcap_reader.specs.Reading.{IsAtStart};
 ghost use Rattle.plain_map.specs.declared.calls.Call.{Call as ACall};
+ghost use Rattle.plain_map.specs.Serving.{IsAskable};
 ghost use Rattle.word_rows.specs.Shape.{AreBelow};
 ghost use Rattle.batch_runner.specs.Served.{Served};
 ghost use Rattle.command_line.specs.Words.{IsInRange};
 ghost use Rattle.trace_runner.specs.Batches.{AreOfBatches, batch_count, batch_length};
-ghost use Rattle.trace_runner.specs.Reading.{AreBetween, HaveCome};
+ghost use Rattle.trace_runner.specs.Reading.{AreBetween, HaveCome, IsBatchRead};
 ghost use Rattle.trace_runner.specs.Headline.{IsTrial, LeavesTried, seed_of, trial_of};
-ghost use Rattle.trace_runner.specs.Progress.{HasServed, HasTried, IsGoing};
+ghost use Rattle.trace_runner.specs.Progress.{HasServed, HasTexts, HasTried, IsGoing};
 
-use crate::intake::{BATCH, PACKET_LIMIT, open, read_batch};
+use crate::intake::{BATCH, PACKET_LIMIT, Part, open, read_batch};
 use crate::laws::serving_laws;
 use crate::progress::Progress;
 use crate::serving::service_of;
@@ -26,7 +28,8 @@ use pcap_reader::{MadeSource, Reader, made_capture_law, one_capture};
 use plain_map::Call;
 use report_text::{Ending, Trial, trial_text};
 use std::alloc::{AllocError, Global};
-use std::thread::Threads;
+use std::mem;
+use std::thread::{Threads, join_mut};
 
 /// Serves the made capture of the plan, and puts how many calls had each reply.
 pub(crate) fn try_plan<R: Threads + Sync, K: Sink, G: Gate + Sync>(
@@ -83,8 +86,8 @@ struct Tried {
     ending: Ending,
 }
 
-/// Serves the packets behind a file head.
-fn try_packets<R: Threads + Sync, S: Source, G: Gate + Sync>(
+/// Serves the packets behind a file head. While the calls of a batch are served, the next batch is read.
+fn try_packets<R: Threads + Sync, S: Source + Send, G: Gate + Sync>(
     rt: &R,
     alloc: Global,
     service: &Service,
@@ -103,10 +106,10 @@ fn try_packets<R: Threads + Sync, S: Source, G: Gate + Sync>(
     let mut progress = Progress::new(alloc);
     let mut workspace = Workspace::new(alloc);
     let mut calls = Vec::with_capacity(alloc, BATCH as usize)?;
+    let mut next = Vec::with_capacity(alloc, BATCH as usize)?;
     let mut packets = 0;
+    let mut part = read_batch(reader, source, packets, PACKET_LIMIT, &mut calls)?;
     'batches: loop {
-        calls.clear();
-        let part = read_batch(reader, source, packets, PACKET_LIMIT, &mut calls)?;
         match part.ending {
             Some(ending) => {
                 let numbers = (packets, part.packets);
@@ -125,11 +128,86 @@ fn try_packets<R: Threads + Sync, S: Source, G: Gate + Sync>(
                 }
             }
             None => {
-                progress.try_calls(rt, alloc, service, &mut workspace, &calls, gate)?;
                 packets += part.packets;
+                next.clear();
+                part = try_and_read(
+                    rt,
+                    alloc,
+                    service,
+                    &mut progress,
+                    &mut workspace,
+                    &calls,
+                    gate,
+                    reader,
+                    source,
+                    packets,
+                    &mut next,
+                )?;
+                mem::swap(&mut calls, &mut next);
             }
         }
     }
+}
+
+/// Serves the calls of a batch, while a thread of its own reads the next batch, behind so many packets, into a list
+/// that is empty. Where no thread can be made, this one does both.
+fn try_and_read<R: Threads + Sync, S: Source + Send, G: Gate + Sync>(
+    rt: &R,
+    alloc: Global,
+    service: &Service,
+    progress: &mut Progress,
+    workspace: &mut Workspace,
+    calls: &[(u32, Call)],
+    gate: &G,
+    reader: &mut Reader,
+    source: &mut S,
+    before: u32,
+    next: &mut Vec<(u32, Call)>,
+) -> Result<Part, AllocError>
+    requires given { ForSome service.now.rows (AreBelow (2 ^ 32)) }
+    requires few { length calls.now ≤ BATCH }
+    requires askable { All (λ call. IsAskable call.1) calls.now }
+    requires texts { HasTexts calls.now }
+    requires going { IsGoing service.now progress.old }
+    requires all { progress.old.totals.calls ≤ PACKET_LIMIT }
+    requires reads { reader.old.ended ≡ false }
+    requires stands { reader.old.given ≡ before }
+    requires room { before < PACKET_LIMIT }
+    requires none { next.old.items ≡ [] }
+    ensures served { OnOk result ((batches : List Served) → HasServed service.now progress.old batches →
+        (served : Served) × (served.calls ≡ calls.now)
+        × HasServed service.now progress.new (batches ++ served ∷ [])) }
+    ensures going { OnOk result (IsGoing service.now progress.new) }
+    ensures tallied { OnOk result (progress.new.totals.calls ≡ progress.old.totals.calls + length calls.now) }
+    ensures read { IfOk result (IsBatchRead PACKET_LIMIT (S.left source.old) (S.left source.new)
+        (S.faults source.old) (S.faults source.new) reader.old reader.new before next.new.items) }
+    ensures counted { S.faults source.old ≤ S.faults source.new }
+{
+    let (read, tried) = join_mut(
+        rt,
+        &mut || -> Result<Part, AllocError>
+            requires { (reader.now.ended ≡ false) × (reader.now.given ≡ before) × (before < PACKET_LIMIT)
+                × (next.now.items ≡ []) }
+            ensures read { IfOk result (IsBatchRead PACKET_LIMIT (S.left source.entry.now) (S.left source.exit.now)
+                (S.faults source.entry.now) (S.faults source.exit.now) reader.entry.now reader.exit.now before
+                next.exit.now.items) }
+            ensures counted { S.faults source.entry.now ≤ S.faults source.exit.now }
+        { read_batch(reader, source, before, PACKET_LIMIT, next) },
+        &mut || -> Result<(), AllocError>
+            requires { IsSync R.row × IsSync G.row × ForSome service.now.rows (AreBelow (2 ^ 32))
+                × (length calls.now ≤ BATCH) × All (λ call. IsAskable call.1) calls.now × HasTexts calls.now
+                × IsGoing service.now progress.now × (progress.now.totals.calls ≤ PACKET_LIMIT) }
+            ensures served { OnOk result ((batches : List Served) →
+                HasServed service.entry.now progress.entry.now batches → (served : Served)
+                × (served.calls ≡ calls.entry.now)
+                × HasServed service.entry.now progress.exit.now (batches ++ served ∷ [])) }
+            ensures going { OnOk result (IsGoing service.entry.now progress.exit.now) }
+            ensures tallied { OnOk result (progress.exit.now.totals.calls
+                ≡ progress.entry.now.totals.calls + length calls.entry.now) }
+        { progress.try_calls(rt, alloc, service, workspace, calls, gate) },
+    );
+    tried?;
+    read
 }
 
 /// Serves the last batch, where one is begun. The numbers are those of the packets before it, and of its own.

@@ -1,6 +1,6 @@
 use Rattle.std.proofs.Common.{◌≡◌, ◌++◌, ℕ, List, [], Vec, Global, map, refl, sym, ap, ◌∙◌, subst}
 use Rattle.std.specs.Borrow.{Bor}
-use Rattle.std.specs.Prelude.{All, flat_map}
+use Rattle.std.specs.Prelude.{All}
 use Rattle.plain_map.specs.declared.calls.Call.{Call}
 use Rattle.plain_map.specs.declared.records.CallId.{CallId}
 use Rattle.plain_map.specs.declared.records.Record.{Record}
@@ -11,11 +11,11 @@ use Rattle.core_model.specs.Order.{order_of}
 use Rattle.history_order.specs.Closing.{closing_with}
 use Rattle.trace_share.specs.declared.outcome.Outcome.{Outcome}
 use Rattle.trace_share.specs.Outcomes.{records_in}
-use Rattle.report_text.specs.Report.{call_in, order_lines}
+use Rattle.report_text.specs.Report.{call_in}
 use Rattle.batch_runner.specs.Served.{Served}
 use Rattle.batch_runner.specs.Told.{read_there, served_with}
 use Rattle.batch_runner.proofs.Counted.{unmap_all}
-use Rattle.batch_runner.proofs.Lines.{line_on, lines_are}
+use Rattle.batch_runner.proofs.Lines.{lines_are}
 use Rattle.batch_runner.proofs.Telling.{told_calls, told_on}
 use Rattle.batch_runner.proofs.batch.print_batch.Goals as goal
 

@@ -1,32 +1,44 @@
--- A loop of whole batches: each is read and served before the next.
-use Rattle.std.proofs.Common.{◌≡◌, ◌<◌, ◌+◌, IfNone, false, ◌++◌, ◌∷◌, [], List, ℕ, length, refl, ap, subst, sym, ◌∙◌, arith}
+-- A loop of whole batches: each is served while the next one is read.
+use Rattle.std.proofs.Common.{◌≡◌, ◌+◌, ◌++◌, ◌∷◌, [], List, Vec, Global, ℕ, length, refl, ap, subst, sym, ◌∙◌, arith}
+use Rattle.std.specs.Prelude.{All, MatchOption}
+use Rattle.std.proofs.lemmas.List.Elements.{All-weaker}
 use Rattle.plain_map.specs.declared.calls.Call.{Call}
-use Rattle.trace_runner.specs.Reading.{HaveCome, HaveEnded}
+use Rattle.edge_traits.proofs.EdgeLemmas.{Rose-since}
+use Rattle.plain_map.specs.Serving.{IsAskable}
+use Rattle.trace_runner.specs.declared.intake.TheConstants.{PACKET_LIMIT}
+use Rattle.trace_runner.specs.Reading.{AreBetween, HaveCome, HaveEnded, HaveEndedUpTo, IsBetween}
 use Rattle.trace_runner.proofs.EndLemmas.{AreOfBatches-none, at_none, at_some, between_is_batch, cut-more, if_none, whole-more}
 use Rattle.trace_runner.proofs.trying.try_packets.Goals as goal
 
 pub batches-init : goal.batches-init
 batches-init g c =
     record {
-      reads = c.requires.start.going;
-      given = c.requires.start.given;
-      few = omega arith;
       going = c.new-progress.ensures.going c.args.service.now;
       calls = omega (arith, c.new-progress.ensures.calls);
-      counted = omega arith;
-      stands = λ first come.
-          ([], [], come, c.new-progress.ensures.served c.args.service.now, AreOfBatches-none, refl);
+      counted = c.read_batch.ensures.counted;
+      between = c.in_ok-part.ensures.between;
+      goes_on = c.in_ok-part.ensures.goes_on;
+      few = c.in_ok-part.ensures.few_packets.0;
+      limited = c.in_ok-part.ensures.few_packets.1;
+      read_fault = c.in_ok-part.ensures.read_fault;
+      stands = λ first come. (
+        [],
+        [],
+        c.in_ok-part.ensures.read first [] come,
+        c.new-progress.ensures.served c.args.service.now,
+        AreOfBatches-none,
+        refl,
+      );
     }
 
 pub returns-in-Ok-clause-tried : goal.returns-in-Ok-clause-tried
 returns-in-Ok-clause-tried g c = λ first come.
     let s = c.batches.invariant.stands first come in
-    let left = g.S.Source.left c.read_batch.new.source in
-    let many : ℕ = c.batches.packets + c.in_ok-part.part.packets in
-    let calls : List (ℕ × Call) = c.read_batch.new.calls.items in
+    let left = g.S.Source.left c.batches.source in
+    let many : ℕ = c.batches.packets + c.batches.part.packets in
+    let calls : List (ℕ × Call) = c.batches.calls.items in
     let ended : HaveEnded first left many (s.0 ++ calls) c.in-Some.ending =
-    at_some _ (HaveEnded first left many (s.0 ++ calls)) c.in_ok-part.part.ending c.in-Some.ending c.in-Some.is
-    (c.in_ok-part.ensures.read first s.0 s.2) in
+    at_some _ (HaveEnded first left many (s.0 ++ calls)) c.batches.part.ending c.in-Some.ending c.in-Some.is s.2 in
     let last = c.in-Ok.ensures s.1 s.0 s.3 s.4 s.5 in
     record {
       many = many;
@@ -38,44 +50,49 @@ returns-in-Ok-clause-tried g c = λ first come.
       ended = subst (λ l. HaveEnded first left many (s.0 ++ l) c.in-Some.ending) (sym c.deref.ensures.value) ended;
     }
 
+pub try_and_read-requires-clause-askable : goal.try_and_read-requires-clause-askable
+try_and_read-requires-clause-askable g c κs within =
+    let many : ℕ = c.batches.packets in
+    let askable : ℕ × Call → Type 0 = λ (call : ℕ × Call). IsAskable call.1 in
+    subst (All askable) (sym c.deref-in-None.ensures.value)
+    (All-weaker (IsBetween many (many + c.batches.part.packets)) askable (λ (call : ℕ × Call) is. is.askable)
+    c.batches.calls.items c.batches.invariant.between.each)
+
 pub batches-preserved : goal.batches-preserved
 batches-preserved g c =
     let old = c.batches.invariant in
-    let service = c.args.service.now in
-    let left = g.S.Source.left c.read_batch.new.source in
-    let many : ℕ = c.batches.packets + c.in_ok-part.part.packets in
-    let calls : List (ℕ × Call) = c.read_batch.new.calls.items in
-    let on : IfNone c.in_ok-part.part.ending ((c.read_batch.new.reader.ended ≡ false)
-    × (c.read_batch.new.reader.given ≡ c.batches.packets + c.in_ok-part.part.packets)
-    × (c.in_ok-part.part.packets ≡ 2048)
-    × (c.batches.packets + c.in_ok-part.part.packets < 4000000)) = c.in_ok-part.ensures.goes_on in
-    let goes = if_none c.in_ok-part.part.ending c.in-None.is on in
+    let left = g.S.Source.left c.batches.source in
+    let many : ℕ = c.batches.packets + c.batches.part.packets in
+    let calls : List (ℕ × Call) = c.batches.calls.items in
+    let goes = if_none c.batches.part.ending c.in-None.is old.goes_on in
+    let told = c.in_ok-part-in-None in
+    let read = told.ensures.read in
+    let after = g.S.Source.left c.try_and_read.new.source in
+    let swapped : c.try_and_read.new.next ≡ c.swap.new.x = sym c.swap.ensures.x_after in
     record {
-      reads = goes.0;
-      given = goes.1;
-      few = goes.3;
-      going = c.in_ok-try_calls-in-None.ensures.going;
-      calls = omega (
-        arith,
-        c.in_ok-try_calls-in-None.ensures.counted,
-        old.calls,
-        c.in_ok-part.ensures.between.few,
-        ap length c.deref-in-None.ensures.value,
-      );
-      counted = omega (arith, old.counted, c.read_batch.ensures.counted);
+      going = told.ensures.going;
+      calls = omega (arith, told.ensures.tallied, old.calls, old.between.few, ap length c.deref-in-None.ensures.value);
+      counted = omega (arith, old.counted, c.try_and_read.ensures.counted);
+      between = subst (λ (v : Vec (ℕ × Call) Global). AreBetween many (many + told.part.packets) v.items) swapped
+          read.between;
+      goes_on = read.goes_on;
+      few = read.few;
+      limited = read.limited;
+      read_fault = λ is. Rose-since _ _ _ old.counted (read.read_fault is);
       stands = λ first come.
           let s = old.stands first come in
-          let next_come : HaveCome first left c.read_batch.new.reader many (s.0 ++ calls) =
-          at_none (HaveCome first left c.read_batch.new.reader many (s.0 ++ calls)) _ c.in_ok-part.part.ending
-          c.in-None.is (c.in_ok-part.ensures.read first s.0 s.2) in
-          let next = c.in_ok-try_calls-in-None.ensures.served s.1 s.3 in (
+          let next_come : HaveCome first left c.batches.reader many (s.0 ++ calls) =
+          at_none (HaveCome first left c.batches.reader many (s.0 ++ calls)) _ c.batches.part.ending c.in-None.is s.2 in
+          let next = told.ensures.served s.1 s.3 in (
             s.0 ++ calls,
             s.1 ++ next.0 ∷ [],
-            next_come,
+            subst (λ (v : Vec (ℕ × Call) Global). MatchOption told.part.ending
+                (HaveCome first after c.try_and_read.new.reader (many + told.part.packets) ((s.0 ++ calls) ++ v.items))
+                (HaveEndedUpTo PACKET_LIMIT first after (many + told.part.packets) ((s.0 ++ calls) ++ v.items)))
+                swapped (read.read first (s.0 ++ calls) next_come),
             next.2,
             cut-more s.0 calls s.1 next.0 s.4 (next.1 ∙ c.deref-in-None.ensures.value)
-                (between_is_batch (length s.1) c.batches.packets c.in_ok-part.part.packets calls s.5
-                c.in_ok-part.ensures.few_packets.0 c.in_ok-part.ensures.between),
-            whole-more c.batches.packets c.in_ok-part.part.packets s.1 next.0 s.5 goes.2,
+                (between_is_batch (length s.1) c.batches.packets c.batches.part.packets calls s.5 old.few old.between),
+            whole-more c.batches.packets c.batches.part.packets s.1 next.0 s.5 goes.2,
           );
     }

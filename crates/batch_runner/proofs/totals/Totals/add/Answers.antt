@@ -1,7 +1,6 @@
-use Rattle.std.proofs.Common.{◌≡◌, ◌+◌, ◌++◌, max, ap, sym, ◌∙◌, arith}
+use Rattle.std.proofs.Common.{◌≡◌, ◌+◌, max, sym, ◌∙◌, arith}
 use Rattle.std.proofs.lemmas.Int.{clamps}
 use Rattle.batch_runner.specs.declared.totals.Totals.{Totals}
-use Rattle.batch_runner.specs.Totals.{totals_of}
 use Rattle.batch_runner.proofs.TotalLemmas.{totals_fit, totals_sum, with_totals}
 use Rattle.batch_runner.proofs.totals.Totals.add.Goals as goal
 
