@@ -44,27 +44,31 @@ pub(crate) fn put_lines<R: Threads>(
         (closing_with closed.now.words (map records_in (map (λ log. log.items) logs.now)) []))))) }
     ensures begun { OnErr result ((lines : List ℕ) × (out.new.items ≡ out.old.items ++ lines)) }
 {
-    if seats == 1 {
-        outcomes_text(out, seats, before, outcomes)?;
-        let order = order_in(alloc, tables, closed, logs)?;
-        return order_text(out, &mut Line::new(), &order);
-    }
-    let (written, ordered) = join_mut(
-        rt,
-        &mut || -> Result<(), AllocError>
-            requires { (seats ≤ 8) × All (λ o. HasText (key_in (call_in o.1.now))) outcomes.now }
-            ensures appended { OnOk result (out.exit.now.items ≡ out.entry.now.items
-                ++ flat_map (λ o. outcome_line seats o.0 (outcome_on before.entry.now o.1.now)) outcomes.entry.now) }
-            ensures begun { OnErr result ((lines : List ℕ) × (out.exit.now.items ≡ out.entry.now.items ++ lines)) }
-        { outcomes_text(out, seats, before, outcomes) },
-        &mut || -> Result<Vec<CallId>, AllocError>
-            requires { IsOfARun closed.now.shape closed.now.words
-                (map records_in (map (λ log. log.items) logs.now)) [] }
-            ensures { IfOk result (λ order. order.items ≡ ids_of (order_of closed.entry.now.shape
-                (closing_with closed.entry.now.words
-                (map records_in (map (λ log. log.items) logs.entry.now)) []))) }
-        { order_in(alloc, tables, closed, logs) },
-    );
+    let (written, ordered) = if seats == 1 {
+        (
+            outcomes_text(out, seats, before, outcomes),
+            order_in(alloc, tables, closed, logs),
+        )
+    } else {
+        join_mut(
+            rt,
+            &mut || -> Result<(), AllocError>
+                requires { (seats ≤ 8) × All (λ o. HasText (key_in (call_in o.1.now))) outcomes.now }
+                ensures appended { OnOk result (out.exit.now.items ≡ out.entry.now.items
+                    ++ flat_map (λ o. outcome_line seats o.0 (outcome_on before.entry.now o.1.now))
+                    outcomes.entry.now) }
+                ensures begun { OnErr result ((lines : List ℕ)
+                    × (out.exit.now.items ≡ out.entry.now.items ++ lines)) }
+            { outcomes_text(out, seats, before, outcomes) },
+            &mut || -> Result<Vec<CallId>, AllocError>
+                requires { IsOfARun closed.now.shape closed.now.words
+                    (map records_in (map (λ log. log.items) logs.now)) [] }
+                ensures { IfOk result (λ order. order.items ≡ ids_of (order_of closed.entry.now.shape
+                    (closing_with closed.entry.now.words
+                    (map records_in (map (λ log. log.items) logs.entry.now)) []))) }
+            { order_in(alloc, tables, closed, logs) },
+        )
+    };
     written?;
     order_text(out, &mut Line::new(), &ordered?)
 }
