@@ -11,6 +11,7 @@ use crate::Outcome;
 use edge_traits::Gate;
 use plain_map::{Call, Reply, Server};
 use std::alloc::{AllocError, Global};
+use std::mem;
 use std::thread::{Threads, join_mut};
 
 /// One that answers calls, with the calls that it is to answer and what came of them.
@@ -46,19 +47,23 @@ impl<S> Worker<S> {
 }
 
 impl<S: Server> Worker<S> {
-    // Makes all calls, one after the other.
+    // Makes all calls, one after the other. The log is taken out of the worker meanwhile: its length is written at each
+    // call, and the worker that lies beside this one would else lose that part of memory each time.
     fn serve_calls<G: Gate>(&mut self, seat: u32, gate: &G)
         requires { IsReady S.answered self.old }
         ensures { IsDone S.answered S.spent S.rows S.need S.stays self.old self.new }
     {
+        let none = Vec::new(*self.log.allocator());
+        let mut log = mem::replace(&mut self.log, none);
         for place in 0..self.calls.len() {
             let (packet, call) = self.calls[place];
             let number = place as u32 + 1;
             gate.pass(seat, number);
             let outcome = outcome_of(&mut self.server, packet, call);
             gate.told(seat, number, carried(&outcome));
-            self.log.push_reserved(outcome);
+            log.push_reserved(outcome);
         }
+        self.log = log;
     }
 }
 

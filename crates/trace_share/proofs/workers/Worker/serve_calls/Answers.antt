@@ -1,4 +1,4 @@
-use Rattle.std.proofs.Common.{◌≡◌, ◌<◌, ◌+◌, ℕ, List, [], ◌∷◌, ◌++◌, Vec, Global, length, take, get_or, sym, subst, refl, ap, ◌∙◌, arith, length-take-le}
+use Rattle.std.proofs.Common.{◌≡◌, ◌<◌, ◌+◌, ℕ, List, [], ◌∷◌, ◌++◌, Vec, Global, length, take, get_or, sym, subst, refl, ap, ◌∙◌, arith, length-take-le, vec_capacity}
 use Rattle.std.proofs.lemmas.List.{take_more}
 use Rattle.plain_map.specs.declared.calls.Call.{Call}
 use Rattle.trace_share.specs.declared.outcome.Outcome.{Outcome}
@@ -9,11 +9,11 @@ use Rattle.trace_share.proofs.workers.Worker.serve_calls.Goals as goal
 pub loop-place-init : goal.loop-place-init
 loop-place-init g c = record {
   calls = refl;
-  room = refl;
+  room = ap vec_capacity c.replace-log.ensures.value;
   came_to = subst
       (λ (log : List Outcome). ComesTo g.S.Server.answered g.S.Server.spent g.S.Server.rows g.S.Server.need
       g.S.Server.stays [] log c.args.self.now.server c.args.self.now.server)
-      (sym c.requires.none)
+      (sym (ap (λ (log : Vec Outcome Global). log.items) c.replace-log.ensures.value ∙ c.requires.none))
       (comes_to-none g.S.Server.answered g.S.Server.spent g.S.Server.rows g.S.Server.need g.S.Server.stays
       c.args.self.now.server (g.met.S.Server.stays_self c.args.self.now.server));
 }
@@ -21,7 +21,7 @@ loop-place-init g c = record {
 pub outcome_of-outcome-requires-clause-countable : goal.outcome_of-outcome-requires-clause-countable
 outcome_of-outcome-requires-clause-countable g c =
     let few = comes_to-few g.S.Server.answered g.S.Server.spent g.S.Server.rows g.S.Server.need g.S.Server.stays
-    (take c.loop-place.place c.args.self.now.calls.items) c.loop-place.self.log.items c.args.self.now.server
+    (take c.loop-place.place c.args.self.now.calls.items) c.loop-place.log.items c.args.self.now.server
     c.loop-place.self.server c.loop-place.invariant.came_to in
     omega (
       arith,
@@ -45,16 +45,16 @@ loop-place-preserved g c =
     let at : get_or calls place call ≡ call = sym (is ∙ same) in
     let more : take (place + 1) calls ≡ take place calls ++ call ∷ [] =
     take_more calls place call inside ∙ ap (λ (x : ℕ × Call). take place calls ++ x ∷ []) at in
-    let grown : c.push_reserved.new.self.items ≡ c.loop-place.self.log.items ++ c.outcome_of-outcome.result ∷ [] =
+    let grown : c.push_reserved.new.self.items ≡ c.loop-place.log.items ++ c.outcome_of-outcome.result ∷ [] =
     c.push_reserved.ensures.items in
     let both
     : (take (place + 1) calls, c.push_reserved.new.self.items)
-    ≡ (take place calls ++ call ∷ [], c.loop-place.self.log.items ++ c.outcome_of-outcome.result ∷ []) =
+    ≡ (take place calls ++ call ∷ [], c.loop-place.log.items ++ c.outcome_of-outcome.result ∷ []) =
     (λ i. (more i, grown i)) in
     let one = c.outcome_of-outcome.ensures in
     let so_far = c.loop-place.invariant.came_to in
     let whole = comes_to-on g.S.Server.answered g.S.Server.spent g.S.Server.rows g.S.Server.need g.S.Server.stays
-    (take place calls) (call ∷ []) c.loop-place.self.log.items (c.outcome_of-outcome.result ∷ []) c.args.self.now.server
+    (take place calls) (call ∷ []) c.loop-place.log.items (c.outcome_of-outcome.result ∷ []) c.args.self.now.server
     c.loop-place.self.server c.outcome_of-outcome.new.server
     (g.met.S.Server.stays_on c.args.self.now.server c.loop-place.self.server c.outcome_of-outcome.new.server so_far.same
     one.same)
