@@ -60,8 +60,10 @@ served_with first calls logs words outcomes batch = record {
   pairs = batch.pairs.items;
 }
 
--- the pairs that a batch of these calls leaves can open the next one, and its counts are small
+-- the pairs that a batch of these calls leaves can open the next one, its counts are small, and its totals are of as many
+-- outcomes as there were calls
 pub record CanGoOn (service : Service) (calls : List (ℕ × Call)) (batch : Batch) : Type 0 where
   pub reopens : CanOpen (rules_of service) batch.pairs.items
   pub seats : vec_len batch.answered ≤ 8
   pub answered : All (λ count. count ≤ length calls) batch.answered.items
+  pub counted : (outcomes : List Outcome) × (batch.totals ≡ totals_of outcomes) × (length outcomes ≡ length calls)

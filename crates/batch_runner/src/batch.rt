@@ -43,6 +43,16 @@ pub struct Batch {
     pub depth: u32,
 }
 
+/// What a batch came to, call by call.
+#[derive(Drop)]
+pub struct Account {
+    pub batch: Batch,
+    /// What each seat's calls came to, seat 0 first, each seat's in their order.
+    pub logs: Vec<Vec<Outcome>>,
+    /// The one order of the answered calls.
+    pub order: Vec<CallId>,
+}
+
 /// Opens a table with these pairs, lets the seats make the calls that are dealt to them, in threads of their own,
 /// closes it, and tells what it came to; appends the lines of the calls and of their one order.
 ///
@@ -95,7 +105,7 @@ pub fn print_batch<R: Threads + Sync, G: Gate + Sync>(
     Ok(batch)
 }
 
-/// The same without lines. The order comes beside what the batch came to.
+/// The same without lines. What each call came to, and the order, come beside what the batch came to.
 pub fn serve_batch<R: Threads + Sync, G: Gate + Sync>(
     rt: &R,
     alloc: Global,
@@ -104,22 +114,25 @@ pub fn serve_batch<R: Threads + Sync, G: Gate + Sync>(
     first: &[Pair],
     calls: &[(u32, Call)],
     gate: &G,
-) -> Result<(Batch, Vec<CallId>), AllocError>
+) -> Result<Account, AllocError>
     requires given { ForSome service.now.rows (AreBelow (2 ^ 32)) }
     requires few { length calls.now < CALL_LIMIT }
     requires askable { All (λ call. IsAskable call.1) calls.now }
     requires opens { CanOpen (rules_of service.now) first.now }
-    ensures served { IfOk result (λ told. (served : Served) × (served.first ≡ first.now)
-        × (served.calls ≡ calls.now) × IsServed service.now served × IsToldBy service.now served told.0
-        × IsOrderOf service.now served told.1.items) }
-    ensures goes_on { IfOk result (λ told. CanGoOn service.now calls.now told.0) }
+    ensures served { IfOk result (λ account. (served : Served) × (served.first ≡ first.now)
+        × (served.calls ≡ calls.now) × IsServed service.now served × IsToldBy service.now served account.batch
+        × (map (λ log. log.items) account.logs.items ≡ served.logs)
+        × IsOrderOf service.now served account.order.items) }
+    ensures goes_on { IfOk result (λ account. CanGoOn service.now calls.now account.batch) }
 {
     let (closed, logs) = close_batch(rt, alloc, service, workspace, first, calls, gate)?;
+    let batch = {
+        let outcomes = outcomes_of(alloc, service.share, service.settings.seats, calls, &logs)?;
+        told(alloc, service, first, calls, &closed, &logs, &outcomes)?
+    };
     let order = order_in(alloc, &mut workspace.tables, &closed, &logs)?;
-    let outcomes = outcomes_of(alloc, service.share, service.settings.seats, calls, &logs)?;
-    let batch = told(alloc, service, first, calls, &closed, &logs, &outcomes)?;
     workspace.blank.keep(closed);
-    Ok((batch, order))
+    Ok(Account { batch, logs, order })
 }
 
 /// The same without lines and order.
@@ -147,8 +160,8 @@ pub fn try_batch<R: Threads + Sync, G: Gate + Sync>(
     Ok(batch)
 }
 
-/// Opens the table, lets the seats make their calls, and closes it. The logs are those of the seats, in order.
-pub(crate) fn close_batch<R: Threads + Sync, G: Gate + Sync>(
+// Opens the table, lets the seats make their calls, and closes it. The logs are those of the seats, in order.
+fn close_batch<R: Threads + Sync, G: Gate + Sync>(
     rt: &R,
     alloc: Global,
     service: &Service,
@@ -172,8 +185,8 @@ pub(crate) fn close_batch<R: Threads + Sync, G: Gate + Sync>(
     Ok((closed, logs))
 }
 
-/// What a batch came to whose table is closed, with these outcomes in packet order.
-pub(crate) fn told(
+// What a batch came to whose table is closed, with these outcomes in packet order.
+fn told(
     alloc: Global,
     service: &Service,
     first: &[Pair],

@@ -12,7 +12,7 @@ mod totals;
 mod workers;
 mod workspace;
 
-pub use batch::{Batch, print_batch, serve_batch, try_batch};
+pub use batch::{Account, Batch, print_batch, serve_batch, try_batch};
 pub use counts::go_on;
 pub use laws::served_laws;
 pub use service::Service;

@@ -1,16 +1,17 @@
 //! Batches of calls on tables of their own, with replies, steps and orders that were worked by hand, and many calls of
 //! seats in threads, whose order is replayed through the plain map.
 
-ghost use Rattle.std.specs.Prelude.{◌≡◌, ◌+◌, ◌^◌, ◌<◌, ◌≤◌, All, IfOk, IfSome, OnOk, length, vec_len};
+ghost use Rattle.std.specs.Prelude.{◌≡◌, ◌+◌, ◌^◌, ◌<◌, ◌≤◌, All, IfOk, IfSome, List, OnOk, length, vec_len};
 ghost use Rattle.std.specs.Option.{ForSome};
 ghost use Rattle.plain_map.specs.Calls.{key_in};
 ghost use Rattle.plain_map.specs.Serving.{IsAskable};
 ghost use Rattle.flow_keys.specs.FlowText.{HasText};
 ghost use Rattle.word_rows.specs.Shape.{AreBelow};
+ghost use Rattle.trace_share.specs.declared.outcome.Outcome.{Outcome};
 ghost use Rattle.batch_runner.specs.Served.{CanOpen, rules_of};
+ghost use Rattle.batch_runner.specs.Totals.{totals_of};
 
 mod crowds;
-mod listing;
 mod meetings;
 mod rows;
 
@@ -109,6 +110,8 @@ pub(crate) fn put_batch<R: Threads + Sync>(
     requires low { most ≤ 2 ^ 30 }
     requires before { All (λ count. count ≤ most) before.old }
     ensures reopens { IfOk result (λ batch. CanOpen (rules_of service.now) batch.pairs.items) }
+    ensures counted { IfOk result (λ batch. (outcomes : List Outcome) × (batch.totals ≡ totals_of outcomes)
+        × (length outcomes < 2 ^ 16)) }
     ensures most { OnOk result (All (λ count. count ≤ most + 2 ^ 16) before.new) }
 {
     let calls = calls_of(alloc, frames)?;
@@ -140,6 +143,8 @@ pub(crate) fn put_first<R: Threads + Sync>(
     requires given { ForSome service.now.rows (AreBelow (2 ^ 32)) }
     requires few { length frames.now < 2 ^ 16 }
     ensures reopens { IfOk result (λ batch. CanOpen (rules_of service.now) batch.pairs.items) }
+    ensures counted { IfOk result (λ batch. (outcomes : List Outcome) × (batch.totals ≡ totals_of outcomes)
+        × (length outcomes < 2 ^ 16)) }
     ensures most { OnOk result (All (λ count. count ≤ 0 + 2 ^ 16) before.new) }
 {
     *before = [0; MOST_SEATS];

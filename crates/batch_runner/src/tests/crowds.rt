@@ -6,10 +6,9 @@ ghost use Rattle.plain_map.specs.PlainObject.{InRange};
 ghost use Rattle.word_rows.specs.Shape.{AreBelow};
 
 use super::Frame::{Ack, Fin, Syn};
-use super::listing::{Listed, list_batch};
 use super::meetings::serve_frames;
 use super::{Frame, calls_of, service_of};
-use crate::Service;
+use crate::{Account, Service, Workspace, serve_batch};
 use edge_traits::OpenGate;
 use plain_map::{CallId, PlainMap, Record, Rules};
 use std::alloc::{AllocError, Global};
@@ -40,11 +39,11 @@ fn frames_of(alloc: Global, first: u32, count: u16) -> Result<Vec<(u32, Frame)>,
     Ok(frames)
 }
 
-// The record of a packet among these outcomes, the first of which is of this packet.
-fn record_at(listed: &Listed, first: u32, packet: u32) -> Option<Record> {
-    let place = packet.wrapping_sub(first) as usize;
-    match listed.outcomes.get(place) {
-        Some((_, Outcome::Answered(made))) => Some(*made),
+// The record of an answered call, where none of its seat was refused.
+fn record_of(account: &Account, id: &CallId) -> Option<Record> {
+    let log = account.logs.get(id.seat as usize)?;
+    match log.get(id.number.wrapping_sub(1) as usize) {
+        Some(Outcome::Answered(made)) => Some(*made),
         _ => None,
     }
 }
@@ -77,18 +76,18 @@ impl Checker {
     }
 
     // Whether each call of a batch stands once and rightly, and the pairs of the plain map are left.
-    fn follows(&mut self, rules: &Rules, listed: &Listed, first: u32) -> Result<bool, AllocError>
+    fn follows(&mut self, rules: &Rules, account: &Account) -> Result<bool, AllocError>
         requires { InRange rules.now }
     {
         self.stood = [0; 8];
-        let mut right = listed.order.len() == listed.outcomes.len();
-        for id in &listed.order {
-            let Some(made) = record_at(listed, first, id.packet) else {
+        let mut right = account.order.len() as u64 == account.batch.totals.calls;
+        for id in &account.order {
+            let Some(made) = record_of(account, id) else {
                 return Ok(false);
             };
-            right = self.stands(rules, id, &made)? && right;
+            right = self.stands(rules, id, &made)? && id.packet == made.packet && right;
         }
-        Ok(right && self.map.pairs() == listed.batch.pairs.as_slice())
+        Ok(right && self.map.pairs() == account.batch.pairs.as_slice())
     }
 }
 
@@ -118,12 +117,21 @@ fn are_right<R: Threads + Sync>(
         stood: [0; 8],
     };
     let one = serve_frames(rt, alloc, service, &frames_of(alloc, 1, count)?, &OpenGate)?;
-    let first = checker.follows(&rules, &one, 1)?;
+    let first = checker.follows(&rules, &one)?;
 
     let later = u32::from(count) + 1;
     let calls = calls_of(alloc, &frames_of(alloc, later, count)?)?;
-    let two = list_batch(rt, alloc, service, &one.batch.pairs, &calls, &OpenGate)?;
-    Ok(checker.follows(&rules, &two, later)? && first)
+    let mut workspace = Workspace::new(alloc);
+    let two = serve_batch(
+        rt,
+        alloc,
+        service,
+        &mut workspace,
+        &one.batch.pairs,
+        &calls,
+        &OpenGate,
+    )?;
+    Ok(checker.follows(&rules, &two)? && first)
 }
 
 #[test]

@@ -6,9 +6,8 @@ ghost use Rattle.word_rows.specs.Shape.{AreBelow};
 ghost use Rattle.batch_runner.specs.Served.{CanOpen, rules_of};
 
 use super::Frame::Syn;
-use super::listing::{Listed, list_batch};
 use super::{Frame, calls_of, service_of};
-use crate::Service;
+use crate::{Account, Service, Workspace, serve_batch};
 use edge_traits::{Gate, OpenGate};
 use plain_map::{Full, FullKind, Reply};
 use std::alloc::{AllocError, Global};
@@ -45,32 +44,45 @@ impl Gate for Meeting {
     fn told(&self, _seat: u32, _number: u32, _answer: u64) {}
 }
 
-// Serves packets of new flows on a table that begins with no pair.
+// Serves packets on a table that begins with no pair.
 pub(super) fn serve_frames<R: Threads + Sync, G: Gate + Sync>(
     rt: &R,
     alloc: Global,
     service: &Service,
     frames: &[(u32, Frame)],
     gate: &G,
-) -> Result<Listed, AllocError>
+) -> Result<Account, AllocError>
     requires given { ForSome service.now.rows (AreBelow (2 ^ 32)) }
     requires few { length frames.now < 2 ^ 16 }
-    ensures { IfOk result (λ listed. CanOpen (rules_of service.now) listed.batch.pairs.items) }
+    ensures { IfOk result (λ account. CanOpen (rules_of service.now) account.batch.pairs.items) }
 {
     let calls = calls_of(alloc, frames)?;
-    list_batch(rt, alloc, service, &[], &calls, gate)
+    let mut workspace = Workspace::new(alloc);
+    serve_batch(rt, alloc, service, &mut workspace, &[], &calls, gate)
 }
 
-// The seats and the replies of a batch, in packet order.
-fn seats_of(alloc: Global, listed: &Listed) -> Result<Vec<(u32, Option<Reply>)>, AllocError> {
-    let mut seats = Vec::new(alloc);
-    for (seat, outcome) in &listed.outcomes {
-        seats.push(match outcome {
-            Outcome::Answered(made) => (*seat, Some(made.reply)),
-            Outcome::Refused { .. } => (*seat, None),
-        })?;
+// The seat that made the call of a packet, and what it was answered.
+fn seat_of(account: &Account, packet: u32) -> Option<(usize, Option<Reply>)> {
+    for (seat, log) in account.logs.iter().enumerate() {
+        for outcome in log {
+            let (asked, reply) = match outcome {
+                Outcome::Answered(made) => (made.packet, Some(made.reply)),
+                Outcome::Refused { packet, .. } => (*packet, None),
+            };
+            if asked == packet {
+                return Some((seat, reply));
+            }
+        }
     }
-    Ok(seats)
+    None
+}
+
+// What a call of a seat came to, by its place among the seat's.
+fn outcome_at(account: &Account, seat: usize, place: usize) -> Option<Outcome> {
+    match account.logs.get(seat) {
+        Some(log) => log.get(place).copied(),
+        None => None,
+    }
 }
 
 const FIVE: [(u32, Frame); 5] = [
@@ -92,7 +104,7 @@ fn two_seats_meet(rt: HostRuntime) -> Result<(), Fail> {
         arrived: AtomicU64::new(0),
         late: AtomicU64::new(0),
     };
-    let listed = serve_frames(
+    let account = serve_frames(
         &rt,
         rt.alloc(),
         &service,
@@ -100,15 +112,12 @@ fn two_seats_meet(rt: HostRuntime) -> Result<(), Fail> {
         &gate,
     )?;
     assert_eq!(rt; gate.late.load(SeqCst), 0);
-    let seats = seats_of(rt.alloc(), &listed)?;
-    assert_eq!(rt;
-        seats.as_slice(),
-        [(0, Some(Reply::New)), (1, Some(Reply::New))].as_slice()
-    );
-    assert_eq!(rt; listed.batch.answered.as_slice(), [1, 1].as_slice());
-    assert_eq!(rt; listed.order.len(), 2);
-    assert_eq!(rt; listed.batch.pairs.len(), 2);
-    assert_eq!(rt; (listed.batch.leaves, listed.batch.depth), (2, 1));
+    assert_eq!(rt; seat_of(&account, 1), Some((0, Some(Reply::New))));
+    assert_eq!(rt; seat_of(&account, 2), Some((1, Some(Reply::New))));
+    assert_eq!(rt; account.batch.answered.as_slice(), [1, 1].as_slice());
+    assert_eq!(rt; account.order.len(), 2);
+    assert_eq!(rt; account.batch.pairs.len(), 2);
+    assert_eq!(rt; (account.batch.leaves, account.batch.depth), (2, 1));
     Ok(())
 }
 
@@ -123,11 +132,10 @@ fn five_calls_are_shared(rt: HostRuntime) -> Result<(), Fail> {
         let Some(service) = service_of(2, 4, 3, 0, share) else {
             panic!(&rt; "settings in range");
         };
-        let listed = serve_frames(&rt, rt.alloc(), &service, &FIVE, &OpenGate)?;
-        let seats = seats_of(rt.alloc(), &listed)?;
-        assert_eq!(rt; seats.len(), 5);
-        for (seat, own) in seats.iter().zip(&wanted) {
-            assert_eq!(rt; *seat, (*own, Some(Reply::New)));
+        let account = serve_frames(&rt, rt.alloc(), &service, &FIVE, &OpenGate)?;
+        assert_eq!(rt; account.batch.totals.calls, 5);
+        for ((packet, _), own) in FIVE.iter().zip(&wanted) {
+            assert_eq!(rt; seat_of(&account, *packet), Some((*own, Some(Reply::New))));
         }
     }
     Ok(())
@@ -158,29 +166,22 @@ fn rows_run_out(rt: HostRuntime) -> Result<(), Fail> {
             ..open
         };
         assert!(rt; are_small(&service.rows));
-        let listed = serve_frames(
+        let account = serve_frames(
             &rt,
             rt.alloc(),
             &service,
             &[(1, Syn(1)), (2, Syn(2))],
             &OpenGate,
         )?;
-        assert_eq!(rt; listed.order.len(), answered);
-        assert_eq!(rt; listed.batch.pairs.len(), answered);
-        let Some(
-            (
-                0,
-                Outcome::Refused {
-                    packet: 2,
-                    full,
-                    ..
-                },
-            ),
-        ) = listed.outcomes.get(1)
+        assert_eq!(rt; account.order.len(), answered);
+        assert_eq!(rt; account.batch.pairs.len(), answered);
+        let Some(Outcome::Refused {
+            packet: 2, full, ..
+        }) = outcome_at(&account, 0, 1)
         else {
             panic!(&rt; "the second is refused");
         };
-        assert_eq!(rt; *full, Full { what, left, need });
+        assert_eq!(rt; full, Full { what, left, need });
     }
     Ok(())
 }

@@ -180,5 +180,17 @@ fn batches_go_on(rt: HostRuntime) -> Result<(), Fail> {
         },
     };
     assert_eq!(rt; two.totals, wanted);
+    let mut totals = Totals::new();
+    totals.add(&one.totals);
+    totals.add(&two.totals);
+    let both = Totals {
+        calls: 2,
+        replies: Replies {
+            new: 1,
+            ..wanted.replies
+        },
+        ..wanted
+    };
+    assert_eq!(rt; totals, both);
     Ok(())
 }

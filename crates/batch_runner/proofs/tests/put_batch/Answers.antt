@@ -15,3 +15,8 @@ returns-clause-most g c =
     (All-weaker (λ count. count ≤ length c.deref.result.now) (λ count. count ≤ 2 ^ 16)
     (λ count few. omega (arith, few, c.deref.ensures.len, c.in_ok-calls.ensures.few)) c.in_ok-batch.batch.answered.items
     c.in_ok-batch.ensures.goes_on.answered)
+
+pub returns-clause-counted : goal.returns-clause-counted
+returns-clause-counted g c =
+    let counted = c.in_ok-batch.ensures.goes_on.counted in
+    (counted.0, counted.1, omega (arith, counted.2, c.deref.ensures.len, c.in_ok-calls.ensures.few))
