@@ -83,7 +83,8 @@ pub fn print_batch<R: Threads + Sync, G: Gate + Sync>(
     ensures goes_on { IfOk result (CanGoOn service.now calls.now) }
     ensures kept { OnErr result (out.new.items ≡ out.old.items) }
 {
-    let (closed, logs) = close_batch(rt, alloc, service, workspace, first, calls, gate)?;
+    let shares = deal(alloc, service.share, service.settings.seats, calls)?;
+    let (closed, logs) = close_batch(rt, alloc, service, workspace, first, calls, shares, gate)?;
     let outcomes = outcomes_of(alloc, service.share, service.settings.seats, calls, &logs)?;
     let batch = told(alloc, service, first, calls, &closed, &logs, &outcomes)?;
     let start = out.len();
@@ -125,7 +126,8 @@ pub fn serve_batch<R: Threads + Sync, G: Gate + Sync>(
         × IsOrderOf service.now served account.order.items) }
     ensures goes_on { IfOk result (λ account. CanGoOn service.now calls.now account.batch) }
 {
-    let (closed, logs) = close_batch(rt, alloc, service, workspace, first, calls, gate)?;
+    let shares = deal(alloc, service.share, service.settings.seats, calls)?;
+    let (closed, logs) = close_batch(rt, alloc, service, workspace, first, calls, shares, gate)?;
     let batch = {
         let outcomes = outcomes_of(alloc, service.share, service.settings.seats, calls, &logs)?;
         told(alloc, service, first, calls, &closed, &logs, &outcomes)?
@@ -135,7 +137,7 @@ pub fn serve_batch<R: Threads + Sync, G: Gate + Sync>(
     Ok(Account { batch, logs, order })
 }
 
-/// The same without lines and order.
+/// The same without lines and order, where the calls are dealt already: the shares are those of the seats, seat 0 first.
 pub fn try_batch<R: Threads + Sync, G: Gate + Sync>(
     rt: &R,
     alloc: Global,
@@ -143,24 +145,26 @@ pub fn try_batch<R: Threads + Sync, G: Gate + Sync>(
     workspace: &mut Workspace,
     first: &[Pair],
     calls: &[(u32, Call)],
+    shares: Vec<Vec<(u32, Call)>>,
     gate: &G,
 ) -> Result<Batch, AllocError>
     requires given { ForSome service.now.rows (AreBelow (2 ^ 32)) }
     requires few { length calls.now < CALL_LIMIT }
     requires askable { All (λ call. IsAskable call.1) calls.now }
     requires opens { CanOpen (rules_of service.now) first.now }
+    requires shares { map (λ share. share.items) shares.items ≡ shares_of service.now calls.now }
     ensures served { IfOk result (λ batch. (served : Served) × (served.first ≡ first.now)
         × (served.calls ≡ calls.now) × IsServed service.now served × IsToldBy service.now served batch) }
     ensures goes_on { IfOk result (CanGoOn service.now calls.now) }
 {
-    let (closed, logs) = close_batch(rt, alloc, service, workspace, first, calls, gate)?;
+    let (closed, logs) = close_batch(rt, alloc, service, workspace, first, calls, shares, gate)?;
     let outcomes = outcomes_of(alloc, service.share, service.settings.seats, calls, &logs)?;
     let batch = told(alloc, service, first, calls, &closed, &logs, &outcomes)?;
     workspace.blank.keep(closed);
     Ok(batch)
 }
 
-// Opens the table, lets the seats make their calls, and closes it. The logs are those of the seats, in order.
+// Opens the table, lets the seats make their shares of the calls, and closes it. The logs are those of the seats, in order.
 fn close_batch<R: Threads + Sync, G: Gate + Sync>(
     rt: &R,
     alloc: Global,
@@ -168,16 +172,17 @@ fn close_batch<R: Threads + Sync, G: Gate + Sync>(
     workspace: &mut Workspace,
     first: &[Pair],
     calls: &[(u32, Call)],
+    shares: Vec<Vec<(u32, Call)>>,
     gate: &G,
 ) -> Result<(ClosedTable, Vec<Vec<Outcome>>), AllocError>
     requires given { ForSome service.now.rows (AreBelow (2 ^ 32)) }
     requires few { length calls.now < CALL_LIMIT }
     requires askable { All (λ call. IsAskable call.1) calls.now }
     requires opens { CanOpen (rules_of service.now) first.now }
+    requires shares { map (λ share. share.items) shares.items ≡ shares_of service.now calls.now }
     ensures { IfOk result (λ done. IsClosedBatch service.now first.now calls.now done.0
         (map (λ log. log.items) done.1.items)) }
 {
-    let shares = deal(alloc, service.share, service.settings.seats, calls)?;
     let (directory, seats) = opened(alloc, service, workspace, first, calls, &shares)?;
     let (seats, logs) = serve_shares(rt, alloc, &directory, seats, shares, gate)?;
     let closed = directory.close_in_place(seats);

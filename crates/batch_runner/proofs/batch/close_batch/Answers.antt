@@ -23,7 +23,7 @@ serve_shares-requires-clause-new g c κs within =
     let n : ℕ = service.settings.seats in
     let d : TableValue = c.in_ok-directory.directory in
     let item : Vec (ℕ × Call) Global → List (ℕ × Call) = λ (share : Vec (ℕ × Call) Global). share.items in
-    let shares : List (List (ℕ × Call)) = map item c.in_ok-shares.shares.items in
+    let shares : List (List (ℕ × Call)) = map item c.args.shares.items in
     let long : vec_len c.in_ok-directory.seats ≡ n =
     c.in_ok-directory.seats.ok.0 ∙ ap length c.in_ok-directory.ensures.seats ∙ long_new d 0 n in
     c.in_ok-directory.ensures.seats ∙ ap (new_seats d 0) (sym long)
@@ -35,15 +35,15 @@ serve_shares-requires-clause-as_many g c κs within =
     let n : ℕ = service.settings.seats in
     let d : TableValue = c.in_ok-directory.directory in
     let item : Vec (ℕ × Call) Global → List (ℕ × Call) = λ (share : Vec (ℕ × Call) Global). share.items in
-    let shares : List (List (ℕ × Call)) = map item c.in_ok-shares.shares.items in
+    let shares : List (List (ℕ × Call)) = map item c.args.shares.items in
     omega (
       arith,
       c.in_ok-directory.seats.ok.0,
       ap length c.in_ok-directory.ensures.seats,
       long_new d 0 n,
-      c.in_ok-shares.shares.ok.0,
-      length-map c.in_ok-shares.shares.items item,
-      ap length c.in_ok-shares.ensures,
+      c.args.shares.ok.0,
+      length-map c.args.shares.items item,
+      ap length c.requires.shares,
       long_dealt service.share n calls,
     )
 
@@ -54,7 +54,7 @@ serve_shares-requires-clause-few g c κs within =
     let n : ℕ = service.settings.seats in
     let d : TableValue = c.in_ok-directory.directory in
     let item : Vec (ℕ × Call) Global → List (ℕ × Call) = λ (share : Vec (ℕ × Call) Global). share.items in
-    let shares : List (List (ℕ × Call)) = map item c.in_ok-shares.shares.items in
+    let shares : List (List (ℕ × Call)) = map item c.args.shares.items in
     omega (
       arith,
       c.in_ok-directory.seats.ok.0,
@@ -70,10 +70,10 @@ serve_shares-requires-clause-askable g c κs within =
     let n : ℕ = service.settings.seats in
     let d : TableValue = c.in_ok-directory.directory in
     let item : Vec (ℕ × Call) Global → List (ℕ × Call) = λ (share : Vec (ℕ × Call) Global). share.items in
-    let shares : List (List (ℕ × Call)) = map item c.in_ok-shares.shares.items in
+    let shares : List (List (ℕ × Call)) = map item c.args.shares.items in
     let P : ℕ × Call → Type 0 = λ (call : ℕ × Call). IsAskable call.1 in
-    of_items (λ (s : List (ℕ × Call)). All P s) c.in_ok-shares.shares.items
-    (subst (All (λ (s : List (ℕ × Call)). All P s)) (sym c.in_ok-shares.ensures)
+    of_items (λ (s : List (ℕ × Call)). All P s) c.args.shares.items
+    (subst (All (λ (s : List (ℕ × Call)). All P s)) (sym c.requires.shares)
     (dealt_hold P service.share n calls c.requires.askable))
 
 pub serve_shares-requires-clause-short : goal.serve_shares-requires-clause-short
@@ -83,9 +83,9 @@ serve_shares-requires-clause-short g c κs within =
     let n : ℕ = service.settings.seats in
     let d : TableValue = c.in_ok-directory.directory in
     let item : Vec (ℕ × Call) Global → List (ℕ × Call) = λ (share : Vec (ℕ × Call) Global). share.items in
-    let shares : List (List (ℕ × Call)) = map item c.in_ok-shares.shares.items in
+    let shares : List (List (ℕ × Call)) = map item c.args.shares.items in
     let few : length calls < 2 ^ 32 = omega (arith, c.requires.few) in
-    few_items (2 ^ 32) calls service.share n c.in_ok-shares.shares.items few c.in_ok-shares.ensures
+    few_items (2 ^ 32) calls service.share n c.args.shares.items few c.requires.shares
 
 pub close_in_place-closed-requires-clause-seats : goal.close_in_place-closed-requires-clause-seats
 close_in_place-closed-requires-clause-seats g c =
@@ -94,7 +94,7 @@ close_in_place-closed-requires-clause-seats g c =
     let n : ℕ = service.settings.seats in
     let d : TableValue = c.in_ok-directory.directory in
     let item : Vec (ℕ × Call) Global → List (ℕ × Call) = λ (share : Vec (ℕ × Call) Global). share.items in
-    let shares : List (List (ℕ × Call)) = map item c.in_ok-shares.shares.items in
+    let shares : List (List (ℕ × Call)) = map item c.args.shares.items in
     let out : Vec Outcome Global → List Outcome = λ (log : Vec Outcome Global). log.items in
     let logs : List (List Outcome) = map out c.in_ok-seats.logs.items in
     let seats : List SeatValue = c.in_ok-seats.seats.items in
@@ -107,12 +107,12 @@ close_in_place-closed-requires-clause-all g c =
     let n : ℕ = service.settings.seats in
     let d : TableValue = c.in_ok-directory.directory in
     let item : Vec (ℕ × Call) Global → List (ℕ × Call) = λ (share : Vec (ℕ × Call) Global). share.items in
-    let shares : List (List (ℕ × Call)) = map item c.in_ok-shares.shares.items in
+    let shares : List (List (ℕ × Call)) = map item c.args.shares.items in
     let out : Vec Outcome Global → List Outcome = λ (log : Vec Outcome Global). log.items in
     let logs : List (List Outcome) = map out c.in_ok-seats.logs.items in
     let seats : List SeatValue = c.in_ok-seats.seats.items in
     c.in_ok-seats.seats.ok.0 ∙ all_seats service c.args.first.now calls d c.in_ok-directory.ensures.setup shares
-    c.in_ok-shares.ensures seats logs c.in_ok-seats.ensures
+    c.requires.shares seats logs c.in_ok-seats.ensures
 
 pub returns : goal.returns
 returns g c =
@@ -121,12 +121,12 @@ returns g c =
     let calls : List (ℕ × Call) = c.args.calls.now in
     let d : TableValue = c.in_ok-directory.directory in
     let item : Vec (ℕ × Call) Global → List (ℕ × Call) = λ (share : Vec (ℕ × Call) Global). share.items in
-    let shares : List (List (ℕ × Call)) = map item c.in_ok-shares.shares.items in
+    let shares : List (List (ℕ × Call)) = map item c.args.shares.items in
     let out : Vec Outcome Global → List Outcome = λ (log : Vec Outcome Global). log.items in
     let logs : List (List Outcome) = map out c.in_ok-seats.logs.items in
     let seats : List SeatValue = c.in_ok-seats.seats.items in
     let setup_is = c.in_ok-directory.ensures.setup in
-    let shares_are = c.in_ok-shares.ensures in
+    let shares_are = c.requires.shares in
     let made = c.in_ok-seats.ensures in
     let words : List ℕ = c.close_in_place-closed.result.words in
     let ran = c.close_in_place-closed.ensures.ran in
