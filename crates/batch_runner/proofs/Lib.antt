@@ -12,3 +12,4 @@ pub mod Lines
 pub mod TotalLemmas
 pub mod Sums
 pub mod Merges
+pub mod ByLogs

@@ -1,6 +1,6 @@
 //! One batch.
 
-ghost use Rattle.std.specs.Prelude.{◌≡◌, ◌^◌, ◌<◌, ◌++◌, All, IfOk, OnErr, length, map};
+ghost use Rattle.std.specs.Prelude.{◌≡◌, ℕ, ◌^◌, ◌<◌, ◌++◌, All, IfOk, List, OnErr, length, map};
 ghost use Rattle.std.specs.Option.{ForSome};
 ghost use Rattle.plain_map.specs.Calls.{key_in};
 ghost use Rattle.plain_map.specs.Serving.{IsAskable};
@@ -8,10 +8,11 @@ ghost use Rattle.flow_keys.specs.FlowText.{HasText};
 ghost use Rattle.word_rows.specs.Shape.{AreBelow};
 ghost use Rattle.shared_table.specs.Values.{new_seats};
 ghost use Rattle.report_text.specs.Report.{batch_lines};
+ghost use Rattle.trace_share.specs.declared.outcome.Outcome.{Outcome as AnOutcome};
 ghost use Rattle.batch_rows.specs.declared.rows.TheConstants.{CALL_LIMIT};
 ghost use Rattle.batch_runner.specs.Served.{AreInPacketOrder, CanOpen, IsServed, Served, rules_of, setup_in, shares_of};
 ghost use Rattle.batch_runner.specs.Printed.{lines_of};
-ghost use Rattle.batch_runner.specs.Told.{CanGoOn, IsClosedBatch, IsOrderOf, IsToldBy, read_there, served_with};
+ghost use Rattle.batch_runner.specs.Told.{CanGoOn, IsClosedBatch, IsOrderOf, IsToldBy, served_with};
 
 use crate::ordering::order_in;
 use crate::outcomes::{counts_of, outcomes_of};
@@ -86,7 +87,7 @@ pub fn print_batch<R: Threads + Sync, G: Gate + Sync>(
     let shares = deal(alloc, service.share, service.settings.seats, calls)?;
     let (closed, logs) = close_batch(rt, alloc, service, workspace, first, calls, shares, gate)?;
     let outcomes = outcomes_of(alloc, service.share, service.settings.seats, calls, &logs)?;
-    let batch = told(alloc, service, first, calls, &closed, &logs, &outcomes)?;
+    let batch = told(alloc, service, first, calls, &closed, &logs)?;
     let start = out.len();
     if let Err(failed) = put_lines(
         rt,
@@ -128,10 +129,7 @@ pub fn serve_batch<R: Threads + Sync, G: Gate + Sync>(
 {
     let shares = deal(alloc, service.share, service.settings.seats, calls)?;
     let (closed, logs) = close_batch(rt, alloc, service, workspace, first, calls, shares, gate)?;
-    let batch = {
-        let outcomes = outcomes_of(alloc, service.share, service.settings.seats, calls, &logs)?;
-        told(alloc, service, first, calls, &closed, &logs, &outcomes)?
-    };
+    let batch = told(alloc, service, first, calls, &closed, &logs)?;
     let order = order_in(alloc, &mut workspace.tables, &closed, &logs)?;
     workspace.blank.keep(closed);
     Ok(Account { batch, logs, order })
@@ -158,8 +156,7 @@ pub fn try_batch<R: Threads + Sync, G: Gate + Sync>(
     ensures goes_on { IfOk result (CanGoOn service.now calls.now) }
 {
     let (closed, logs) = close_batch(rt, alloc, service, workspace, first, calls, shares, gate)?;
-    let outcomes = outcomes_of(alloc, service.share, service.settings.seats, calls, &logs)?;
-    let batch = told(alloc, service, first, calls, &closed, &logs, &outcomes)?;
+    let batch = told(alloc, service, first, calls, &closed, &logs)?;
     workspace.blank.keep(closed);
     Ok(batch)
 }
@@ -190,7 +187,8 @@ fn close_batch<R: Threads + Sync, G: Gate + Sync>(
     Ok((closed, logs))
 }
 
-// What a batch came to whose table is closed, with these outcomes in packet order.
+// What a batch came to whose table is closed: there are outcomes of it in packet order, and whatever these are, it is
+// told of them.
 fn told(
     alloc: Global,
     service: &Service,
@@ -198,18 +196,22 @@ fn told(
     calls: &[(u32, Call)],
     closed: &ClosedTable,
     logs: &[Vec<Outcome>],
-    outcomes: &[(u32, &Outcome)],
 ) -> Result<Batch, AllocError>
     requires few { length calls.now < CALL_LIMIT }
     requires closed { IsClosedBatch service.now first.now calls.now closed.now (map (λ log. log.items) logs.now) }
-    requires ordered { AreInPacketOrder calls.now (map (λ log. log.items) logs.now) (read_there outcomes.now) }
-    ensures served { IfOk result (λ batch. IsServed service.now (served_with first.now calls.now
-        (map (λ log. log.items) logs.now) closed.now.words (read_there outcomes.now) batch)) }
-    ensures told { IfOk result (λ batch. IsToldBy service.now (served_with first.now calls.now
-        (map (λ log. log.items) logs.now) closed.now.words (read_there outcomes.now) batch) batch) }
+    ensures some { IfOk result (λ _. (outcomes : List (ℕ × AnOutcome))
+        × AreInPacketOrder calls.now (map (λ log. log.items) logs.now) outcomes) }
+    ensures served { IfOk result (λ batch. (outcomes : List (ℕ × AnOutcome)) →
+        AreInPacketOrder calls.now (map (λ log. log.items) logs.now) outcomes →
+        IsServed service.now (served_with first.now calls.now (map (λ log. log.items) logs.now) closed.now.words
+        outcomes batch)) }
+    ensures told { IfOk result (λ batch. (outcomes : List (ℕ × AnOutcome)) →
+        AreInPacketOrder calls.now (map (λ log. log.items) logs.now) outcomes →
+        IsToldBy service.now (served_with first.now calls.now (map (λ log. log.items) logs.now) closed.now.words
+        outcomes batch) batch) }
 {
     Ok(Batch {
-        totals: Totals::of(outcomes),
+        totals: Totals::of(logs),
         answered: counts_of(alloc, logs)?,
         pairs: closed.pairs(alloc)?,
         leaves: closed.leaves(alloc)?.len() as u64,

@@ -1,6 +1,6 @@
 //! What all calls came to, over all batches.
 
-ghost use Rattle.std.specs.Prelude.{◌≡◌, ◌+◌, ◌-◌, ◌^◌, ◌<◌, [], List, ◌++◌, length, map};
+ghost use Rattle.std.specs.Prelude.{◌≡◌, ◌+◌, ◌-◌, ◌^◌, ◌<◌, [], List, ◌++◌, flat_map, length};
 ghost use Rattle.trace_share.specs.declared.outcome.Outcome.{Outcome as AnOutcome};
 ghost use Rattle.batch_runner.specs.Totals.{AreFewer, totals_of, with_outcome, with_replies, with_reply};
 
@@ -53,13 +53,14 @@ impl Totals {
         }
     }
 
-    /// Of these calls, each with its seat.
-    pub(crate) fn of(outcomes: &[(u32, &Outcome)]) -> Totals
-        ensures { result ≡ totals_of (map (λ o. o.1.now) outcomes.now) }
+    /// Of the calls of these logs.
+    pub(crate) fn of(logs: &[Vec<Outcome>]) -> Totals
+        requires few { length (flat_map (λ log. log.items) logs.now) < 2 ^ 63 }
+        ensures { result ≡ totals_of (flat_map (λ log. log.items) logs.now) }
     {
         let mut totals = Totals::new();
-        for told in outcomes {
-            totals.put(told.1);
+        for log in logs {
+            totals.put_log(log);
         }
         totals
     }
@@ -77,6 +78,16 @@ impl Totals {
         self.update = self.update.max(batch.update);
         self.lookup = self.lookup.max(batch.lookup);
         self.replies.add(&batch.replies);
+    }
+
+    // The calls of one log more.
+    fn put_log(&mut self, log: &[Outcome])
+        requires { (all : List AnOutcome) × (self.old ≡ totals_of all) × (length all + length log.now < 2 ^ 64) }
+        ensures { (all : List AnOutcome) → self.old ≡ totals_of all → self.new ≡ totals_of (all ++ log.now) }
+    {
+        for outcome in log {
+            self.put(outcome);
+        }
     }
 
     // One call more.

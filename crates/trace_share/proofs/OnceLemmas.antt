@@ -14,13 +14,13 @@ use Rattle.trace_share.proofs.DealLemmas.{same_is, other_is}
 use Rattle.trace_share.proofs.PartLemmas.{IsPartOf, part_alone, part_some}
 
 -- one of n seats passes a test, and no other
-record PassesOnce (n : ℕ) (test : ℕ → Bool) : Type 0 where
-  seat : ℕ
-  below : seat < n
-  alone : (s : ℕ) → s < n → test s ≡ (seat == s)
+pub record PassesOnce (n : ℕ) (test : ℕ → Bool) : Type 0 where
+  pub seat : ℕ
+  pub below : seat < n
+  pub alone : (s : ℕ) → s < n → test s ≡ (seat == s)
 
 -- a call at a place is one seat's
-one_makes : (share : Share) (n c i : ℕ) (call : ℕ × Call) → 0 < n → i < c →
+pub one_makes : (share : Share) (n c i : ℕ) (call : ℕ × Call) → 0 < n → i < c →
     PassesOnce n (λ s. makes share n c s (i, call))
 unfolding makes
 one_makes Round n c i call some inside =

@@ -12,14 +12,15 @@ pub returns-clause-served : goal.returns-clause-served
 returns-clause-served g c =
     let logs : List (Vec Outcome Global) → List (List Record) =
     λ (ls : List (Vec Outcome Global)). map records_in (map (λ (log : Vec Outcome Global). log.items) ls) in
-    let records : logs c.deref-4.result.now ≡ logs c.deref-2.result.now =
-    ap logs (c.deref-4.ensures.value ∙ sym c.deref-2.ensures.value) in (
+    let records : logs c.deref-2.result.now ≡ logs c.deref.result.now =
+    ap logs (c.deref-2.ensures.value ∙ sym c.deref.ensures.value) in
+    let some = c.in_ok-batch.ensures.some in (
       _,
       refl,
       refl,
-      c.in_ok-batch.ensures.served,
-      c.in_ok-batch.ensures.told,
-      ap (map (λ (log : Vec Outcome Global). log.items)) (sym c.deref-2.ensures.value),
+      c.in_ok-batch.ensures.served some.0 some.1,
+      c.in_ok-batch.ensures.told some.0 some.1,
+      ap (map (λ (log : Vec Outcome Global). log.items)) (sym c.deref.ensures.value),
       c.in_ok-order.ensures
           ∙ (λ i. ids_of (order_of (c.in_ok-closed.ensures.shape_is i)
           (closing_with c.in_ok-closed.closed.words (records i) []))),
