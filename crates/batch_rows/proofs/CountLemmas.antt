@@ -5,7 +5,7 @@ use Rattle.std.specs.List.{IsDistinct, range_with_len}
 use Rattle.std.proofs.Math.ListN.{length-set}
 use Rattle.std.proofs.Math.Nat.{pow-suc}
 use Rattle.std.proofs.Math.Pow.{pow_mono}
-use Rattle.std.proofs.lemmas.Bool.{cases_eq, eqb-true, eqb-false, eq-eqb}
+use Rattle.std.proofs.lemmas.Bool.{cases_eq, eqb-true, eqb-false, eq-eqb, le-ltb, lt-ltb}
 use Rattle.std.proofs.lemmas.List.{append-nil, drop_all, get_or-set_same, get_or-set_other, length-take-le, take_all, take_more}
 use Rattle.std.proofs.lemmas.List.Sums.{count_by-le-length, sum_by_push, sum_by-cons}
 use Rattle.hash_bits.proofs.PrefixLemmas.{first_bits-suc}
@@ -18,11 +18,17 @@ use Rattle.core_model.specs.Needs.{crowded, crowded_at, is_crowded}
 use Rattle.core_bounds.proofs.Levels.{count_range, passing_alike}
 use Rattle.core_bounds.proofs.Pigeons.{passing}
 use Rattle.batch_rows.specs.Counts.{AreCounted, both_at}
+use Rattle.batch_rows.specs.Depths.{depth_for}
 use Rattle.batch_rows.proofs.KeyLemmas.{distinct_stay}
 
 -- one for what is so
 abbrev one_for : Bool → ℕ
 one_for b = cond b 1 0
+
+-- which is one at most
+one_at_most : (b : Bool) → one_for b ≤ 1
+one_at_most true = omega arith
+one_at_most false = omega arith
 
 -- how many of the keys have the prefix
 abbrev pub having : Rules → (depth prefix : ℕ) → List Key → ℕ
@@ -58,7 +64,7 @@ module _ (rules : Rules) where
       (first_bits-suc (hash_of_key rules.hashing key) depth deep)
 
   -- so the keys of a prefix are those of its halves
-  halves : (depth prefix : ℕ) (keys : List Key) → depth < 64 →
+  pub halves : (depth prefix : ℕ) (keys : List Key) → depth < 64 →
       having rules (suc depth) (2 * prefix) keys + having rules (suc depth) (2 * prefix + 1) keys
       ≡ having rules depth prefix keys
   halves depth prefix [] deep = refl
@@ -123,6 +129,18 @@ module _ (rules : Rules) (keys : List Key) where
       let next : from + 1 ≡ suc from = omega arith in
       sum_by-cons (crowded_at rules keys) from (range_with_len (from + 1) levels)
       ∙ ap (λ d. crowded_at rules keys from + crowded_from d levels) next
+
+  -- of how many of these numbers of bits some prefix is crowded
+  abbrev pub depths_from : (from levels : ℕ) → ℕ
+  depths_from from levels = count_by (λ depth. nat_lt 0 (crowded_at rules keys depth)) (range_with_len from levels)
+
+  -- one depth more
+  pub depths_more : (from levels : ℕ) →
+      depths_from from (suc levels) ≡ one_for (nat_lt 0 (crowded_at rules keys from)) + depths_from (suc from) levels
+  depths_more from levels =
+      let next : from + 1 ≡ suc from = omega arith in
+      sum_by-cons (λ depth. one_for (nat_lt 0 (crowded_at rules keys depth))) from (range_with_len (from + 1) levels)
+      ∙ ap (λ d. one_for (nat_lt 0 (crowded_at rules keys from)) + depths_from d levels) next
 
   -- at last these are all
   pub crowded_all : (start : ℕ) → crowded_from start (rules.depth - start) ≡ crowded rules start keys
@@ -189,20 +207,32 @@ module _ (rules : Rules) where
 -- ---- depth by depth, from the greatest down
 
 -- after so many levels the counts are those of so many bits less, and what is crowded there has been counted
-pub record AtLevel (rules : Rules) (keys : List Key) (level prefixes : ℕ) (counts : List ℕ) : Type 0 where
+pub record AtLevel (rules : Rules) (keys : List Key) (level prefixes depths : ℕ) (counts : List ℕ) : Type 0 where
   pub counted : AreCounted rules keys (rules.depth - level) counts
   pub sum : prefixes ≡ crowded_from rules keys (rules.depth - level) level
   pub few : prefixes + 2 ^ (rules.depth - level) ≤ 2 ^ rules.depth
+  pub crowds : depths ≡ depths_from rules keys (rules.depth - level) level
+  pub shallow : depths ≤ level
+
+-- a depth is counted where some prefix of it is crowded
+pub one_depth : (above more was : ℕ) → 0 < above → more ≡ was + 1 → more ≡ was + one_for (nat_lt 0 above)
+one_depth above more was some is = omega (arith, is, ap one_for (lt-ltb 0 above some))
+
+-- and else it is not
+pub no_depth : (above more was : ℕ) → above ≤ 0 → more ≡ was → more ≡ was + one_for (nat_lt 0 above)
+no_depth above more was none is = omega (arith, is, ap one_for (le-ltb 0 above none))
 
 module _ (rules : Rules) (keys : List Key) where
   -- one level more
-  pub next_level : (level prefixes above deep : ℕ) (counts sums : List ℕ) → IsDistinct same_key keys →
+  pub next_level : (level prefixes depths above more deep : ℕ) (counts sums : List ℕ) → IsDistinct same_key keys →
       rules.depth ≤ 12 → level < rules.depth → deep ≡ rules.depth - level - 1 →
-      AtLevel rules keys level prefixes counts → length sums ≡ length counts →
+      AtLevel rules keys level prefixes depths counts → length sums ≡ length counts →
       ((prefix : ℕ) → prefix < 2 ^ deep → get_or sums prefix 0 ≡ both_at counts prefix) →
       above ≡ count_by (λ prefix. nat_lt rules.items (both_at counts prefix)) (range_with_len 0 (2 ^ deep)) →
-      above ≤ 2 ^ deep → AtLevel rules keys (level + 1) (prefixes + above) sums
-  next_level level prefixes above deep counts sums distinct shallow here is was long are counts_are few =
+      above ≤ 2 ^ deep → more ≡ depths + one_for (nat_lt 0 above) →
+      AtLevel rules keys (level + 1) (prefixes + above) more sums
+  next_level level prefixes depths above more deep counts sums distinct shallow here is was long are counts_are few
+      more_is =
       let wide : rules.depth - level ≡ suc deep = omega (arith, here, is) in
       let next : rules.depth - (level + 1) ≡ deep = omega (arith, here, is) in
       let small : deep < 64 = omega (arith, shallow, here, is) in
@@ -223,15 +253,29 @@ module _ (rules : Rules) (keys : List Key) where
           ap (crowded_from rules keys deep) (add-one level),
         );
         few = omega (arith, was.few, twice_as_many (rules.depth - level) deep wide, ap (λ d. 2 ^ d) next, few);
+        crowds = omega (
+          arith,
+          more_is,
+          was.crowds,
+          ap (λ d. depths_from rules keys d level) wide,
+          depths_more rules keys deep level,
+          ap (λ n. one_for (nat_lt 0 n)) (counts_are ∙ top),
+          ap (λ d. depths_from rules keys d (level + 1)) next,
+          ap (depths_from rules keys deep) (add-one level),
+        );
+        shallow = omega (arith, was.shallow, more_is, one_at_most (nat_lt 0 above));
       }
 
   -- at last all is counted
-  pub last_level : (start level prefixes : ℕ) (counts : List ℕ) → start ≤ rules.depth → level ≡ rules.depth - start →
-      AtLevel rules keys level prefixes counts → prefixes ≡ crowded rules start keys
-  last_level start level prefixes counts within is was =
-      let from : rules.depth - level ≡ start = omega (arith, within, is) in
-      was.sum ∙ ap (λ d. crowded_from rules keys d level) from
-      ∙ ap (crowded_from rules keys start) is ∙ crowded_all rules keys start
+  pub last_level : (start level prefixes depths : ℕ) (counts : List ℕ) → start ≤ rules.depth →
+      level ≡ rules.depth - start → AtLevel rules keys level prefixes depths counts →
+      (prefixes ≡ crowded rules start keys) × (start + depths ≡ depth_for rules start keys)
+  last_level start level prefixes depths counts within is was =
+      let from : rules.depth - level ≡ start = omega (arith, within, is) in (
+        was.sum ∙ ap (λ d. crowded_from rules keys d level) from
+            ∙ ap (crowded_from rules keys start) is ∙ crowded_all rules keys start,
+        ap (λ n. start + n) (was.crowds ∙ (λ i. depths_from rules keys (from i) (is i))),
+      )
 
 -- ---- the sums, place by place
 

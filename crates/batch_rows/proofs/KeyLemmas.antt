@@ -27,6 +27,7 @@ use Rattle.core_model.specs.Needs.{crowded, distinct_keys, inserted_by}
 use Rattle.core_bounds.proofs.KeyCounts.{has, has_passing, distinct_has, no_more}
 use Rattle.batch_rows.specs.BatchRows.{inserted_in_calls, splits_in_calls}
 use Rattle.batch_rows.specs.Counts.{HaveSameKeys}
+use Rattle.batch_rows.specs.Depths.{keys_in_batch}
 
 -- of more keys no fewer pass a test
 no_fewer : (test : Key → Bool) (few many : List Key) → ((q : Key) → has few q ≡ true → has many q ≡ true) →
@@ -72,6 +73,13 @@ pub same_with : (keys others more : List Key) → HaveSameKeys keys others → H
 same_with keys others more same = λ q. list_any-append (same_key q) keys more
     ∙ ap (λ b. b || has more q) (same q) ∙ sym (list_any-append (same_key q) others more)
 
+-- or is the same either way
+either_way : (a b : Bool) → (a || b) ≡ (b || a)
+either_way true true = refl
+either_way true false = refl
+either_way false true = refl
+either_way false false = refl
+
 -- where each of two tests passes exactly where the other does, they are equal
 both_ways : (a b : Bool) → (a ≡ true → b ≡ true) → (b ≡ true → a ≡ true) → a ≡ b
 both_ways true b to from = sym (to refl)
@@ -106,34 +114,44 @@ once_distinct sorted once rising is =
         (λ i a b. eq_by_cmp-same_key a b i) distinct
 
 -- what the pairs and the inserts crowd, less what the pairs crowd, is how many splits there are at most
-pub splits_are : (rules : Rules) (start : ℕ) (first : List Pair) (calls : List (ℕ × Call))
-    (begun once added all : List Key) (before after : ℕ) → begun ≡ keys_of first → HaveSameKeys once begun →
-    HaveSameKeys added (once ++ inserted_in_calls calls) → HaveSameKeys all added →
+pub splits_are : (rules : Rules) (start : ℕ) (first : List Pair) (calls : List (ℕ × Call)) (once all : List Key)
+    (before after : ℕ) → HaveSameKeys once (keys_of first) → HaveSameKeys all (keys_in_batch first calls) →
     before ≡ crowded rules start once → after ≡ crowded rules start all →
     after - before ≡ splits_in_calls rules start first calls
-splits_are rules start first calls begun once added all before after begun_is same added_is both before_is after_is =
-    let named : HaveSameKeys once (keys_of first) = λ q. same q ∙ ap (λ keys. has keys q) begun_is in
-    let one : before ≡ crowded rules start (keys_of first) =
-    before_is ∙ crowded_alike rules start once (keys_of first) named in
-    let two : after ≡ crowded rules start (keys_of first ++ inserted_in_calls calls) =
-    after_is ∙ crowded_alike rules start all added both
-    ∙ crowded_alike rules start added (once ++ inserted_in_calls calls) added_is
-    ∙ crowded_alike rules start (once ++ inserted_in_calls calls) (keys_of first ++ inserted_in_calls calls)
-    (same_with once (keys_of first) (inserted_in_calls calls) named) in
+splits_are rules start first calls once all before after same both before_is after_is =
+    let one = before_is ∙ crowded_alike rules start once (keys_of first) same in
+    let two = after_is ∙ crowded_alike rules start all (keys_in_batch first calls) both in
     λ i. two i - one i
 
--- there are none where no key was added
-pub no_splits : (rules : Rules) (start : ℕ) (first : List Pair) (calls : List (ℕ × Call))
-    (begun once added : List Key) → begun ≡ keys_of first → HaveSameKeys once begun → added ≡ [] →
-    HaveSameKeys (once ++ added) (once ++ inserted_in_calls calls) → 0 ≡ splits_in_calls rules start first calls
-no_splits rules start first calls begun once added begun_is same none added_is =
-    let kept : HaveSameKeys once (once ++ added) =
-    λ q. ap (λ keys. has keys q) (sym (append-nil once) ∙ ap (λ more. once ++ more) (sym none)) in
-    let count : ℕ = crowded rules start once in
+-- there are none where the pairs have all keys
+pub no_splits : (rules : Rules) (start : ℕ) (first : List Pair) (calls : List (ℕ × Call)) →
+    HaveSameKeys (keys_of first) (keys_in_batch first calls) → 0 ≡ splits_in_calls rules start first calls
+no_splits rules start first calls same =
+    let count : ℕ = crowded rules start (keys_of first) in
     let less : count - count ≡ 0 = omega arith in
     sym less
-    ∙ splits_are rules start first calls begun once (once ++ added) once count count begun_is same added_is kept refl
-    refl
+    ∙ splits_are rules start first calls (keys_of first) (keys_of first) count count (λ q. refl) same refl refl
+
+-- the keys that were added, and then the first ones, are those of the batch
+pub all_keys : (first : List Pair) (calls : List (ℕ × Call)) (begun seen added more grown once all : List Key) →
+    begun ≡ keys_of first → seen ≡ begun → HaveSameKeys (seen ++ added) (seen ++ inserted_in_calls calls) →
+    more ≡ begun → grown ≡ added ++ more → HaveSameKeys once grown → all ≡ once →
+    HaveSameKeys all (keys_in_batch first calls)
+all_keys first calls begun seen added more grown once all first_are seen_is found more_is grown_is same all_is q =
+    ap (λ keys. has keys q) all_is ∙ same q
+    ∙ ap (λ keys. has keys q) (grown_is ∙ ap (λ keys. added ++ keys) (more_is ∙ sym seen_is))
+    ∙ list_any-append (same_key q) added seen ∙ either_way (has added q) (has seen q)
+    ∙ sym (list_any-append (same_key q) seen added) ∙ found q
+    ∙ ap (λ keys. has (keys ++ inserted_in_calls calls) q) (seen_is ∙ first_are)
+
+-- where none was added these are the first ones
+pub none_added : (first : List Pair) (calls : List (ℕ × Call)) (begun seen added : List Key) → begun ≡ keys_of first →
+    seen ≡ begun → added ≡ [] → HaveSameKeys (seen ++ added) (seen ++ inserted_in_calls calls) →
+    HaveSameKeys (keys_of first) (keys_in_batch first calls)
+none_added first calls begun seen added first_are seen_is none found q =
+    ap (λ keys. has keys q)
+    (sym (seen_is ∙ first_are) ∙ sym (append-nil seen) ∙ ap (λ more. seen ++ more) (sym none)) ∙ found q
+    ∙ ap (λ keys. has (keys ++ inserted_in_calls calls) q) (seen_is ∙ first_are)
 
 -- ---- the keys of one call more
 

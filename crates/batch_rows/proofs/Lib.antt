@@ -1,3 +1,7 @@
 pub mod KeyLemmas
 pub mod CountLemmas
+pub mod DepthLemmas
 pub mod RowLemmas
+pub mod CalmLemmas
+pub mod AlikeLemmas
+pub mod Lesser

@@ -4,10 +4,12 @@ use Rattle.std.proofs.lemmas.List.{map-append, take_all, take_more}
 use Rattle.hash_bits.specs.declared.hashing.Hashing.{Hashing}
 use Rattle.step_counts.specs.declared.rows.SeatRows.{SeatRows}
 use Rattle.step_counts.specs.declared.settings.Settings.{Settings}
+use Rattle.step_counts.specs.Made.{IsMadeOf}
 use Rattle.plain_map.specs.declared.calls.Call.{Call}
 use Rattle.plain_map.specs.declared.keys.Pair.{Pair}
 use Rattle.core_model.specs.Needs.{batch_rows_of}
 use Rattle.batch_rows.specs.BatchRows.{rows_of, rules_in, splits_in_calls, updates_in_calls}
+use Rattle.batch_rows.specs.Depths.{depth_for, keys_in_batch, lesser_rules}
 
 -- the calls of a seat, as they lie in memory
 abbrev pub Share : Type 0
@@ -47,3 +49,16 @@ all_shares s hashing given first calls shares place splits rows none are past is
     is ∙ ap (map (share_rows s splits)) (take_all place shares past) ∙ in_lists s splits shares
     ∙ ap (λ n. map (λ share. batch_rows_of s (updates_in_calls share) n) (map (λ share. share.items) shares)) are
     ∙ ap (λ some. rows_of s hashing some first calls (map (λ share. share.items) shares)) (sym none)
+
+-- the splits by the lesser rules are those by the rules of the table that is made with the lesser depth
+pub made_splits : (s table : Settings) (hashing : Hashing) (first : List Pair) (calls : List (ℕ × Call))
+    (depth splits : ℕ) → IsMadeOf table s.seats s.items depth s.start →
+    depth ≡ depth_for (rules_in s hashing) s.start (keys_in_batch first calls) →
+    splits ≡ splits_in_calls (lesser_rules (rules_in s hashing) s.start (keys_in_batch first calls)) s.start first calls
+    → splits ≡ splits_in_calls (rules_in table hashing) table.start first calls
+made_splits s table hashing first calls depth splits made deep are =
+    let items : s.items ≡ table.items = sym made.items_are in
+    let less : depth_for (rules_in s hashing) s.start (keys_in_batch first calls) ≡ table.depth =
+    sym (made.depth_is ∙ deep) in
+    let start : s.start ≡ table.start = sym made.start_is in
+    are ∙ (λ i. splits_in_calls (record { items = items i; depth = less i; hashing = hashing }) (start i) first calls)

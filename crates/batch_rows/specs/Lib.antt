@@ -1,2 +1,3 @@
 pub mod BatchRows
 pub mod Counts
+pub mod Depths

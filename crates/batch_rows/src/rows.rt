@@ -5,6 +5,7 @@ ghost use Rattle.std.specs.Option.{ForSome};
 ghost use Rattle.word_rows.specs.Shape.{AreBelow};
 ghost use Rattle.core_model.specs.Needs.{batch_rows_of};
 ghost use Rattle.batch_rows.specs.BatchRows.{rows_of, updates_in_calls};
+ghost use Rattle.batch_rows.specs.Depths.{IsTableFor};
 ghost use Rattle.batch_rows.specs.declared.rows.TheConstants.{CALL_LIMIT};
 
 use crate::splits::splits_of;
@@ -16,12 +17,21 @@ use step_counts::{SeatRows, Settings, automatic_rows, need};
 /// A seat makes fewer calls of a batch, so that each number of its rows is below 2^32.
 pub const CALL_LIMIT: usize = 1 << 30;
 
-/// The rows of each seat in the table of a batch that begins with these pairs and asks these calls, each seat its share
-/// of them, seat 0 first.
+/// The sizes of the table of a batch.
+#[derive(Debug, Drop)]
+pub struct Sizes {
+    pub settings: Settings,
+    /// Of each seat, seat 0 first.
+    pub rows: Vec<SeatRows>,
+}
+
+/// The sizes of the table of a batch that begins with these pairs and asks these calls, each seat its share of them,
+/// seat 0 first, where a table of any batch would have these settings.
 ///
-/// `given` has the rows of every seat. With `None` each seat gets the rows that suffice for its share, so that no call
-/// is refused; these are at most the automatic ones, and far fewer where the keys of the batch can split few buckets.
-pub fn rows_for(
+/// `given` has the rows of every seat, and then the settings stay. With `None` the greatest depth is what the keys of
+/// the batch can need, and each seat gets the rows that suffice for its share, so that no call is refused: these are at
+/// most the automatic ones, and far fewer where the keys of the batch can split few buckets.
+pub fn sizes_for(
     alloc: Global,
     settings: &Settings,
     hashing: Hashing,
@@ -29,27 +39,39 @@ pub fn rows_for(
     first: &[Pair],
     calls: &[(u32, Call)],
     shares: &[Vec<(u32, Call)>],
-) -> Result<Vec<SeatRows>, AllocError>
+) -> Result<Sizes, AllocError>
     requires given { ForSome given (AreBelow (2 ^ 32)) }
     requires few { All (λ share. vec_len share < CALL_LIMIT) shares.now }
-    ensures rows { IfOk result (λ rows. rows.items
-        ≡ rows_of settings.now hashing given first.now calls.now (map (λ share. share.items) shares.now)) }
-    ensures below { IfOk result (λ rows. All (AreBelow (2 ^ 32)) rows.items) }
+    ensures table { IfOk result (λ sizes.
+        IsTableFor settings.now hashing given first.now calls.now sizes.settings) }
+    ensures rows { IfOk result (λ sizes. sizes.rows.items
+        ≡ rows_of sizes.settings hashing given first.now calls.now (map (λ share. share.items) shares.now)) }
+    ensures below { IfOk result (λ sizes. All (AreBelow (2 ^ 32)) sizes.rows.items) }
 {
     if let Some(given) = given {
-        return vec![in alloc; given; shares.len()];
+        let rows = vec![in alloc; given; shares.len()]?;
+        return Ok(Sizes {
+            settings: *settings,
+            rows,
+        });
     }
     let rules = Rules {
         items: settings.items,
         depth: settings.depth,
         hashing,
     };
-    let splits = splits_of(alloc, &rules, settings.start, first, calls)?;
+    let found = splits_of(alloc, &rules, settings.start, first, calls)?;
+    // the lesser depth is between the starting one and the greatest
+    let made = Settings::new(settings.seats, settings.items, found.depth, settings.start);
+    let Ok(lesser) = made else { unreachable!() };
     let mut rows = Vec::with_capacity(alloc, shares.len())?;
     for share in shares {
-        rows.push(batch_rows(settings, updates_of(share), splits))?;
+        rows.push(batch_rows(&lesser, updates_of(share), found.splits))?;
     }
-    Ok(rows)
+    Ok(Sizes {
+        settings: lesser,
+        rows,
+    })
 }
 
 /// The rows that suffice a seat for so many updates, where a bucket is split so often at most.

@@ -1,4 +1,4 @@
-//! How often a bucket can be split in a batch, from the batch's own keys.
+//! How deep the buckets of a batch can become, and how often one can be split, from the batch's own keys.
 
 ghost use Rattle.std.specs.Prelude.{◌≡◌, ◌++◌, ◌^◌, ◌<◌, ◌≤◌, IfOk, length, true};
 ghost use Rattle.std.specs.List.{IsDistinct, list_any};
@@ -7,6 +7,7 @@ ghost use Rattle.bucket_states.specs.Items.{same_key};
 ghost use Rattle.bucket_states.specs.Parts.{keys_of};
 ghost use Rattle.batch_rows.specs.BatchRows.{inserted_in_calls, splits_in_calls};
 ghost use Rattle.batch_rows.specs.Counts.{HaveSameKeys};
+ghost use Rattle.batch_rows.specs.Depths.{depth_for, keys_in_batch, lesser_rules};
 ghost use Rattle.batch_rows.specs.declared.splits.TheConstants.{HINTS};
 
 use crate::crowds::crowded;
@@ -22,37 +23,57 @@ const HINT_MULTIPLIER: u64 = 0x9e37_79b9_7f4a_7c15;
 // What is shifted out of a product, so that 12 bits are left.
 const HINT_SHIFT: u32 = 52;
 
-/// How often at most a bucket is split after the opening, in a table of this starting depth that begins with these
-/// pairs and is asked these calls.
+/// What the buckets of a batch's table can need.
+#[derive(Clone, Copy, Debug)]
+pub(crate) struct Splits {
+    /// The greatest depth: one more than the last of which a bucket can be split, or else the starting one.
+    pub depth: u32,
+    /// How often at most a bucket is split after the opening.
+    pub splits: u64,
+}
+
+/// The greatest depth that a table of this starting depth needs where it begins with these pairs and is asked these
+/// calls, and how often at most a bucket of it is then split after the opening.
 ///
-/// It is how many prefixes get more keys than a bucket has room for: of the pairs and the inserts together, less those
-/// of the pairs alone. It takes memory for the keys, for hints to their places, and a word for each place of the
-/// greatest directory. It is quick where the keys of the inserts are among those of the pairs, which come sorted: most
-/// are found by their hints, and nothing is put in order or counted.
-pub fn splits_of(
+/// The depth is the starting one and as many more as there are depths of which some prefix gets more keys than a bucket
+/// has room for. The splits are how many prefixes do: of the pairs and the inserts together, less those of the pairs
+/// alone. A part of a prefix gets no more keys than the prefix, so from the depth that is found on there are none, and
+/// the pairs alone are counted by the bits of that depth. It takes memory for the keys, twice, for hints to their
+/// places, and a word for each place of the greatest directory. It is quick where the keys of the inserts are among
+/// those of the pairs, which come sorted: most are found by their hints, the sort finds nothing to move, and the keys
+/// are counted once.
+pub(crate) fn splits_of(
     alloc: Global,
     rules: &Rules,
     start: u32,
     first: &[Pair],
     calls: &[(u32, Call)],
-) -> Result<u64, AllocError>
+) -> Result<Splits, AllocError>
     requires range { InRange rules.now }
     requires within { start ≤ rules.now.depth }
-    ensures exact { IfOk result (λ splits. splits ≡ splits_in_calls rules.now start first.now calls.now) }
-    ensures few { IfOk result (λ splits. splits < 2 ^ 32) }
+    ensures depth { IfOk result (λ found.
+        found.depth ≡ depth_for rules.now start (keys_in_batch first.now calls.now)) }
+    ensures within { IfOk result (λ found. (start ≤ found.depth) × (found.depth ≤ rules.now.depth)) }
+    ensures exact { IfOk result (λ found. found.splits ≡ splits_in_calls
+        (lesser_rules rules.now start (keys_in_batch first.now calls.now)) start first.now calls.now) }
+    ensures few { IfOk result (λ found. found.splits < 2 ^ 32) }
 {
     let mut keys = first_keys(alloc, first)?;
     let hints = hints_of(alloc, &keys)?;
-    let added = new_keys(alloc, &keys, &hints, calls)?;
-    if added.is_empty() {
-        return Ok(0);
+    let mut all = new_keys(alloc, &keys, &hints, calls)?;
+    let none_is_new = all.is_empty();
+    all.extend_from_slice(&keys)?;
+    keep_once(&mut all);
+    let after = crowded(alloc, rules, start, &all)?;
+    let depth = start + after.levels;
+    if none_is_new {
+        return Ok(Splits { depth, splits: 0 });
     }
     keep_once(&mut keys);
-    let before = crowded(alloc, rules, start, &keys)?;
-    keys.extend_from_slice(&added)?;
-    keep_once(&mut keys);
-    let after = crowded(alloc, rules, start, &keys)?;
-    Ok(after.saturating_sub(before))
+    let lesser = Rules { depth, ..*rules };
+    let before = crowded(alloc, &lesser, start, &keys)?;
+    let splits = after.prefixes.saturating_sub(before.prefixes);
+    Ok(Splits { depth, splits })
 }
 
 // The keys of these pairs.

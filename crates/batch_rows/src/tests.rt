@@ -2,7 +2,8 @@
 
 ghost use Rattle.std.specs.Prelude.{◌≡◌, IfOk, length, vec_len};
 
-use crate::{batch_rows, rows_for, splits_of, updates_of};
+use crate::splits::{Splits, splits_of};
+use crate::{batch_rows, sizes_for, updates_of};
 use hash_bits::Hashing;
 use plain_map::{Call, Key, Pair, Rules};
 use std::alloc::{AllocError, Global};
@@ -40,48 +41,88 @@ fn inserts(alloc: Global, ports: &[u64]) -> Result<Vec<(u32, Call)>, AllocError>
     Ok(calls)
 }
 
-// The starting depth, the ports of the first pairs, those of the inserts, and the splits that are wanted.
-type Batch<'a> = (u32, &'a [u64], &'a [u64], u64);
+// The starting depth, the ports of the first pairs, those of the inserts, and the greatest depth and the splits that
+// are wanted.
+type Batch<'a> = (u32, &'a [u64], &'a [u64], u32, u64);
 
-// Two keys are the room of a bucket, and three bits tell buckets apart. Three keys of one prefix split it.
-#[test]
-fn splits_of_worked_batches(rt: HostRuntime) -> Result<(), Fail> {
+// What a batch needs where two keys are the room of a bucket, and three bits tell buckets apart.
+fn found_of(
+    alloc: Global,
+    start: u32,
+    first: &[u64],
+    inserted: &[u64],
+) -> Result<Splits, AllocError> {
     let rules = Rules {
         items: 2,
         depth: 3,
         hashing: Hashing::Ports(0),
     };
+    let first = pairs(alloc, first)?;
+    let calls = inserts(alloc, inserted)?;
+    splits_of(alloc, &rules, start.min(rules.depth), &first, &calls)
+}
+
+// Three keys of one prefix split it.
+#[test]
+fn splits_of_worked_batches(rt: HostRuntime) -> Result<(), Fail> {
     let cases: [Batch<'_>; 14] = [
         // nothing
-        (0, &[], &[], 0),
+        (0, &[], &[], 0, 0),
         // two keys have room
-        (0, &[], &[1, 2], 0),
+        (0, &[], &[1, 2], 0, 0),
         // the same key again is no third
-        (0, &[], &[1, 2, 1, 2], 0),
+        (0, &[], &[1, 2, 1, 2], 0, 0),
         // three split the empty prefix, 0 and 00; 000 is never split
-        (0, &[], &[1, 2, 3], 3),
-        (1, &[], &[1, 2, 3], 2),
-        (2, &[], &[1, 2, 3], 1),
-        (3, &[], &[1, 2, 3], 0),
+        (0, &[], &[1, 2, 3], 3, 3),
+        (1, &[], &[1, 2, 3], 3, 2),
+        (2, &[], &[1, 2, 3], 3, 1),
+        (3, &[], &[1, 2, 3], 3, 0),
         // more keys of the same prefixes split nothing more
-        (0, &[], &[1, 2, 3, 4, 5], 3),
+        (0, &[], &[1, 2, 3, 4, 5], 3, 3),
         // 000, 001 and 010: the empty prefix and 0
-        (0, &[], &[1, 8192, 16384], 2),
+        (0, &[], &[1, 8192, 16384], 2, 2),
         // 000, 010 and 100: the empty prefix alone
-        (0, &[], &[32768, 1, 16384], 1),
+        (0, &[], &[32768, 1, 16384], 1, 1),
         // the opening has split the empty prefix, 0 and 00
-        (0, &[1, 2, 3], &[4, 5], 0),
+        (0, &[1, 2, 3], &[4, 5], 3, 0),
         // the third key of 00 comes with the inserts, and the empty prefix was split by 100
-        (0, &[1, 8192, 32768], &[8193], 2),
+        (0, &[1, 8192, 32768], &[8193], 3, 2),
         // a key that is there already
-        (0, &[1, 2], &[2, 1], 0),
-        (0, &[1, 2], &[2, 3], 3),
+        (0, &[1, 2], &[2, 1], 0, 0),
+        (0, &[1, 2], &[2, 3], 3, 3),
     ];
-    for (start, first, inserted, splits) in cases {
-        let first = pairs(rt.alloc(), first)?;
-        let calls = inserts(rt.alloc(), inserted)?;
-        let found = splits_of(rt.alloc(), &rules, start.min(rules.depth), &first, &calls)?;
-        assert_eq!(rt; found, splits, "{start} {first:?} {inserted:?}");
+    for (start, first, inserted, depth, splits) in cases {
+        let found = found_of(rt.alloc(), start, first, inserted)?;
+        assert_eq!(rt; found.depth, depth, "{start} {first:?} {inserted:?}");
+        assert_eq!(rt; found.splits, splits, "{start} {first:?} {inserted:?}");
+    }
+    Ok(())
+}
+
+// The depth is that of all keys of the batch, and at least the starting one.
+#[test]
+fn depths_of_worked_batches(rt: HostRuntime) -> Result<(), Fail> {
+    let cases: [Batch<'_>; 9] = [
+        // the starting depth is the greatest
+        (3, &[], &[], 3, 0),
+        (3, &[1, 2, 3], &[4], 3, 0),
+        // keys that split shorter prefixes need no more than the starting depth
+        (1, &[32768, 1, 16384], &[], 1, 0),
+        (2, &[], &[1, 8192, 16384], 2, 0),
+        // the pairs alone need what they would need as inserts, where no key is new
+        (0, &[1, 2, 3], &[], 3, 0),
+        (0, &[1, 8192, 16384], &[16384, 1], 2, 0),
+        // the pairs split the empty prefix, and with the insert 0 is split too
+        (0, &[1, 16384, 32768], &[8192], 2, 1),
+        // the pairs split the empty prefix, 0 and 00, and the inserts split 1 and 10
+        (0, &[1, 2, 3], &[32768, 32769, 32770], 3, 2),
+        // the pairs need none, and neither do the inserts
+        (0, &[1], &[32768], 0, 0),
+    ];
+    for (start, first, inserted, depth, splits) in cases {
+        let found = found_of(rt.alloc(), start, first, inserted)?;
+        assert_eq!(rt; found.depth, depth, "{start} {first:?} {inserted:?}");
+        assert_eq!(rt; found.splits, splits, "{start} {first:?} {inserted:?}");
     }
     Ok(())
 }
@@ -96,13 +137,14 @@ fn keys_count_and_not_hashes(rt: HostRuntime) -> Result<(), Fail> {
     };
     let other = Key { k0: 7, ..key(1) };
     let one = (1, Call::Insert(key(1), 0));
-    for (call, splits) in [
-        (Call::Remove(other), 0),
-        (Call::Lookup(other), 0),
-        (Call::Insert(other, 0), 1),
+    for (call, depth, splits) in [
+        (Call::Remove(other), 0, 0),
+        (Call::Lookup(other), 0, 0),
+        (Call::Insert(other, 0), 1, 1),
     ] {
         let found = splits_of(rt.alloc(), &rules, 0, &[], &[one, (2, call)])?;
-        assert_eq!(rt; found, splits, "{call:?}");
+        assert_eq!(rt; found.depth, depth, "{call:?}");
+        assert_eq!(rt; found.splits, splits, "{call:?}");
     }
     Ok(())
 }
@@ -126,9 +168,9 @@ fn rows_of_worked_needs(rt: HostRuntime) -> Result<(), Fail> {
     Ok(())
 }
 
-// Two seats share three inserts of one prefix, which split three; a lookup needs no row. Given rows are each seat's.
+// Two seats share three inserts of one prefix, which split three and need every depth; a lookup needs no row.
 #[test]
-fn rows_of_each_share(rt: HostRuntime) -> Result<(), Fail> {
+fn sizes_of_each_share(rt: HostRuntime) -> Result<(), Fail> {
     let settings = Settings::new(2, 2, 3, 0)?;
     let hashing = Hashing::Ports(0);
     let calls = inserts(rt.alloc(), &[1, 2, 3])?;
@@ -137,33 +179,68 @@ fn rows_of_each_share(rt: HostRuntime) -> Result<(), Fail> {
     let even = inserts(rt.alloc(), &[2])?;
     let shares = vec![in rt.alloc(); odd, even]?;
     // 8 new leaves; automatic are 2u + 16 + 8 bucket rows, 24 bucket words
-    let found = rows_for(rt.alloc(), &settings, hashing, None, &[], &calls, &shares)?;
+    let found = sizes_for(rt.alloc(), &settings, hashing, None, &[], &calls, &shares)?;
     let want = |op_rows, bucket_rows, directory_rows| SeatRows {
         op_rows,
         bucket_rows,
         bucket_words: 14,
         directory_rows,
     };
+    assert_eq!(rt; found.settings, settings);
     assert_eq!(rt;
-        found.as_slice(),
+        found.rows.as_slice(),
         [want(2, 17, 2), want(1, 16, 1)].as_slice()
     );
+    Ok(())
+}
+
+// Two keys have room in the bucket that the table begins with, so that it needs no depth.
+#[test]
+fn sizes_where_nothing_is_split(rt: HostRuntime) -> Result<(), Fail> {
+    let settings = Settings::new(2, 2, 3, 0)?;
+    let hashing = Hashing::Ports(0);
+    let calls = inserts(rt.alloc(), &[1, 2])?;
+    let odd = inserts(rt.alloc(), &[1])?;
+    let even = inserts(rt.alloc(), &[2])?;
+    let shares = vec![in rt.alloc(); odd, even]?;
+    let found = sizes_for(rt.alloc(), &settings, hashing, None, &[], &calls, &shares)?;
+    // 2 new leaves; automatic are 2u + 2 + 2 bucket rows, 4 bucket words
+    let want = SeatRows {
+        op_rows: 1,
+        bucket_rows: 4,
+        bucket_words: 2,
+        directory_rows: 1,
+    };
+    assert_eq!(rt; found.settings, Settings::new(2, 2, 0, 0)?);
+    assert_eq!(rt; found.rows.as_slice(), [want, want].as_slice());
+    Ok(())
+}
+
+// Rows that are given are each seat's, in a table of the settings as they are.
+#[test]
+fn sizes_of_given_rows(rt: HostRuntime) -> Result<(), Fail> {
+    let settings = Settings::new(2, 2, 3, 1)?;
+    let calls = inserts(rt.alloc(), &[1, 2])?;
+    let odd = inserts(rt.alloc(), &[1])?;
+    let even = inserts(rt.alloc(), &[2])?;
+    let shares = vec![in rt.alloc(); odd, even]?;
     let given = SeatRows {
         op_rows: 9,
         bucket_rows: 8,
         bucket_words: 7,
         directory_rows: 6,
     };
-    let found = rows_for(
+    let found = sizes_for(
         rt.alloc(),
         &settings,
-        hashing,
+        Hashing::Ports(0),
         Some(given),
         &[],
         &calls,
         &shares,
     )?;
-    assert_eq!(rt; found.as_slice(), [given, given].as_slice());
+    assert_eq!(rt; found.settings, settings);
+    assert_eq!(rt; found.rows.as_slice(), [given, given].as_slice());
     Ok(())
 }
 
