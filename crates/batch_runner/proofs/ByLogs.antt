@@ -1,6 +1,6 @@
 -- The outcomes of a batch in packet order are those of its logs: there are such outcomes, and their totals are those of
 -- the logs, one after the other.
-use Rattle.std.proofs.Common.{◌≡◌, ℕ, suc, zero, ◌<◌, ◌≤◌, ◌+◌, max, Bool, true, false, cond, ◌==◌, List, [], ◌∷◌, ◌++◌, length, map, set, get_or, filter, refl, sym, ap, ◌∙◌, subst, inl, inr, add-zero, arith}
+use Rattle.std.proofs.Common.{◌≡◌, ℕ, suc, zero, ◌<◌, ◌≤◌, ◌+◌, max, Bool, true, false, cond, ◌==◌, List, [], ◌∷◌, ◌++◌, length, map, set, get_or, filter, refl, sym, ap, ◌∙◌, subst, inl, inr, add-zero, zero-add, arith}
 use Rattle.std.specs.Prelude.{All, flat_map}
 use Rattle.std.specs.List.{range_with_len}
 use Rattle.std.proofs.lemmas.Bool.{cases_eq}
@@ -193,4 +193,6 @@ pub same_totals : (calls : List (ℕ × Call)) (logs : List (List Outcome)) (out
     AreInPacketOrder calls logs outcomes →
     totals_of (flat_map (λ (log : List Outcome). log) logs) ≡ totals_of (map (λ (o : ℕ × Outcome). o.1) outcomes)
 same_totals calls logs outcomes are =
-    ap totals_of (sym (told_lists logs (of_seat outcomes) 0 are.each)) ∙ sym (by_seats (length logs) outcomes are.seats)
+    ap totals_of (sym (told_lists logs (of_seat outcomes) 0
+    (λ (s : ℕ) (less : s < length logs). ap (of_seat outcomes) (zero-add s) ∙ are.each s less)))
+    ∙ sym (by_seats (length logs) outcomes are.seats)

@@ -1,3 +1,4 @@
+pub mod Alike
 pub mod Closings
 pub mod Rights
 pub mod Counted

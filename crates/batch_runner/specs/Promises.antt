@@ -1,7 +1,8 @@
 -- What holds of batches that were served, whatever the interleaving: one right order of all calls, steps within the
 -- bound, and leaves that cover and have their cause.
-use Rattle.std.specs.Prelude.{◌≡◌, List, [], map, flat_map, All}
+use Rattle.std.specs.Prelude.{◌≡◌, ◌≤◌, List, [], map, flat_map, All}
 use Rattle.std.specs.FinMap.{empty}
+use Rattle.step_counts.specs.StepCounts.{step_bound}
 use Rattle.plain_map.specs.PlainObject.{Sessions, pairs_of}
 use Rattle.core_model.specs.Promises.{HasSteps}
 use Rattle.core_model.specs.Closed.{Cover, Warranted, greatest_depth}
@@ -10,10 +11,12 @@ use Rattle.batch_orders.specs.Batches.{AreOneOrder}
 use Rattle.batch_runner.specs.declared.service.Service.{Service}
 use Rattle.batch_runner.specs.Served.{Served, AreServed, history_in, leaves_in, depth_in, order_in, pairs_left, rules_of, setup_of_batch}
 
--- one batch: each update took no more steps than the bound and each lookup exactly its own; the leaves of the closed
--- table cover all hashes, each that is deeper than the start has its cause, and the directory is as deep as the deepest
+-- one batch: each update took no more steps than the bound of its table, which is no greater than that of the settings,
+-- and each lookup exactly its own; the leaves of the closed table cover all hashes, each that is deeper than the start
+-- has its cause, and the directory is as deep as the deepest
 pub record IsSound (service : Service) (batch : Served) : Type 0 where
   pub steps : All (HasSteps (setup_of_batch service batch) batch.words) (flat_map records_in batch.logs)
+  pub bound : step_bound batch.settings ≤ step_bound service.settings
   pub cover : Cover (leaves_in service batch)
   pub warranted :
       Warranted (rules_of service) service.settings.start batch.first (order_in service batch) (leaves_in service batch)

@@ -3,6 +3,7 @@
 -- Source: this project's own. A call is its packet's number and what is asked.
 use Rattle.std.specs.Prelude.{◌≡◌, ℕ, ◌<◌, ◌==◌, List, [], ◌∷◌, length, map, filter, slice_index_or, All, IsPermutation}
 use Rattle.std.specs.List.Sorted.{IsSortedByKey}
+use Rattle.step_counts.specs.declared.settings.Settings.{Settings}
 use Rattle.step_counts.specs.StepCounts.{need_of}
 use Rattle.plain_map.specs.declared.calls.Call.{Call}
 use Rattle.plain_map.specs.declared.keys.Pair.{Pair}
@@ -25,9 +26,10 @@ use Rattle.trace_share.specs.Deal.{dealt}
 use Rattle.trace_share.specs.Outcomes.{asked_in, records_in, RefusedByRoom}
 use Rattle.batch_orders.specs.Batches.{Batch}
 use Rattle.batch_rows.specs.BatchRows.{rules_in, rows_of}
+use Rattle.batch_rows.specs.Depths.{IsTableFor}
 use Rattle.batch_runner.specs.declared.service.Service.{Service}
 
--- the rules of the plain map that the table keeps
+-- the rules of the plain map that the service keeps
 abbrev pub rules_of : Service → Rules
 rules_of service = rules_in service.settings service.hashing
 
@@ -41,15 +43,17 @@ pub record CanOpen (rules : Rules) (first : List Pair) : Type 0 where
 abbrev pub shares_of : Service → List (ℕ × Call) → List (List (ℕ × Call))
 shares_of service calls = dealt service.share service.settings.seats calls
 
--- what the table of a batch is opened with
-abbrev pub setup_in : Service → (first : List Pair) → (calls : List (ℕ × Call)) → Setup
-setup_in service first calls =
-    setup_of service.settings service.hashing
-    (rows_of service.settings service.hashing service.rows first calls (shares_of service calls)) first
+-- what a table of a batch is opened with that has these settings
+abbrev pub setup_in : Service → Settings → (first : List Pair) → (calls : List (ℕ × Call)) → Setup
+setup_in service settings first calls =
+    setup_of settings service.hashing
+    (rows_of settings service.hashing service.rows first calls (shares_of service calls)) first
 
--- a batch: the pairs that its table begins with, its calls in packet order; what each seat's calls came to, the words
--- of the closed table; all outcomes in packet order, each with its seat; and the pairs that are left
+-- a batch: the settings of its table, the pairs that this begins with, its calls in packet order; what each seat's
+-- calls came to, the words of the closed table; all outcomes in packet order, each with its seat; and the pairs that are
+-- left
 pub record Served : Type 0 where
+  pub settings : Settings
   pub first : List Pair
   pub calls : List (ℕ × Call)
   pub logs : List (List Outcome)
@@ -59,7 +63,7 @@ pub record Served : Type 0 where
 
 -- its table
 abbrev pub setup_of_batch : Service → Served → Setup
-setup_of_batch service batch = setup_in service batch.first batch.calls
+setup_of_batch service batch = setup_in service batch.settings batch.first batch.calls
 
 abbrev pub shape_in : Service → Served → Shape
 shape_in service batch = (setup_of_batch service batch).shape
@@ -80,7 +84,7 @@ pub record IsOfRun (service : Service) (batch : Served) : Type 0 where
       map records_in batch.logs
       ≡ map (λ (state : SeatState). state.account.records) (world_in service batch events).seats
   pub refused : (seat : ℕ) → seat < service.settings.seats →
-      RefusedByRoom (sizes_of (shape_in service batch) seat) (need_of service.settings) []
+      RefusedByRoom (sizes_of (shape_in service batch) seat) (need_of batch.settings) []
       (seat_in (world_in service batch events) seat).account.spent (slice_index_or batch.logs seat [])
 
 -- the outcomes of all seats in the order of these calls, each with its seat: one for each call, and those of a seat are
@@ -92,8 +96,9 @@ pub record AreInPacketOrder (calls : List (ℕ × Call)) (logs : List (List Outc
   pub each : (seat : ℕ) → seat < length logs →
       map (λ o. o.1) (filter (λ o. o.0 == seat) outcomes) ≡ slice_index_or logs seat []
 
--- the batch was served so
+-- the batch was served so, on a table with the settings that one of this batch has
 pub record IsServed (service : Service) (batch : Served) : Type 0 where
+  pub table : IsTableFor service.settings service.hashing service.rows batch.first batch.calls batch.settings
   pub of_run : IsOfRun service batch
   pub outcomes : AreInPacketOrder batch.calls batch.logs batch.outcomes
   pub left : IsPermutation (closed_pairs (shape_in service batch) batch.words) batch.pairs

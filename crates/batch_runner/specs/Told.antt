@@ -10,6 +10,7 @@ use Rattle.history_order.specs.Closing.{IsOfARun}
 use Rattle.shared_table.specs.Values.{ClosedValue}
 use Rattle.trace_share.specs.declared.outcome.Outcome.{Outcome}
 use Rattle.trace_share.specs.Outcomes.{asked_in, records_in}
+use Rattle.batch_rows.specs.Depths.{IsTableFor}
 use Rattle.batch_runner.specs.declared.service.Service.{Service}
 use Rattle.batch_runner.specs.declared.batch.Batch.{Batch}
 use Rattle.batch_runner.specs.Totals.{totals_of}
@@ -27,13 +28,15 @@ pub record IsToldBy (service : Service) (served : Served) (batch : Batch) : Type
 abbrev pub IsOrderOf : Service → Served → List CallId → Type 0
 IsOrderOf service served order = order ≡ ids_of (order_in service served)
 
--- the table of a batch is closed, with these words, and the calls of its seats came to these logs
+-- the table of a batch is closed, with these settings and words, and the calls of its seats came to these logs
 pub record IsClosedBatch (service : Service) (first : List Pair) (calls : List (ℕ × Call)) (closed : ClosedValue)
     (logs : List (List Outcome)) : Type 0 where
-  pub shape_is : closed.shape ≡ (setup_in service first calls).shape
+  pub table : IsTableFor service.settings service.hashing service.rows first calls closed.shape.settings
+  pub shape_is : closed.shape ≡ (setup_in service closed.shape.settings first calls).shape
   pub asked : map (map asked_in) logs ≡ shares_of service calls
   -- they are what a run of the table leaves, whatever is told of it
   pub of_run : (outcomes : List (ℕ × Outcome)) (pairs : List Pair) → IsOfRun service (record {
+    settings = closed.shape.settings;
     first = first;
     calls = calls;
     logs = logs;
@@ -42,20 +45,21 @@ pub record IsClosedBatch (service : Service) (first : List Pair) (calls : List (
     pairs = pairs;
   })
   pub of_a_run : IsOfARun closed.shape closed.words (map records_in logs) []
-  pub shallow : closed_depth closed.shape closed.words ≤ service.settings.depth
+  pub shallow : closed_depth closed.shape closed.words ≤ closed.shape.settings.depth
 
 -- outcomes that are read where they stand in the logs, each with its seat
 abbrev pub read_there : List (ℕ × Bor Outcome) → List (ℕ × Outcome)
 read_there outcomes = map (λ o. (o.0, o.1.now)) outcomes
 
--- a batch of which this is told, with these outcomes in packet order
+-- a batch of which this is told, with this closed table and these outcomes in packet order
 abbrev pub served_with : (first : List Pair) → (calls : List (ℕ × Call)) → (logs : List (List Outcome)) →
-    (words : List ℕ) → (outcomes : List (ℕ × Outcome)) → Batch → Served
-served_with first calls logs words outcomes batch = record {
+    (closed : ClosedValue) → (outcomes : List (ℕ × Outcome)) → Batch → Served
+served_with first calls logs closed outcomes batch = record {
+  settings = closed.shape.settings;
   first = first;
   calls = calls;
   logs = logs;
-  words = words;
+  words = closed.words;
   outcomes = outcomes;
   pairs = batch.pairs.items;
 }

@@ -6,9 +6,11 @@ ghost use Rattle.plain_map.specs.Calls.{key_in};
 ghost use Rattle.plain_map.specs.Serving.{IsAskable};
 ghost use Rattle.flow_keys.specs.FlowText.{HasText};
 ghost use Rattle.word_rows.specs.Shape.{AreBelow};
+ghost use Rattle.core_model.specs.Setup.{settings_of};
 ghost use Rattle.shared_table.specs.Values.{new_seats};
 ghost use Rattle.report_text.specs.Report.{batch_lines};
 ghost use Rattle.trace_share.specs.declared.outcome.Outcome.{Outcome as AnOutcome};
+ghost use Rattle.batch_rows.specs.Depths.{IsTableFor};
 ghost use Rattle.batch_rows.specs.declared.rows.TheConstants.{CALL_LIMIT};
 ghost use Rattle.batch_runner.specs.Served.{AreInPacketOrder, CanOpen, IsServed, Served, rules_of, setup_in, shares_of};
 ghost use Rattle.batch_runner.specs.Printed.{lines_of};
@@ -21,7 +23,7 @@ use crate::text::put_lines;
 use crate::totals::Totals;
 use crate::workers::serve_shares;
 use crate::workspace::Workspace;
-use batch_rows::rows_for;
+use batch_rows::sizes_for;
 use edge_traits::Gate;
 use plain_map::{Call, CallId, MOST_SEATS, OpenFault, Pair};
 use shared_table::{ClosedTable, Directory, Seat, order_laws};
@@ -203,11 +205,11 @@ fn told(
         × AreInPacketOrder calls.now (map (λ log. log.items) logs.now) outcomes) }
     ensures served { IfOk result (λ batch. (outcomes : List (ℕ × AnOutcome)) →
         AreInPacketOrder calls.now (map (λ log. log.items) logs.now) outcomes →
-        IsServed service.now (served_with first.now calls.now (map (λ log. log.items) logs.now) closed.now.words
+        IsServed service.now (served_with first.now calls.now (map (λ log. log.items) logs.now) closed.now
         outcomes batch)) }
     ensures told { IfOk result (λ batch. (outcomes : List (ℕ × AnOutcome)) →
         AreInPacketOrder calls.now (map (λ log. log.items) logs.now) outcomes →
-        IsToldBy service.now (served_with first.now calls.now (map (λ log. log.items) logs.now) closed.now.words
+        IsToldBy service.now (served_with first.now calls.now (map (λ log. log.items) logs.now) closed.now
         outcomes batch) batch) }
 {
     Ok(Batch {
@@ -232,10 +234,13 @@ fn opened(
     requires few { length calls.now < CALL_LIMIT }
     requires opens { CanOpen (rules_of service.now) first.now }
     requires shares { map (λ share. share.items) shares.now ≡ shares_of service.now calls.now }
-    ensures setup { IfOk result (λ made. made.0.setup ≡ setup_in service.now first.now calls.now) }
+    ensures table { IfOk result (λ made. IsTableFor service.now.settings service.now.hashing service.now.rows
+        first.now calls.now (settings_of made.0.setup)) }
+    ensures setup { IfOk result (λ made.
+        made.0.setup ≡ setup_in service.now (settings_of made.0.setup) first.now calls.now) }
     ensures seats { IfOk result (λ made. made.1.items ≡ new_seats made.0 0 service.now.settings.seats) }
 {
-    let rows = rows_for(
+    let sizes = sizes_for(
         alloc,
         &service.settings,
         service.hashing,
@@ -247,9 +252,9 @@ fn opened(
     match Directory::open_in(
         alloc,
         &mut workspace.blank,
-        &service.settings,
+        &sizes.settings,
         service.hashing,
-        &rows,
+        &sizes.rows,
         first,
     ) {
         Ok(made) => Ok(made),

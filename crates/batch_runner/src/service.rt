@@ -7,7 +7,7 @@ use trace_share::Share;
 /// How the calls of each batch are served.
 #[derive(Clone, Copy, Debug, PartialEq, Eq)]
 pub struct Service {
-    /// Of the table.
+    /// Of each table, but for its greatest depth where `rows` is `None`: then this is the greatest that one has.
     pub settings: Settings,
     pub hashing: Hashing,
     /// Which seat makes which call.

@@ -1,18 +1,16 @@
-use Rattle.std.proofs.Common.{◌≡◌, ℕ, ◌<◌, ◌≤◌, ◌^◌, List, [], Vec, Global, length, map, vec_len, sym, ap, ◌∙◌, subst, arith}
+use Rattle.std.proofs.Common.{◌≡◌, ℕ, ◌<◌, ◌^◌, List, Vec, Global, length, map, vec_len, sym, ap, ◌∙◌, subst, arith}
 use Rattle.std.specs.Prelude.{All}
 use Rattle.std.proofs.lemmas.List.{length-map}
 use Rattle.plain_map.specs.declared.calls.Call.{Call}
 use Rattle.plain_map.specs.Serving.{IsAskable}
 use Rattle.word_rows.specs.Shape.{Shape}
-use Rattle.core_model.specs.Closed.{closed_depth}
-use Rattle.history_order.specs.Closing.{IsOfARun}
 use Rattle.shared_table.specs.SeatValues.{SeatValue}
 use Rattle.shared_table.specs.Values.{TableValue, new_seats}
 use Rattle.trace_share.specs.declared.outcome.Outcome.{Outcome}
-use Rattle.trace_share.specs.Outcomes.{records_in}
 use Rattle.batch_runner.specs.declared.service.Service.{Service}
+use Rattle.batch_runner.specs.Told.{IsClosedBatch}
 use Rattle.batch_runner.proofs.Deals.{dealt_hold, few_items, long_dealt, of_items}
-use Rattle.batch_runner.proofs.Ended.{all_of_table, all_seats, asked_are, depth_few, of_a_run, of_run}
+use Rattle.batch_runner.proofs.Ended.{all_of_table, all_seats, closed_batch}
 use Rattle.batch_runner.proofs.Working.{long_new}
 use Rattle.batch_runner.proofs.batch.close_batch.Goals as goal
 
@@ -111,8 +109,8 @@ close_in_place-closed-requires-clause-all g c =
     let out : Vec Outcome Global → List Outcome = λ (log : Vec Outcome Global). log.items in
     let logs : List (List Outcome) = map out c.in_ok-seats.logs.items in
     let seats : List SeatValue = c.in_ok-seats.seats.items in
-    c.in_ok-seats.seats.ok.0 ∙ all_seats service c.args.first.now calls d c.in_ok-directory.ensures.setup shares
-    c.requires.shares seats logs c.in_ok-seats.ensures
+    c.in_ok-seats.seats.ok.0 ∙ all_seats service c.args.first.now calls d c.in_ok-directory.ensures.table
+    c.in_ok-directory.ensures.setup shares c.requires.shares seats logs c.in_ok-seats.ensures
 
 pub returns : goal.returns
 returns g c =
@@ -130,13 +128,7 @@ returns g c =
     let made = c.in_ok-seats.ensures in
     let words : List ℕ = c.close_in_place-closed.result.words in
     let ran = c.close_in_place-closed.ensures.ran in
-    let shape = c.close_in_place-closed.ensures.shape ∙ ap (λ s. s.shape) setup_is in
-    record {
-      shape_is = shape;
-      asked = asked_are service first calls d setup_is shares shares_are seats logs made;
-      of_run = of_run service first calls d setup_is shares shares_are seats logs made words ran;
-      of_a_run = subst (λ (s : Shape). IsOfARun s words (map records_in logs) []) (sym shape)
-          (of_a_run service first calls d setup_is shares shares_are seats logs made words ran c.order_laws.ensures);
-      shallow = subst (λ (s : Shape). closed_depth s words ≤ service.settings.depth) (sym shape)
-          (depth_few service first calls d setup_is shares shares_are seats logs made words ran);
-    }
+    let table = c.in_ok-directory.ensures.table in
+    subst (λ (s : Shape). IsClosedBatch service first calls (record { shape = s; words = words }) logs)
+    (sym c.close_in_place-closed.ensures.shape)
+    (closed_batch service first calls d table setup_is shares shares_are seats logs made words ran c.order_laws.ensures)

@@ -50,7 +50,7 @@ returns-clause-served g c =
     (λ (ls : List (Vec Outcome Global)). AreInPacketOrder c.args.calls.now (items_of ls) outcomes)
     (c.deref.ensures.value ∙ sym c.deref-2.ensures.value) c.in_ok-outcomes.ensures in
     let served : Served = served_with c.args.first.now c.args.calls.now (items_of c.deref-2.result.now)
-    c.in_ok-closed.closed.words outcomes c.in_ok-batch.batch in (
+    c.in_ok-closed.closed outcomes c.in_ok-batch.batch in (
       served,
       refl,
       refl,

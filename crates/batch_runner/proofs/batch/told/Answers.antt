@@ -21,7 +21,7 @@ counts_of-requires c =
 
 pub overflow_cast-result : goal.overflow_cast-result
 overflow_cast-result c =
-    omega (arith, c.depth.ensures, c.requires.closed.shallow, c.args.service.now.settings.depth_in_range.1)
+    omega (arith, c.depth.ensures, c.requires.closed.shallow, c.args.closed.now.shape.settings.depth_in_range.1)
 
 abbrev item : Vec Outcome Global → List Outcome
 item log = log.items
@@ -51,6 +51,7 @@ of-requires c =
 
 pub returns-clause-served : goal.returns-clause-served
 returns-clause-served c = λ outcomes ordered. record {
+  table = c.requires.closed.table;
   of_run = c.requires.closed.of_run outcomes c.in_ok-pairs.field-0.items;
   outcomes = ordered;
   left = subst (λ (s : Shape). IsPermutation (closed_pairs s c.args.closed.now.words) c.in_ok-pairs.field-0.items)
