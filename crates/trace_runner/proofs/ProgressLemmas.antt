@@ -8,7 +8,6 @@ use Rattle.plain_map.specs.declared.calls.Call.{Call}
 use Rattle.plain_map.specs.declared.keys.Pair.{Pair}
 use Rattle.plain_map.specs.declared.records.Record.{Record}
 use Rattle.bucket_states.specs.Parts.{HasDistinctKeys}
-use Rattle.trace_share.specs.declared.outcome.Outcome.{Outcome}
 use Rattle.trace_share.specs.Outcomes.{asked_in, records_in}
 use Rattle.report_text.specs.Report.{Batch as Lines, batch_lines, head_line}
 use Rattle.batch_orders.specs.Batches.{answered_then, with_counts}
@@ -106,16 +105,6 @@ HasServed-none service progress before pairs totals leaves depth opens =
 pub as_many : (service : Service) (served : Served) → IsServed service served →
     length served.outcomes ≡ length served.calls
 as_many service served is = sym (length-map served.outcomes (λ o. asked_in o.1)) ∙ ap length is.outcomes.asked
-
--- they are counted
-pub are_counted : (service : Service) (served : Served) (batch : Batch) → IsServed service served →
-    IsToldBy service served batch → (outcomes : List Outcome) × (batch.totals ≡ totals_of outcomes)
-    × (length outcomes ≡ length served.calls)
-are_counted service served batch is told = (
-  map (λ o. o.1) served.outcomes,
-  told.totals,
-  length-map served.outcomes (λ o. o.1) ∙ as_many service served is,
-)
 
 -- the counts of a batch are those of its records
 counts_are : (service : Service) (served : Served) (before : List ℕ) →

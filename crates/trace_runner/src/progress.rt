@@ -1,16 +1,14 @@
 //! What is kept of the batches that were served.
 
-ghost use Rattle.std.specs.Prelude.{◌≡◌, ◌≤◌, ◌<◌, ◌^◌, ◌+◌, List, [], ◌∷◌, ◌++◌, length, All, OnOk};
+ghost use Rattle.std.specs.Prelude.{◌≡◌, ◌≤◌, ◌<◌, ◌^◌, ◌+◌, List, [], ◌∷◌, ◌++◌, length, map, All, OnOk};
 ghost use Rattle.std.specs.Option.{ForSome};
 ghost use Rattle.plain_map.specs.Serving.{IsAskable};
 ghost use Rattle.word_rows.specs.Shape.{AreBelow};
-ghost use Rattle.trace_share.specs.declared.outcome.Outcome.{Outcome as AnOutcome};
 ghost use Rattle.report_text.specs.Report.{batch_lines};
 ghost use Rattle.batch_runner.specs.declared.service.Service.{Service};
-ghost use Rattle.batch_runner.specs.Served.{IsServed, Served};
+ghost use Rattle.batch_runner.specs.Served.{IsServed, Served, shares_of};
 ghost use Rattle.batch_runner.specs.Printed.{lines_of};
 ghost use Rattle.batch_runner.specs.Told.{CanGoOn, IsToldBy};
-ghost use Rattle.batch_runner.specs.Totals.{totals_of};
 ghost use Rattle.trace_runner.specs.declared.intake.TheConstants.{BATCH, PACKET_LIMIT};
 
 use batch_runner::{Batch, Service, Totals, Workspace, go_on, print_batch, try_batch};
@@ -88,7 +86,7 @@ impl Progress {
         Ok(())
     }
 
-    /// Serves the calls of one batch more, and prints nothing.
+    /// Serves the calls of one batch more, which are dealt already, and prints nothing.
     pub fn try_calls<R: Threads + Sync, G: Gate + Sync>(
         &mut self,
         rt: &R,
@@ -96,6 +94,7 @@ impl Progress {
         service: &Service,
         workspace: &mut Workspace,
         calls: &[(u32, Call)],
+        shares: Vec<Vec<(u32, Call)>>,
         gate: &G,
     ) -> Result<(), AllocError>
         requires given { ForSome service.now.rows (AreBelow (2 ^ 32)) }
@@ -104,13 +103,23 @@ impl Progress {
         requires texts { HasTexts calls.now }
         requires going { IsGoing service.now self.old }
         requires all { self.old.totals.calls ≤ PACKET_LIMIT }
+        requires shares { map (λ share. share.items) shares.items ≡ shares_of service.now calls.now }
         ensures served { OnOk result ((batches : List Served) → HasServed service.now self.old batches →
             (served : Served) × (served.calls ≡ calls.now)
             × HasServed service.now self.new (batches ++ served ∷ [])) }
         ensures going { OnOk result (IsGoing service.now self.new) }
         ensures counted { OnOk result (self.new.totals.calls ≡ self.old.totals.calls + length calls.now) }
     {
-        let batch = try_batch(rt, alloc, service, workspace, &self.pairs, calls, gate)?;
+        let batch = try_batch(
+            rt,
+            alloc,
+            service,
+            workspace,
+            &self.pairs,
+            calls,
+            shares,
+            gate,
+        )?;
         self.keep(service, calls, batch);
         Ok(())
     }
@@ -121,8 +130,6 @@ impl Progress {
         requires texts { HasTexts calls.now }
         requires going { IsGoing service.now self.old }
         requires all { self.old.totals.calls ≤ PACKET_LIMIT }
-        requires asked { (outcomes : List AnOutcome) × (batch.totals ≡ totals_of outcomes)
-            × (length outcomes ≡ length calls.now) }
         requires goes_on { CanGoOn service.now calls.now batch }
         ensures served { (batches : List Served) (served : Served) → HasServed service.now self.old batches →
             served.first ≡ self.old.pairs.items → served.calls ≡ calls.now → IsServed service.now served →

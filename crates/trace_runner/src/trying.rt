@@ -8,7 +8,7 @@ ghost use Rattle.pcap_reader.specs.Reading.{IsAtStart};
 ghost use Rattle.plain_map.specs.declared.calls.Call.{Call as ACall};
 ghost use Rattle.plain_map.specs.Serving.{IsAskable};
 ghost use Rattle.word_rows.specs.Shape.{AreBelow};
-ghost use Rattle.batch_runner.specs.Served.{Served};
+ghost use Rattle.batch_runner.specs.Served.{Served, shares_of};
 ghost use Rattle.command_line.specs.Words.{IsInRange};
 ghost use Rattle.trace_runner.specs.Batches.{AreOfBatches, batch_count, batch_length};
 ghost use Rattle.trace_runner.specs.Reading.{AreBetween, HaveCome, IsBatchRead};
@@ -30,6 +30,7 @@ use report_text::{Ending, Trial, trial_text};
 use std::alloc::{AllocError, Global};
 use std::mem;
 use std::thread::{Threads, join_mut};
+use trace_share::deal;
 
 /// Serves the made capture of the plan, and puts how many calls had each reply.
 pub(crate) fn try_plan<R: Threads + Sync, K: Sink, G: Gate + Sync>(
@@ -86,7 +87,15 @@ struct Tried {
     ending: Ending,
 }
 
-/// Serves the packets behind a file head. While the calls of a batch are served, the next batch is read.
+/// A batch that was read, whose calls are dealt.
+#[derive(Drop)]
+struct Read {
+    part: Part,
+    /// The calls of each seat, seat 0 first, each seat's in their order.
+    shares: Vec<Vec<(u32, Call)>>,
+}
+
+/// Serves the packets behind a file head. While the calls of a batch are served, the next batch is read and dealt.
 fn try_packets<R: Threads + Sync, S: Source + Send, G: Gate + Sync>(
     rt: &R,
     alloc: Global,
@@ -108,11 +117,11 @@ fn try_packets<R: Threads + Sync, S: Source + Send, G: Gate + Sync>(
     let mut calls = Vec::with_capacity(alloc, BATCH as usize)?;
     let mut next = Vec::with_capacity(alloc, BATCH as usize)?;
     let mut packets = 0;
-    let mut part = read_batch(reader, source, packets, PACKET_LIMIT, &mut calls)?;
+    let mut read = read_and_deal(alloc, service, reader, source, packets, &mut calls)?;
     'batches: loop {
-        match part.ending {
+        match read.part.ending {
             Some(ending) => {
-                let numbers = (packets, part.packets);
+                let numbers = (packets, read.part.packets);
                 match try_last(
                     rt,
                     alloc,
@@ -121,6 +130,7 @@ fn try_packets<R: Threads + Sync, S: Source + Send, G: Gate + Sync>(
                     &mut workspace,
                     numbers,
                     &calls,
+                    read.shares,
                     gate,
                 ) {
                     Ok(progress) => return Ok(Tried { progress, ending }),
@@ -128,15 +138,16 @@ fn try_packets<R: Threads + Sync, S: Source + Send, G: Gate + Sync>(
                 }
             }
             None => {
-                packets += part.packets;
+                packets += read.part.packets;
                 next.clear();
-                part = try_and_read(
+                read = try_and_read(
                     rt,
                     alloc,
                     service,
                     &mut progress,
                     &mut workspace,
                     &calls,
+                    read.shares,
                     gate,
                     reader,
                     source,
@@ -149,8 +160,32 @@ fn try_packets<R: Threads + Sync, S: Source + Send, G: Gate + Sync>(
     }
 }
 
+/// Reads the next batch, behind so many packets, into a list that is empty, and deals its calls.
+fn read_and_deal<S: Source>(
+    alloc: Global,
+    service: &Service,
+    reader: &mut Reader,
+    source: &mut S,
+    before: u32,
+    next: &mut Vec<(u32, Call)>,
+) -> Result<Read, AllocError>
+    requires reads { reader.old.ended ≡ false }
+    requires stands { reader.old.given ≡ before }
+    requires room { before < PACKET_LIMIT }
+    requires none { next.old.items ≡ [] }
+    ensures read { IfOk result (λ read. IsBatchRead PACKET_LIMIT (S.left source.old) (S.left source.new)
+        (S.faults source.old) (S.faults source.new) reader.old reader.new before next.new.items read.part) }
+    ensures dealt { IfOk result (λ read. map (λ share. share.items) read.shares.items
+        ≡ shares_of service.now next.new.items) }
+    ensures counted { S.faults source.old ≤ S.faults source.new }
+{
+    let part = read_batch(reader, source, before, PACKET_LIMIT, next)?;
+    let shares = deal(alloc, service.share, service.settings.seats, next)?;
+    Ok(Read { part, shares })
+}
+
 /// Serves the calls of a batch, while a thread of its own reads the next batch, behind so many packets, into a list
-/// that is empty. Where no thread can be made, this one does both.
+/// that is empty, and deals its calls. Where no thread can be made, this one does both.
 fn try_and_read<R: Threads + Sync, S: Source + Send, G: Gate + Sync>(
     rt: &R,
     alloc: Global,
@@ -158,18 +193,20 @@ fn try_and_read<R: Threads + Sync, S: Source + Send, G: Gate + Sync>(
     progress: &mut Progress,
     workspace: &mut Workspace,
     calls: &[(u32, Call)],
+    shares: Vec<Vec<(u32, Call)>>,
     gate: &G,
     reader: &mut Reader,
     source: &mut S,
     before: u32,
     next: &mut Vec<(u32, Call)>,
-) -> Result<Part, AllocError>
+) -> Result<Read, AllocError>
     requires given { ForSome service.now.rows (AreBelow (2 ^ 32)) }
     requires few { length calls.now ≤ BATCH }
     requires askable { All (λ call. IsAskable call.1) calls.now }
     requires texts { HasTexts calls.now }
     requires going { IsGoing service.now progress.old }
     requires all { progress.old.totals.calls ≤ PACKET_LIMIT }
+    requires shares { map (λ share. share.items) shares.items ≡ shares_of service.now calls.now }
     requires reads { reader.old.ended ≡ false }
     requires stands { reader.old.given ≡ before }
     requires room { before < PACKET_LIMIT }
@@ -179,24 +216,30 @@ fn try_and_read<R: Threads + Sync, S: Source + Send, G: Gate + Sync>(
         × HasServed service.now progress.new (batches ++ served ∷ [])) }
     ensures going { OnOk result (IsGoing service.now progress.new) }
     ensures tallied { OnOk result (progress.new.totals.calls ≡ progress.old.totals.calls + length calls.now) }
-    ensures read { IfOk result (IsBatchRead PACKET_LIMIT (S.left source.old) (S.left source.new)
-        (S.faults source.old) (S.faults source.new) reader.old reader.new before next.new.items) }
+    ensures read { IfOk result (λ read. IsBatchRead PACKET_LIMIT (S.left source.old) (S.left source.new)
+        (S.faults source.old) (S.faults source.new) reader.old reader.new before next.new.items read.part) }
+    ensures dealt { IfOk result (λ read. map (λ share. share.items) read.shares.items
+        ≡ shares_of service.now next.new.items) }
     ensures counted { S.faults source.old ≤ S.faults source.new }
 {
+    let mut shares = shares;
     let (read, tried) = join_mut(
         rt,
-        &mut || -> Result<Part, AllocError>
+        &mut || -> Result<Read, AllocError>
             requires { (reader.now.ended ≡ false) × (reader.now.given ≡ before) × (before < PACKET_LIMIT)
                 × (next.now.items ≡ []) }
-            ensures read { IfOk result (IsBatchRead PACKET_LIMIT (S.left source.entry.now) (S.left source.exit.now)
-                (S.faults source.entry.now) (S.faults source.exit.now) reader.entry.now reader.exit.now before
-                next.exit.now.items) }
+            ensures read { IfOk result (λ read. IsBatchRead PACKET_LIMIT (S.left source.entry.now)
+                (S.left source.exit.now) (S.faults source.entry.now) (S.faults source.exit.now) reader.entry.now
+                reader.exit.now before next.exit.now.items read.part) }
+            ensures dealt { IfOk result (λ read. map (λ share. share.items) read.shares.items
+                ≡ shares_of service.entry.now next.exit.now.items) }
             ensures counted { S.faults source.entry.now ≤ S.faults source.exit.now }
-        { read_batch(reader, source, before, PACKET_LIMIT, next) },
+        { read_and_deal(alloc, service, reader, source, before, next) },
         &mut || -> Result<(), AllocError>
             requires { IsSync R.row × IsSync G.row × ForSome service.now.rows (AreBelow (2 ^ 32))
                 × (length calls.now ≤ BATCH) × All (λ call. IsAskable call.1) calls.now × HasTexts calls.now
-                × IsGoing service.now progress.now × (progress.now.totals.calls ≤ PACKET_LIMIT) }
+                × IsGoing service.now progress.now × (progress.now.totals.calls ≤ PACKET_LIMIT)
+                × (map (λ share. share.items) shares.items ≡ shares_of service.now calls.now) }
             ensures served { OnOk result ((batches : List Served) →
                 HasServed service.entry.now progress.entry.now batches → (served : Served)
                 × (served.calls ≡ calls.entry.now)
@@ -204,7 +247,11 @@ fn try_and_read<R: Threads + Sync, S: Source + Send, G: Gate + Sync>(
             ensures going { OnOk result (IsGoing service.entry.now progress.exit.now) }
             ensures tallied { OnOk result (progress.exit.now.totals.calls
                 ≡ progress.entry.now.totals.calls + length calls.entry.now) }
-        { progress.try_calls(rt, alloc, service, workspace, calls, gate) },
+        {
+            // A closure that may be called again can only take out what it gives away.
+            let shares = mem::replace(&mut shares, Vec::new(alloc));
+            progress.try_calls(rt, alloc, service, workspace, calls, shares, gate)
+        },
     );
     tried?;
     read
@@ -219,6 +266,7 @@ fn try_last<R: Threads + Sync, G: Gate + Sync>(
     workspace: &mut Workspace,
     numbers: (u32, u32),
     calls: &[(u32, Call)],
+    shares: Vec<Vec<(u32, Call)>>,
     gate: &G,
 ) -> Result<Progress, AllocError>
     requires given { ForSome service.now.rows (AreBelow (2 ^ 32)) }
@@ -226,6 +274,7 @@ fn try_last<R: Threads + Sync, G: Gate + Sync>(
     requires all { progress.totals.calls ≤ numbers.0 }
     requires few { (numbers.1 ≤ BATCH) × (numbers.0 + numbers.1 ≤ PACKET_LIMIT) }
     requires between { AreBetween numbers.0 (numbers.0 + numbers.1) calls.now }
+    requires shares { map (λ share. share.items) shares.items ≡ shares_of service.now calls.now }
     ensures { IfOk result (λ last. (batches : List Served) (all : List (ℕ × ACall)) →
         HasServed service.now progress batches →
         AreOfBatches all (map (λ (batch : Served). batch.calls) batches) → batch_length * length batches ≡ numbers.0 →
@@ -237,7 +286,7 @@ fn try_last<R: Threads + Sync, G: Gate + Sync>(
     if numbers.1 == 0 && numbers.0 > 0 {
         return Ok(progress);
     }
-    match progress.try_calls(rt, alloc, service, workspace, calls, gate) {
+    match progress.try_calls(rt, alloc, service, workspace, calls, shares, gate) {
         Ok(()) => Ok(progress),
         Err(memory) => Err(memory),
     }

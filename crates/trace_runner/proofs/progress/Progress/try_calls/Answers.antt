@@ -1,13 +1,6 @@
-use Rattle.std.proofs.Common.{◌++◌, ◌∷◌, [], ap, length, ◌∙◌}
+use Rattle.std.proofs.Common.{◌++◌, ◌∷◌, [], ◌∙◌}
 use Rattle.trace_runner.specs.Progress.{IsGoing}
-use Rattle.trace_runner.proofs.ProgressLemmas.{are_counted}
 use Rattle.trace_runner.proofs.progress.Progress.try_calls.Goals as goal
-
-pub keep-requires-clause-asked : goal.keep-requires-clause-asked
-keep-requires-clause-asked g c =
-    let served = c.in_ok-batch.ensures.served in
-    let counted = are_counted c.args.service.now served.0 c.in_ok-batch.batch served.3 served.4 in
-    (counted.0, counted.1, counted.2 ∙ ap length served.2)
 
 pub returns-clause-served : goal.returns-clause-served
 returns-clause-served g c = λ batches has.
