@@ -20,6 +20,7 @@ use Rattle.batch_thread.specs.Threads.{IsLineOf}
 use Rattle.batch_thread.proofs.Shares.{outcomes_are_lines}
 use Rattle.batch_runner.specs.declared.service.Service.{Service}
 use Rattle.batch_runner.specs.Served.{Served, IsServed, setup_of_batch, shares_of}
+use Rattle.batch_runner.proofs.Alike.{alike}
 use Rattle.batch_runner.proofs.Closings.{numbered}
 
 -- the images of images
@@ -38,20 +39,25 @@ module _ (service : Service) (batch : Served) (is : IsServed service batch) wher
   few_logs = sym (length-map batch.logs (map asked_in)) ∙ ap length is.of_run.asked
       ∙ dealt_long service.share service.settings.seats batch.calls
 
+  -- the table has as many seats as the settings say
+  same_seats : batch.settings.seats ≡ service.settings.seats
+  same_seats = (alike service.settings service.hashing service.rows batch.first batch.calls batch.settings
+      is.table).seats_are
+
   -- with no rows given none of them has a refused call
   pub none_refused : service.rows ≡ None → All NoneRefused batch.logs
   none_refused none = elim (cases_lt 0 service.settings.seats) [
     | inl some ↦ batch_is_answered (setup_of_batch service batch) is.of_run.events batch.calls
         (shares_of service batch.calls) batch.logs
         (deals_each_once service.share service.settings.seats batch.calls some)
-        (ap (λ given. rows_of service.settings service.hashing given batch.first batch.calls
+        (ap (λ given. rows_of batch.settings service.hashing given batch.first batch.calls
         (shares_of service batch.calls)) none)
         (record {
           run = is.of_run.run;
           idle = is.of_run.idle;
           asked = is.of_run.asked;
           records = is.of_run.records;
-          refused = is.of_run.refused;
+          refused = λ seat below. is.of_run.refused seat (omega (arith, below, same_seats));
         })
     | inr no_seat ↦ λ seat d inside. absurd (omega (arith, inside, few_logs, no_seat))
   ]

@@ -138,7 +138,7 @@ module _ (rules : Rules) (keys : List Key) where
       )
 
   -- and none is where it is calm
-  none_from_calm : (depth : ℕ) → IsCalm rules keys depth → crowded_at rules keys depth ≡ 0
+  pub none_from_calm : (depth : ℕ) → IsCalm rules keys depth → crowded_at rules keys depth ≡ 0
   none_from_calm depth calm = count_none (is_crowded rules keys depth) (range_with_len 0 (2 ^ depth)) (λ prefix.
       false_from_ne_true (is_crowded rules keys depth prefix) (λ so.
       let many = ltb-true rules.items
@@ -152,7 +152,7 @@ module _ (rules : Rules) (keys : List Key) where
       ]))
 
   -- behind a calm depth each is calm
-  calm_behind : (few many : ℕ) → few ≤ many → IsCalm rules keys few → IsCalm rules keys many
+  pub calm_behind : (few many : ℕ) → few ≤ many → IsCalm rules keys few → IsCalm rules keys many
   unfolding prefix_of
   calm_behind few many less calm key =
       let fewer = passes_less (λ other. prefix_of rules many other == prefix_of rules many key)

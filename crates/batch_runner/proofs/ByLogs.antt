@@ -9,14 +9,12 @@ use Rattle.std.proofs.lemmas.List.{get_or_default, length-set}
 use Rattle.std.proofs.lemmas.List.Elements.{All-head, All-tail}
 use Rattle.plain_map.specs.declared.calls.Call.{Call}
 use Rattle.plain_map.specs.declared.calls.Call.TheVariants.{Lookup}
-use Rattle.plain_map.specs.declared.full.Full.{Full}
 use Rattle.plain_map.specs.declared.full.FullKind.TheVariants.{OpRows}
 use Rattle.trace_share.specs.declared.deals.Share.{Share}
 use Rattle.trace_share.specs.declared.outcome.Outcome.{Outcome}
 use Rattle.trace_share.specs.declared.outcome.Outcome.TheVariants.{Refused}
-use Rattle.trace_share.specs.Deal.{makes}
 use Rattle.trace_share.proofs.DealLemmas.{other_is, same_is}
-use Rattle.trace_share.proofs.OnceLemmas.{PassesOnce, one_makes}
+use Rattle.trace_share.proofs.OnceLemmas.{one_makes}
 use Rattle.batch_runner.specs.declared.totals.Totals.{Totals}
 use Rattle.batch_runner.specs.declared.totals.Replies.{Replies}
 use Rattle.batch_runner.specs.Served.{AreInPacketOrder}

@@ -13,12 +13,26 @@ pub struct Workspace {
     pub(crate) tables: Tables,
 }
 
+// A block of so many words is larger than any that a batch commonly takes.
+const LARGE_BLOCK: usize = 1 << 20;
+
 impl Workspace {
     /// None yet.
+    ///
+    /// The C library gives a large block back to the system as soon as it is dropped, so that the next one has to be
+    /// mapped and cleared page by page, and learns from the first such block to keep those of its size. So one is taken
+    /// here, left unused and dropped; where there is no memory for it, nothing is lost.
     pub fn new(alloc: Global) -> Workspace {
+        if let Ok(block) = Vec::with_capacity(alloc, LARGE_BLOCK) {
+            give_back(block);
+        }
         Workspace {
             blank: Blank::new(alloc),
             tables: Tables::new(alloc),
         }
     }
 }
+
+// Drops a block. It is a call of its own, since a compiler may leave out a block that is taken and dropped at once.
+#[inline(never)]
+fn give_back(_block: Vec<u64>) {}

@@ -175,9 +175,13 @@ fn rows_run_out(rt: HostRuntime) -> Result<(), Fail> {
         )?;
         assert_eq!(rt; account.order.len(), answered);
         assert_eq!(rt; account.batch.pairs.len(), answered);
-        let Some(Outcome::Refused {
-            packet: 2, full, ..
-        }) = outcome_at(&account, 0, 1)
+        let Some(
+            Outcome::Refused {
+                packet: 2,
+                full,
+                ..
+            },
+        ) = outcome_at(&account, 0, 1)
         else {
             panic!(&rt; "the second is refused");
         };

@@ -52,7 +52,7 @@ returns-clause-exact c =
     c.in_ok-extend_from_slice.ensures.items c.keep_once.ensures.same c.deref-5.ensures.value in
     c.saturating_sub-splits.ensures
     ∙ lesser_splits c.args.rules.now c.args.start first calls c.deref-6.result.now c.deref-5.result.now
-    _ c.in_ok-before.before.prefixes c.in_ok-after.after.prefixes c.requires.within c.requires.range.depth
+    _ c.in_ok-before.before.prefixes c.in_ok-after.after.prefixes c.requires.within
     (λ q. ap (λ keys. has keys q) c.deref-6.ensures.value ∙ c.keep_once-2.ensures.same q
     ∙ ap (λ keys. has keys q) c.in_ok-keys.ensures)
     both

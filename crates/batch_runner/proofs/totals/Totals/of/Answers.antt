@@ -1,7 +1,7 @@
 use Rattle.std.proofs.Common.{◌≡◌, ◌+◌, ◌<◌, ◌≤◌, ◌++◌, ℕ, List, [], ◌∷◌, Vec, Global, take, drop, get_or, length, sym, ap, ◌∙◌, arith, length-append}
 use Rattle.std.specs.Prelude.{flat_map}
 use Rattle.std.proofs.lemmas.Grind.{flat_map-append}
-use Rattle.std.proofs.lemmas.List.{flat_map_more, take-append-drop, take_all, take_more}
+use Rattle.std.proofs.lemmas.List.{flat_map_more, take-append-drop, take_more}
 use Rattle.trace_share.specs.declared.outcome.Outcome.{Outcome}
 use Rattle.batch_runner.specs.Totals.{totals_of}
 use Rattle.batch_runner.proofs.totals.Totals.of.Goals as goal

@@ -1,7 +1,6 @@
-use Rattle.std.proofs.Common.{◌≡◌, ◌+◌, ◌++◌, ℕ, List, [], ◌∷◌, take, get_or, length, sym, ap, ◌∙◌, refl, arith, length-take-le, length-append}
+use Rattle.std.proofs.Common.{◌≡◌, ◌+◌, ◌++◌, ℕ, List, [], ◌∷◌, take, get_or, sym, ap, ◌∙◌}
 use Rattle.std.proofs.lemmas.List.{append_assoc, get_or_default, take_all, take_more}
 use Rattle.trace_share.specs.declared.outcome.Outcome.{Outcome}
-use Rattle.batch_runner.specs.declared.totals.Totals.{Totals}
 use Rattle.batch_runner.specs.Totals.{totals_of, with_outcome}
 use Rattle.batch_runner.proofs.TotalLemmas.{totals_end}
 use Rattle.batch_runner.proofs.totals.Totals.put_log.Goals as goal
