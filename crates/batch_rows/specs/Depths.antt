@@ -16,9 +16,9 @@ use Rattle.bucket_states.specs.Parts.{keys_of}
 use Rattle.core_model.specs.Needs.{IsAmongKeys, crowded_at, inserted_by}
 use Rattle.batch_rows.specs.BatchRows.{inserted_in_calls, rules_in}
 
--- The starting depth and, beyond it, as many more as there are depths, up to the last at which a bucket can be split, of
--- which some prefix is crowded by these keys. A part of a prefix is crowded only where the prefix is, so these are the
--- first ones, and at the depth behind them none is.
+-- The starting depth, and as many more as there are depths of which some prefix is crowded by these keys, up to the
+-- last at which a bucket can be split. A part of a prefix is crowded only where the prefix is, so these are the first
+-- ones, and at the depth behind them none is.
 abbrev pub depth_for : Rules → (start : ℕ) → List Key → ℕ
 depth_for rules start keys =
     start + count_by (λ depth. nat_lt 0 (crowded_at rules keys depth)) (range_with_len start (rules.depth - start))

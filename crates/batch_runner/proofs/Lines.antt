@@ -1,6 +1,6 @@
 -- The lines of a batch as they come.
 use Rattle.std.proofs.Common.{◌≡◌, ℕ, List, ◌++◌, sym, ap, ◌∙◌}
-use Rattle.std.specs.Prelude.{flat_map, OnErr, OnOk, Result, Ok, Err}
+use Rattle.std.specs.Prelude.{flat_map, OnErr, Result, Ok, Err}
 use Rattle.std.specs.Borrow.{Bor}
 use Rattle.std.proofs.lemmas.List.Folds.{flat_map-map}
 use Rattle.plain_map.specs.declared.records.CallId.{CallId}
@@ -35,8 +35,3 @@ lines_are seats before service served outcomes order are stands =
 pub on_err : {T E P : Type 0} (r : Result T E) → P → OnErr r P
 on_err (Ok x) p = tt
 on_err (Err e) p = p
-
--- what holds where there was memory leads on
-pub on_ok : {T E P Q : Type 0} (r : Result T E) → OnOk r P → (P → Q) → OnOk r Q
-on_ok (Ok x) p f = f p
-on_ok (Err e) p f = tt

@@ -97,7 +97,8 @@ module _ (service : Service) (batch : Served) (is : IsServed service batch) wher
   in_order = record {
     numbered = numbered service batch is.of_run;
     legal = same.legal (order_in service batch) among
-        (subst (Legal (table_rules service batch) (sessions_with (table_rules service batch) batch.first)) (sym order_is)
+        (subst (Legal (table_rules service batch) (sessions_with (table_rules service batch) batch.first))
+        (sym order_is)
         (order_is_legal (setup_of_batch service batch) is.of_run.events is.of_run.run));
     after = subst After (sym order_is) (order_is_after (setup_of_batch service batch) is.of_run.events is.of_run.run);
     whole = whole;

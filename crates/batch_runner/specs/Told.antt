@@ -64,8 +64,8 @@ served_with first calls logs closed outcomes batch = record {
   pairs = batch.pairs.items;
 }
 
--- the pairs that a batch of these calls leaves can open the next one, its counts are small, and its totals are of as many
--- outcomes as there were calls
+-- the pairs that a batch of these calls leaves can open the next one, its counts are small, and its totals are of as
+-- many outcomes as there were calls
 pub record CanGoOn (service : Service) (calls : List (ℕ × Call)) (batch : Batch) : Type 0 where
   pub reopens : CanOpen (rules_of service) batch.pairs.items
   pub seats : vec_len batch.answered ≤ 8

@@ -137,7 +137,8 @@ pub fn serve_batch<R: Threads + Sync, G: Gate + Sync>(
     Ok(Account { batch, logs, order })
 }
 
-/// The same without lines and order, where the calls are dealt already: the shares are those of the seats, seat 0 first.
+/// The same without lines and order, where the calls are dealt already. The shares are those of the seats, seat 0
+/// first.
 pub fn try_batch<R: Threads + Sync, G: Gate + Sync>(
     rt: &R,
     alloc: Global,
@@ -163,7 +164,8 @@ pub fn try_batch<R: Threads + Sync, G: Gate + Sync>(
     Ok(batch)
 }
 
-// Opens the table, lets the seats make their shares of the calls, and closes it. The logs are those of the seats, in order.
+// Opens the table, lets the seats make their shares of the calls, and closes it. The logs are those of the seats, in
+// order.
 fn close_batch<R: Threads + Sync, G: Gate + Sync>(
     rt: &R,
     alloc: Global,

@@ -33,7 +33,8 @@ unreachable-requires c =
     let service : Service = c.args.service.now in
     let table : Settings = c.in_ok-sizes.sizes.settings in
     let first : List Pair = c.args.first.now in
+    let same = alike service.settings service.hashing service.rows first c.args.calls.now table
+    c.in_ok-sizes.ensures.table in
     no_pair_lacks_room (rules_in table service.hashing) first _
-    ((alike service.settings service.hashing service.rows first c.args.calls.now table c.in_ok-sizes.ensures.table).below
-    c.requires.opens.distinct c.requires.opens.room)
+    (same.below c.requires.opens.distinct c.requires.opens.room)
     (c.open_in.ensures.no_room _ (c.in-Err-NoRoom.is ∙ ap Err c.in-Err-NoRoom.field-0-is))
