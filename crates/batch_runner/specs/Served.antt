@@ -49,9 +49,9 @@ setup_in service settings first calls =
     setup_of settings service.hashing
     (rows_of settings service.hashing service.rows first calls (shares_of service calls)) first
 
--- a batch: the settings of its table, the pairs that this begins with, its calls in packet order; what the calls of
--- each seat came to, the words of the closed table; all outcomes in packet order, each with its seat; and the pairs that
--- are left
+-- a batch: the settings of its table, and the pairs that it begins with; its calls in packet order; what the calls of
+-- each seat came to, and the words of the closed table; all outcomes in packet order, each with its seat; and the pairs
+-- that are left
 pub record Served : Type 0 where
   pub settings : Settings
   pub first : List Pair
