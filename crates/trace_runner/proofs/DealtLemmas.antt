@@ -1,7 +1,7 @@
 -- What is told of a play is told of calls that were dealt: what holds of each of these holds of each call that ended,
 -- that is under way, or that was answered.
 use Rattle.std.proofs.Common.{◌≡◌, ℕ, ◌+◌, List, [], ◌∷◌, Bool, true, false, cond, map, length, get_or, Option, Some, None, fold, inl, inr, refl, sym, subst, nat_lt}
-use Rattle.std.specs.Prelude.{replicate, slice_get}
+use Rattle.std.specs.Prelude.{slice_get}
 use Rattle.std.specs.List.{All, enumerate_from, flat_map, range_with_len}
 use Rattle.std.proofs.lemmas.List.{get_or_past}
 use Rattle.std.proofs.lemmas.List.Elements.{All-append, All-cons, All-get_or, All-head, All-map, All-nil, All-replicate, All-set, All-tail}

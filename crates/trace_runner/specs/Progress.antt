@@ -1,5 +1,5 @@
 -- How far the serving of a run has come.
-use Rattle.std.specs.Prelude.{◌≡◌, ◌≤◌, ℕ, ◌*◌, List, [], ◌++◌, length, map, All, Option, Some, Result, Ok, Err}
+use Rattle.std.specs.Prelude.{◌≡◌, ◌≤◌, ℕ, ◌*◌, List, [], ◌∷◌, ◌++◌, length, map, All, Option, Some, Result, Ok, Err}
 use Rattle.std.specs.Io.KnownBytes.{Appends}
 use Rattle.plain_map.specs.declared.calls.Call.{Call}
 use Rattle.plain_map.specs.Calls.{key_in}
@@ -41,6 +41,11 @@ pub record HasServed (service : Service) (progress : Progress) (batches : List S
 -- some batches were
 abbrev pub IsGoing : Service → Progress → Type 0
 IsGoing service progress = (batches : List Served) × HasServed service progress batches
+
+-- one batch more was served, of these calls, whatever batches were before
+pub record IsOneMore (service : Service) (old new : Progress) (calls : List (ℕ × Call)) : Type 0 where
+  pub more : (batches : List Served) → HasServed service old batches →
+      (served : Served) × (served.calls ≡ calls) × HasServed service new (batches ++ served ∷ [])
 
 -- what was put since `before`, and the text that is held, are the head line and the lines of these batches
 pub record HasPut (plan : Plan) (service : Service) (batches : List Served) (before now : Option (List ℕ))

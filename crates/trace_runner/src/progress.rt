@@ -31,7 +31,7 @@ pub(crate) struct Progress {
 }
 
 impl Progress {
-    ghost use Rattle.trace_runner.specs.Progress.{HasServed, HasTexts, IsGoing};
+    ghost use Rattle.trace_runner.specs.Progress.{HasServed, HasTexts, IsGoing, IsOneMore};
 
     /// None yet.
     pub fn new(alloc: Global) -> Progress
@@ -104,9 +104,7 @@ impl Progress {
         requires going { IsGoing service.now self.old }
         requires all { self.old.totals.calls ≤ PACKET_LIMIT }
         requires shares { map (λ share. share.items) shares.items ≡ shares_of service.now calls.now }
-        ensures served { OnOk result ((batches : List Served) → HasServed service.now self.old batches →
-            (served : Served) × (served.calls ≡ calls.now)
-            × HasServed service.now self.new (batches ++ served ∷ [])) }
+        ensures served { OnOk result (IsOneMore service.now self.old self.new calls.now) }
         ensures going { OnOk result (IsGoing service.now self.new) }
         ensures counted { OnOk result (self.new.totals.calls ≡ self.old.totals.calls + length calls.now) }
     {

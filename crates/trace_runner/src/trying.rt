@@ -13,7 +13,7 @@ ghost use Rattle.command_line.specs.Words.{IsInRange};
 ghost use Rattle.trace_runner.specs.Batches.{AreOfBatches, batch_count, batch_length};
 ghost use Rattle.trace_runner.specs.Reading.{AreBetween, HaveCome, IsBatchRead};
 ghost use Rattle.trace_runner.specs.Headline.{IsTrial, LeavesTried, seed_of, trial_of};
-ghost use Rattle.trace_runner.specs.Progress.{HasServed, HasTexts, HasTried, IsGoing};
+ghost use Rattle.trace_runner.specs.Progress.{HasServed, HasTexts, HasTried, IsGoing, IsOneMore};
 
 use crate::intake::{BATCH, PACKET_LIMIT, Part, open, read_batch};
 use crate::laws::serving_laws;
@@ -211,9 +211,7 @@ fn try_and_read<R: Threads + Sync, S: Source + Send, G: Gate + Sync>(
     requires stands { reader.old.given ≡ before }
     requires room { before < PACKET_LIMIT }
     requires none { next.old.items ≡ [] }
-    ensures served { OnOk result ((batches : List Served) → HasServed service.now progress.old batches →
-        (served : Served) × (served.calls ≡ calls.now)
-        × HasServed service.now progress.new (batches ++ served ∷ [])) }
+    ensures served { OnOk result (IsOneMore service.now progress.old progress.new calls.now) }
     ensures going { OnOk result (IsGoing service.now progress.new) }
     ensures tallied { OnOk result (progress.new.totals.calls ≡ progress.old.totals.calls + length calls.now) }
     ensures read { IfOk result (λ read. IsBatchRead PACKET_LIMIT (S.left source.old) (S.left source.new)
@@ -240,10 +238,8 @@ fn try_and_read<R: Threads + Sync, S: Source + Send, G: Gate + Sync>(
                 × (length calls.now ≤ BATCH) × All (λ call. IsAskable call.1) calls.now × HasTexts calls.now
                 × IsGoing service.now progress.now × (progress.now.totals.calls ≤ PACKET_LIMIT)
                 × (map (λ share. share.items) shares.items ≡ shares_of service.now calls.now) }
-            ensures served { OnOk result ((batches : List Served) →
-                HasServed service.entry.now progress.entry.now batches → (served : Served)
-                × (served.calls ≡ calls.entry.now)
-                × HasServed service.entry.now progress.exit.now (batches ++ served ∷ [])) }
+            ensures served { OnOk result (IsOneMore service.entry.now progress.entry.now progress.exit.now
+                calls.entry.now) }
             ensures going { OnOk result (IsGoing service.entry.now progress.exit.now) }
             ensures tallied { OnOk result (progress.exit.now.totals.calls
                 ≡ progress.entry.now.totals.calls + length calls.entry.now) }

@@ -19,7 +19,7 @@ returns-then-numbers-gt0 g c = λ batches all has cut whole.
 
 pub returns-in-Ok : goal.returns-in-Ok
 returns-in-Ok g c = λ batches all has cut whole.
-    let next = c.in-Ok.ensures.served batches has in
+    let next = c.in-Ok.ensures.served.more batches has in
     let begun : c.args.numbers.1 ≡ 0 → c.args.numbers.0 ≡ 0 = λ none.
     elim c.else-numbers-eq0.branch [
       | else-numbers-eq0-via-then-numbers-eq0+else-numbers-gt0 w ↦ omega (arith, w.if-numbers-gt0.false)

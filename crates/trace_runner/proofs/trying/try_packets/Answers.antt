@@ -93,7 +93,7 @@ batches-preserved g c =
           let s = old.stands first come in
           let next_come : HaveCome first left c.batches.reader many (s.0 ++ calls) =
           at_none (HaveCome first left c.batches.reader many (s.0 ++ calls)) _ part.ending c.in-None.is s.2 in
-          let next = told.ensures.served s.1 s.3 in (
+          let next = told.ensures.served.more s.1 s.3 in (
             s.0 ++ calls,
             s.1 ++ next.0 ∷ [],
             subst (λ (v : Vec (ℕ × Call) Global). MatchOption next_part.ending
