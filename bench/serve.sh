@@ -46,8 +46,8 @@ awk '{ if (!($1 in least) || $2 < least[$1]) least[$1] = $2; if ($3 > most[$1]) 
             least["trial1"] / least["softflowd"], least["trial2"] / least["softflowd"]
     }' "$work/times"
 
-# The cost of a packet by the length of the capture, and of none. The shortest are served many times more, since they are over in
-# some milliseconds, of which the start of the program is a part.
+# The cost of a packet by the length of the capture, with what a capture of no packet takes and without. The shortest are served
+# many times more, since they are over in some milliseconds.
 rm "$work/times"
 for many in 0 10000 100000 1000000 "$packets"; do
     "$flowdir" make --number 0 --packets "$many" >"$file"
@@ -63,6 +63,7 @@ awk '{ took = $3 - $2; if (!($1 in least) || took < least[$1]) least[$1] = took 
     END {
         for (many in least) {
             if (many == 0) printf "%s packets: %.1f ms in all\n", many, least[many] / 1e3
-            else printf "%s packets: %.0f ns a packet\n", many, least[many] / many * 1e3
+            else printf "%s packets: %.0f ns a packet, %.0f beyond the start\n", many, least[many] / many * 1e3,
+                (least[many] - least[0]) / many * 1e3
         }
     }' "$work/times" | sort -n
