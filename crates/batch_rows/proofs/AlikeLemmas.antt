@@ -29,7 +29,7 @@ use Rattle.core_model.specs.Setup.{HaveRoom, classmates}
 use Rattle.core_bounds.proofs.KeyCounts.{has, has_passing, distinct_has, at_most, no_more, each_has}
 use Rattle.core_bounds.proofs.Pigeons.{flag}
 use Rattle.batch_rows.specs.Depths.{InsertsAmong, depth_for, lesser_rules}
-use Rattle.batch_rows.proofs.CalmLemmas.{alike_before, depth_between, depth_calm, passes_less}
+use Rattle.batch_rows.proofs.CalmLemmas.{alike_before, depth_calm, depth_is_within, passes_less}
 use Rattle.batch_rows.proofs.KeyLemmas.{distinct_stay}
 
 -- each key that is held is among these
@@ -106,7 +106,7 @@ module _ (rules : Rules) (start : ℕ) (keys : List Key) (within : start ≤ rul
   class_wider : (a b : Key) → class_of rules a ≡ class_of rules b → class_of less a ≡ class_of less b
   unfolding class_of
   class_wider a b = alike_before (hash_of_key rules.hashing a) (hash_of_key rules.hashing b)
-      (depth_for rules start keys) rules.depth (depth_between rules keys start within).1
+      (depth_for rules start keys) rules.depth (depth_is_within rules start keys within).1
 
   -- so a key has no more classmates than by the lesser depth
   pub mates_below : (key : Key) (pairs : List Pair) → classmates rules key pairs ≤ classmates less key pairs
@@ -121,7 +121,7 @@ module _ (rules : Rules) (start : ℕ) (keys : List Key) (within : start ≤ rul
   unfolding class_of prefix_of
   same_or_few = elim (cases_lt (depth_for rules start keys) rules.depth) [
     | inl lower ↦ inr (λ key. depth_calm rules keys start lower key)
-    | inr most ↦ inl (ap with_depth (omega (arith, most, (depth_between rules keys start within).1)))
+    | inr most ↦ inl (ap with_depth (omega (arith, most, (depth_is_within rules start keys within).1)))
   ]
     where
       with_depth : ℕ → Rules
@@ -224,7 +224,7 @@ module _ (rules : Rules) (start : ℕ) (keys : List Key) (within : start ≤ rul
       none never = cc
 
   -- so the first pairs leave the same
-  pub first_alike : (first : List Pair) → Each (IsAmongKeys keys) (keys_of first) →
+  first_alike : (first : List Pair) → Each (IsAmongKeys keys) (keys_of first) →
       sessions_with less first ≡ sessions_with rules first
   first_alike first own = pairs_alike first empty empty_among own
 

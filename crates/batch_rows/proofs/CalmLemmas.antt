@@ -179,14 +179,7 @@ module _ (rules : Rules) (keys : List Key) where
     depth_is = ap (λ (n : ℕ). start + n)
         (count_range (λ depth. nat_lt 0 (crowded_at rules keys depth)) start (rules.depth - start))
 
-    -- it is between the first and the last
-    pub depth_between : start ≤ rules.depth →
-        (start ≤ depth_for rules start keys) × (depth_for rules start keys ≤ rules.depth)
-    depth_between within =
-        let most = passing_most some_crowded (rules.depth - start) in
-        (omega (arith, depth_is), omega (arith, depth_is, most, within))
-
-    -- and calm where it is not the last
+    -- it is calm where it is not the last
     pub depth_calm : depth_for rules start keys < rules.depth → IsCalm rules keys (depth_for rules start keys)
     depth_calm less =
         let behind = first_not some_crowded (rules.depth - start)
@@ -195,3 +188,11 @@ module _ (rules : Rules) (keys : List Key) where
         let none = ltb-false 0 (crowded_at rules keys (start + passing some_crowded (rules.depth - start))) behind in
         subst (IsCalm rules keys) (sym depth_is) (calm_from_none
         (start + passing some_crowded (rules.depth - start)) (omega (arith, none)))
+
+-- the lesser depth is between the starting one and the greatest
+pub depth_is_within : (rules : Rules) (start : ℕ) (keys : List Key) → start ≤ rules.depth →
+    (start ≤ depth_for rules start keys) × (depth_for rules start keys ≤ rules.depth)
+depth_is_within rules start keys within =
+    let is = depth_is rules keys start in
+    let most = passing_most (some_crowded rules keys start) (rules.depth - start) in
+    (omega (arith, is), omega (arith, is, most, within))

@@ -1,19 +1,15 @@
 -- The splits of a batch are as many at the lesser greatest depth as at the greatest.
-use Rattle.std.proofs.Common.{◌≡◌, ℕ, zero, suc, ◌+◌, ◌-◌, ◌^◌, ◌<◌, ◌≤◌, List, refl, ap, ◌∙◌, arith}
+use Rattle.std.proofs.Common.{◌≡◌, ℕ, zero, suc, ◌+◌, ◌-◌, ◌^◌, ◌<◌, ◌≤◌, ◌++◌, List, refl, ap, ◌∙◌, arith}
 use Rattle.std.specs.Prelude.{count_by, sum_by, nat_lt, ◌==◌}
 use Rattle.std.specs.List.{range_with_len}
 use Rattle.std.proofs.lemmas.List.Sums.{sum_by-cons}
-use Rattle.plain_map.specs.declared.calls.Call.{Call}
 use Rattle.plain_map.specs.declared.keys.Key.{Key}
-use Rattle.plain_map.specs.declared.keys.Pair.{Pair}
 use Rattle.plain_map.specs.declared.rules.Rules.{Rules}
 use Rattle.bucket_states.specs.Items.{prefix_of}
-use Rattle.bucket_states.specs.Parts.{keys_of}
-use Rattle.core_model.specs.Needs.{crowded, crowded_at}
-use Rattle.batch_rows.specs.BatchRows.{splits_in_calls}
+use Rattle.core_model.specs.Needs.{crowded, crowded_at, splits_for}
 use Rattle.batch_rows.specs.Counts.{HaveSameKeys}
-use Rattle.batch_rows.specs.Depths.{depth_for, keys_in_batch, lesser_rules}
-use Rattle.batch_rows.proofs.CalmLemmas.{calm_behind, depth_between, depth_calm, none_from_calm}
+use Rattle.batch_rows.specs.Depths.{depth_for, lesser_rules}
+use Rattle.batch_rows.proofs.CalmLemmas.{calm_behind, depth_calm, depth_is_within, none_from_calm}
 use Rattle.batch_rows.proofs.KeyLemmas.{as_many, crowded_alike, splits_are}
 
 -- a sum over numbers in two parts
@@ -65,7 +61,7 @@ crowded_lesser : (rules : Rules) (start : ℕ) (keys : List Key) → start ≤ r
 unfolding crowded prefix_of
 crowded_lesser rules start keys within =
     let depth : ℕ = depth_for rules start keys in
-    let between = depth_between rules keys start within in
+    let between = depth_is_within rules start keys within in
     let none : (n : ℕ) → depth ≤ n → n < rules.depth → crowded_at rules keys n ≡ 0 =
     λ (n : ℕ) (low : depth ≤ n) (high : n < rules.depth).
     none_from_calm rules keys n (calm_behind rules keys depth n low
@@ -79,16 +75,16 @@ crowded_lesser rules start keys within =
     )
 
 -- so the splits are counted for all keys at the greatest depth, and for the first ones at the lesser
-pub lesser_splits : (rules : Rules) (start : ℕ) (first : List Pair) (calls : List (ℕ × Call)) (once all : List Key)
-    (depth before after : ℕ) → start ≤ rules.depth → HaveSameKeys once (keys_of first) →
-    HaveSameKeys all (keys_in_batch first calls) → depth ≡ depth_for rules start (keys_in_batch first calls) →
+pub lesser_splits : (rules : Rules) (start : ℕ) (first inserted once all : List Key) (depth before after : ℕ) →
+    start ≤ rules.depth → HaveSameKeys once first → HaveSameKeys all (first ++ inserted) →
+    depth ≡ depth_for rules start (first ++ inserted) →
     before ≡ crowded (record { items = rules.items; depth = depth; hashing = rules.hashing }) start once →
-    after ≡ crowded rules start all → after - before
-    ≡ splits_in_calls (lesser_rules rules start (keys_in_batch first calls)) start first calls
-lesser_splits rules start first calls once all depth before after within same both is before_is after_is =
-    let keys : List Key = keys_in_batch first calls in
+    after ≡ crowded rules start all →
+    after - before ≡ splits_for (lesser_rules rules start (first ++ inserted)) start first inserted
+lesser_splits rules start first inserted once all depth before after within same both is before_is after_is =
+    let keys : List Key = first ++ inserted in
     let lesser : Rules = lesser_rules rules start keys in
     let moved : before ≡ crowded lesser start once =
     before_is ∙ ap (λ d. crowded (record { items = rules.items; depth = d; hashing = rules.hashing }) start once) is in
-    splits_are lesser start first calls once keys before after same (λ q. refl) moved
+    splits_are lesser start first inserted once keys before after same (λ q. refl) moved
     (after_is ∙ crowded_alike rules start all keys both ∙ crowded_lesser rules start keys within)

@@ -1,13 +1,13 @@
 -- Keys, each once: what a sort and a dedup leave, and what depends on the keys alone and not on their order.
-use Rattle.std.proofs.Common.{◌≡◌, ℕ, ◌-◌, ◌^◌, ◌≤◌, Bool, true, false, cond, ◌||◌, List, [], ◌∷◌, ◌++◌, ◌+◌, ◌<◌, length, take, get_or, Result, Ok, Err, Equal, append_assoc, refl, sym, ap, subst, ◌∙◌, arith}
-use Rattle.std.specs.Prelude.{IfOk, filter, count_by, sum_by, nat_lt, ◌&&◌, ◌==◌}
-use Rattle.std.specs.List.{HoldsAt, IsDistinct, range_with_len, dedup, AllByRecursion as Each}
-use Rattle.std.specs.List.Sorted.{IsPermutation, IsSearchInRange, IsSorted}
-use Rattle.std.specs.Ordering.{eq_by_cmp, is_eq}
-use Rattle.std.specs.Result.{is_ok}
-use Rattle.std.proofs.lemmas.List.{append-nil, take_more}
+use Rattle.std.proofs.Common.{◌≡◌, ℕ, ◌-◌, ◌^◌, ◌≤◌, Bool, true, false, cond, ◌||◌, List, [], ◌∷◌, ◌++◌, ◌+◌, ◌<◌, drop, length, take, get_or, append_assoc, refl, sym, ap, subst, ◌∙◌, arith}
+use Rattle.std.specs.Prelude.{filter, count_by, sum_by, nat_lt, ◌&&◌, ◌==◌}
+use Rattle.std.specs.List.{IsDistinct, range_with_len, dedup, AllByRecursion as Each}
+use Rattle.std.specs.List.Sorted.{IsPermutation, IsSorted}
+use Rattle.std.specs.Ordering.{eq_by_cmp}
+use Rattle.std.proofs.lemmas.Bool.{or_right}
+use Rattle.std.proofs.lemmas.List.{append-nil, drop_more, take_more}
 use Rattle.std.proofs.lemmas.List.Concat.{flat_map-append}
-use Rattle.std.proofs.lemmas.List.Folds.{list_any-append, list_any_at}
+use Rattle.std.proofs.lemmas.List.Folds.{list_any-append}
 use Rattle.std.proofs.lemmas.List.Kept.{Contains-dedup, Contains-from_dedup, IsStrictlySortedBy-dedup}
 use Rattle.std.proofs.lemmas.List.Sorted.{list_any-IsPermutation}
 use Rattle.std.proofs.lemmas.List.Sums.{length-filter}
@@ -16,18 +16,15 @@ use Rattle.std.proofs.lemmas.Map.Views.{Contains-from_any, list_any-from_Contain
 use Rattle.plain_map.specs.declared.calls.Call.{Call}
 use Rattle.plain_map.specs.declared.calls.Call.TheVariants.{Insert, Lookup, Remove}
 use Rattle.plain_map.specs.declared.keys.Key.{Key}
-use Rattle.plain_map.specs.declared.keys.Pair.{Pair}
 use Rattle.plain_map.specs.declared.rules.Rules.{Rules}
 use Rattle.plain_map.specs.Keys.{key_cmp}
 use Rattle.plain_map.proofs.KeyLemmas.{keys_total}
 use Rattle.bucket_states.specs.Items.{prefix_of, same_key}
 use Rattle.bucket_states.proofs.KeyTests.{Decides-same_key, eq_by_cmp-same_key, same_key-equiv}
-use Rattle.bucket_states.specs.Parts.{keys_of}
-use Rattle.core_model.specs.Needs.{crowded, distinct_keys, inserted_by}
+use Rattle.core_model.specs.Needs.{crowded, distinct_keys, inserted_by, splits_for}
 use Rattle.core_bounds.proofs.KeyCounts.{has, has_passing, distinct_has, no_more}
-use Rattle.batch_rows.specs.BatchRows.{inserted_in_calls, splits_in_calls}
+use Rattle.batch_rows.specs.BatchRows.{inserted_in_calls}
 use Rattle.batch_rows.specs.Counts.{HaveSameKeys}
-use Rattle.batch_rows.specs.Depths.{keys_in_batch}
 
 -- of more keys no fewer pass a test
 no_fewer : (test : Key → Bool) (few many : List Key) → ((q : Key) → has few q ≡ true → has many q ≡ true) →
@@ -73,13 +70,6 @@ pub same_with : (keys others more : List Key) → HaveSameKeys keys others → H
 same_with keys others more same = λ q. list_any-append (same_key q) keys more
     ∙ ap (λ b. b || has more q) (same q) ∙ sym (list_any-append (same_key q) others more)
 
--- or is the same either way
-either_way : (a b : Bool) → (a || b) ≡ (b || a)
-either_way true true = refl
-either_way true false = refl
-either_way false true = refl
-either_way false false = refl
-
 -- where each of two tests passes exactly where the other does, they are equal
 both_ways : (a b : Bool) → (a ≡ true → b ≡ true) → (b ≡ true → a ≡ true) → a ≡ b
 both_ways true b to from = sym (to refl)
@@ -113,45 +103,33 @@ once_distinct sorted once rising is =
     alike keys distinct = subst (λ (test : Key → Key → Bool). IsDistinct test keys)
         (λ i a b. eq_by_cmp-same_key a b i) distinct
 
--- what the pairs and the inserts crowd, less what the pairs crowd, is how many splits there are at most
-pub splits_are : (rules : Rules) (start : ℕ) (first : List Pair) (calls : List (ℕ × Call)) (once all : List Key)
-    (before after : ℕ) → HaveSameKeys once (keys_of first) → HaveSameKeys all (keys_in_batch first calls) →
-    before ≡ crowded rules start once → after ≡ crowded rules start all →
-    after - before ≡ splits_in_calls rules start first calls
-splits_are rules start first calls once all before after same both before_is after_is =
-    let one = before_is ∙ crowded_alike rules start once (keys_of first) same in
-    let two = after_is ∙ crowded_alike rules start all (keys_in_batch first calls) both in
+-- the same keys, behind others
+pub same_behind : (keys others more : List Key) → HaveSameKeys others more →
+    HaveSameKeys (keys ++ others) (keys ++ more)
+same_behind keys others more same = λ q. list_any-append (same_key q) keys others
+    ∙ ap (λ b. has keys q || b) (same q) ∙ sym (list_any-append (same_key q) keys more)
+
+-- what the first keys and the inserted ones crowd, less what the first ones crowd, is how many splits there are at most
+pub splits_are : (rules : Rules) (start : ℕ) (first inserted once all : List Key) (before after : ℕ) →
+    HaveSameKeys once first → HaveSameKeys all (first ++ inserted) → before ≡ crowded rules start once →
+    after ≡ crowded rules start all → after - before ≡ splits_for rules start first inserted
+splits_are rules start first inserted once all before after same both before_is after_is =
+    let one = before_is ∙ crowded_alike rules start once first same in
+    let two = after_is ∙ crowded_alike rules start all (first ++ inserted) both in
     λ i. two i - one i
 
--- there are none where the pairs have all keys
-pub no_splits : (rules : Rules) (start : ℕ) (first : List Pair) (calls : List (ℕ × Call)) →
-    HaveSameKeys (keys_of first) (keys_in_batch first calls) → 0 ≡ splits_in_calls rules start first calls
-no_splits rules start first calls same =
-    let count : ℕ = crowded rules start (keys_of first) in
-    let less : count - count ≡ 0 = omega arith in
-    sym less
-    ∙ splits_are rules start first calls (keys_of first) (keys_of first) count count (λ q. refl) same refl refl
+-- they are as many for the same keys
+pub splits_alike : (rules : Rules) (start : ℕ) (first inserted others : List Key) → HaveSameKeys inserted others →
+    splits_for rules start first inserted ≡ splits_for rules start first others
+splits_alike rules start first inserted others same =
+    splits_are rules start first others first (first ++ inserted) (crowded rules start first)
+    (crowded rules start (first ++ inserted)) (λ q. refl) (same_behind first inserted others same) refl refl
 
--- the keys that were added, and then the first ones, are those of the batch
-pub all_keys : (first : List Pair) (calls : List (ℕ × Call)) (begun seen added more grown once all : List Key) →
-    begun ≡ keys_of first → seen ≡ begun → HaveSameKeys (seen ++ added) (seen ++ inserted_in_calls calls) →
-    more ≡ begun → grown ≡ added ++ more → HaveSameKeys once grown → all ≡ once →
-    HaveSameKeys all (keys_in_batch first calls)
-all_keys first calls begun seen added more grown once all first_are seen_is found more_is grown_is same all_is q =
-    ap (λ keys. has keys q) all_is ∙ same q
-    ∙ ap (λ keys. has keys q) (grown_is ∙ ap (λ keys. added ++ keys) (more_is ∙ sym seen_is))
-    ∙ list_any-append (same_key q) added seen ∙ either_way (has added q) (has seen q)
-    ∙ sym (list_any-append (same_key q) seen added) ∙ found q
-    ∙ ap (λ keys. has (keys ++ inserted_in_calls calls) q) (seen_is ∙ first_are)
-
--- where none was added these are the first ones
-pub none_added : (first : List Pair) (calls : List (ℕ × Call)) (begun seen added : List Key) → begun ≡ keys_of first →
-    seen ≡ begun → added ≡ [] → HaveSameKeys (seen ++ added) (seen ++ inserted_in_calls calls) →
-    HaveSameKeys (keys_of first) (keys_in_batch first calls)
-none_added first calls begun seen added first_are seen_is none found q =
-    ap (λ keys. has keys q)
-    (sym (seen_is ∙ first_are) ∙ sym (append-nil seen) ∙ ap (λ more. seen ++ more) (sym none)) ∙ found q
-    ∙ ap (λ keys. has (keys ++ inserted_in_calls calls) q) (seen_is ∙ first_are)
+-- the keys of both, each once, are those of the batch
+pub all_keys : (first inserted begun seen found once all : List Key) → begun ≡ first → seen ≡ begun →
+    HaveSameKeys found (seen ++ inserted) → HaveSameKeys once found → all ≡ once → HaveSameKeys all (first ++ inserted)
+all_keys first inserted begun seen found once all first_are seen_is both same all_is q =
+    ap (λ keys. has keys q) all_is ∙ same q ∙ both q ∙ ap (λ keys. has (keys ++ inserted) q) (seen_is ∙ first_are)
 
 -- ---- the keys of one call more
 
@@ -164,40 +142,29 @@ inserted_more calls place nobody inside =
     ∙ flat_map-append (λ asked. inserted_by asked.1) (take place calls) (get_or calls place nobody ∷ [])
     ∙ ap (λ more. inserted_in_calls (take place calls) ++ more) (append-nil (inserted_by (get_or calls place nobody).1))
 
--- what is added to both keeps the same keys
-pub same_pushed : (keys added inserted more : List Key) → HaveSameKeys (keys ++ added) (keys ++ inserted) →
-    HaveSameKeys (keys ++ (added ++ more)) (keys ++ (inserted ++ more))
-same_pushed keys added inserted more same q =
-    ap (λ all. has all q) (sym (append_assoc keys added more))
-    ∙ same_with (keys ++ added) (keys ++ inserted) more same q
-    ∙ ap (λ all. has all q) (append_assoc keys inserted more)
-
 -- or with what is not so changes nothing
 or_false : (b : Bool) → (b || false) ≡ b
 or_false true = refl
 or_false false = refl
 
--- a key that is among the first need not be added
-pub same_found : (keys added inserted : List Key) (key : Key) → has keys key ≡ true →
-    HaveSameKeys (keys ++ added) (keys ++ inserted) → HaveSameKeys (keys ++ added) (keys ++ (inserted ++ key ∷ []))
-same_found keys added inserted key there same q =
-    same q ∙ sym (ap (λ all. has all q) (sym (append_assoc keys inserted (key ∷ [])))
-    ∙ list_any-append (same_key q) (keys ++ inserted) (key ∷ []) ∙ by (same_key q key) refl)
+-- a key that stands there need not be added
+pub same_told : (keys inserted : List Key) (key : Key) → has keys key ≡ true → HaveSameKeys keys inserted →
+    HaveSameKeys keys (inserted ++ key ∷ [])
+same_told keys inserted key there same q =
+    same q ∙ sym (list_any-append (same_key q) inserted (key ∷ []) ∙ by (same_key q key) refl)
   where
-    by : (b : Bool) → same_key q key ≡ b → (has (keys ++ inserted) q || (b || false)) ≡ has (keys ++ inserted) q
-    by false e = or_false (has (keys ++ inserted) q)
+    by : (b : Bool) → same_key q key ≡ b → (has inserted q || (b || false)) ≡ has inserted q
+    by false e = or_false (has inserted q)
     by true e =
         let equal : q ≡ key = (Decides-same_key q key).0 e in
-        let yes : has (keys ++ inserted) q ≡ true =
-        list_any-append (same_key q) keys inserted ∙ ap (λ b. b || has inserted q) (ap (has keys) equal ∙ there) in
+        let yes : has inserted q ≡ true = sym (same q) ∙ ap (has keys) equal ∙ there in
         ap (λ b. b || true) yes ∙ sym yes
 
 -- equal lists have the same keys
-pub same_moved : (keys added grown inserted more : List Key) → grown ≡ added → more ≡ inserted →
-    HaveSameKeys (keys ++ added) (keys ++ inserted) → HaveSameKeys (keys ++ grown) (keys ++ more)
-same_moved keys added grown inserted more grown_is more_is same q =
-    ap (λ (l : List Key). has (keys ++ l) q) grown_is ∙ same q
-    ∙ sym (ap (λ (l : List Key). has (keys ++ l) q) more_is)
+pub same_lists : (keys grown others more : List Key) → grown ≡ keys → more ≡ others → HaveSameKeys keys others →
+    HaveSameKeys grown more
+same_lists keys grown others more grown_is more_is same q =
+    ap (λ (l : List Key). has l q) grown_is ∙ same q ∙ sym (ap (λ (l : List Key). has l q) more_is)
 
 -- a call that inserts nothing brings no key
 pub none_inserted : (call : Call) → ((key : Key) (value : ℕ) → ¬ (call ≡ Insert key value)) → inserted_by call ≡ []
@@ -205,12 +172,35 @@ none_inserted (Insert key value) other = absurd (other key value refl)
 none_inserted (Remove key) other = refl
 none_inserted (Lookup key) other = refl
 
--- what a search has found is there
-pub found_there : (keys : List Key) (key : Key) (found : Result ℕ ℕ) → IsSearchInRange found (length keys) →
-    IfOk found (HoldsAt (λ other. key_cmp other key ≡ Equal) keys) → is_ok found ≡ true → has keys key ≡ true
-found_there keys key (Err place) inside holds is = absurd (cc)
-found_there keys key (Ok place) inside holds is =
-    let same : same_key (get_or keys place key) key ≡ true =
-    sym (eq_by_cmp-same_key (get_or keys place key) key) ∙ ap is_eq (holds key) in
-    let equal : get_or keys place key ≡ key = (Decides-same_key (get_or keys place key) key).0 same in
-    list_any_at (same_key key) keys place key inside ((Decides-same_key key (get_or keys place key)).1 (sym equal))
+-- ---- the keys of two lists
+
+-- of three tests the middle one may as well be the last
+last_of_three : (a b c : Bool) → (a || (b || c)) ≡ ((a || c) || (b || false))
+last_of_three true b c = refl
+last_of_three false true true = refl
+last_of_three false true false = refl
+last_of_three false false c = sym (or_false c)
+
+-- a key that is added to the first ones, before those that are left, is one more that has been told
+pub same_taken : (all left told : List Key) (key : Key) → HaveSameKeys (all ++ left) told →
+    HaveSameKeys ((all ++ key ∷ []) ++ left) (told ++ key ∷ [])
+same_taken all left told key same q =
+    ap (λ keys. has keys q) (append_assoc all (key ∷ []) left)
+    ∙ list_any-append (same_key q) all (key ∷ left)
+    ∙ last_of_three (has all q) (same_key q key) (has left q)
+    ∙ ap (λ b. b || (same_key q key || false)) (sym (list_any-append (same_key q) all left) ∙ same q)
+    ∙ sym (list_any-append (same_key q) told (key ∷ []))
+
+-- a key need not be added where the first of those that are left is the same
+pub same_left_out : (all keys told : List Key) (place : ℕ) (nobody key : Key) → place < length keys →
+    same_key (get_or keys place nobody) key ≡ true → HaveSameKeys (all ++ drop place keys) told →
+    HaveSameKeys (all ++ drop place keys) (told ++ key ∷ [])
+same_left_out all keys told place nobody key inside is =
+    let next : Key = get_or keys place nobody in
+    let first : same_key key next ≡ true =
+    (Decides-same_key key next).1 (sym ((Decides-same_key next key).0 is)) in
+    same_told (all ++ drop place keys) told key
+    (list_any-append (same_key key) all (drop place keys)
+    ∙ or_right (has all key) (has (drop place keys) key)
+    (ap (λ left. has left key) (drop_more keys place nobody inside)
+    ∙ ap (λ b. b || has (drop (place + 1) keys) key) first))

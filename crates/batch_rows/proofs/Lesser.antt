@@ -17,14 +17,9 @@ use Rattle.bucket_states.specs.Parts.{HasDistinctKeys, keys_of}
 use Rattle.core_model.specs.Closed.{Warranted, sessions_with}
 use Rattle.core_model.specs.Needs.{IsAmongKeys}
 use Rattle.core_model.specs.Setup.{HaveRoom}
-use Rattle.batch_rows.specs.Depths.{InsertsAmong, depth_for, lesser_rules}
-use Rattle.batch_rows.proofs.CalmLemmas.{depth_between}
+use Rattle.batch_rows.specs.Depths.{InsertsAmong, lesser_rules}
+pub use Rattle.batch_rows.proofs.CalmLemmas.{depth_is_within}
 use Rattle.batch_rows.proofs.AlikeLemmas.{after_alike, filled_by_calls, filled_by_first, legal_after, mates_below, room_kept}
-
--- the lesser depth is between the starting one and the greatest
-pub depth_is_within : (rules : Rules) (start : ℕ) (keys : List Key) → start ≤ rules.depth →
-    (start ≤ depth_for rules start keys) × (depth_for rules start keys ≤ rules.depth)
-depth_is_within rules start keys within = depth_between rules keys start within
 
 -- after calls whose inserts are of these keys a table with the lesser depth holds the same
 pub same_after : (rules : Rules) (start : ℕ) (keys : List Key) (first : List Pair) (order : List Placed) →

@@ -1,3 +1,4 @@
 pub mod BatchRows
 pub mod Counts
+pub mod Demands
 pub mod Depths

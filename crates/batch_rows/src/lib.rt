@@ -2,9 +2,13 @@
 #![tactic(auto)]
 
 mod crowds;
+mod demand;
+mod hints;
+mod keys;
 mod rows;
 mod splits;
 
+pub use demand::{Demand, demand_of};
 pub use rows::{CALL_LIMIT, Sizes, batch_rows, sizes_for, updates_of};
 
 #[cfg(test)]

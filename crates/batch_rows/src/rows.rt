@@ -1,13 +1,16 @@
 //! The rows of each seat.
 
-ghost use Rattle.std.specs.Prelude.{◌≡◌, ◌^◌, ◌<◌, All, IfOk, length, map, vec_len};
+ghost use Rattle.std.specs.Prelude.{◌≡◌, ℕ, ◌^◌, ◌<◌, All, IfOk, List, length};
 ghost use Rattle.std.specs.Option.{ForSome};
+ghost use Rattle.plain_map.specs.declared.calls.Call.{Call as ACall};
 ghost use Rattle.word_rows.specs.Shape.{AreBelow};
 ghost use Rattle.core_model.specs.Needs.{batch_rows_of};
 ghost use Rattle.batch_rows.specs.BatchRows.{rows_of, updates_in_calls};
+ghost use Rattle.batch_rows.specs.Demands.{IsDemandOf};
 ghost use Rattle.batch_rows.specs.Depths.{IsTableFor};
 ghost use Rattle.batch_rows.specs.declared.rows.TheConstants.{CALL_LIMIT};
 
+use crate::demand::Demand;
 use crate::splits::splits_of;
 use hash_bits::Hashing;
 use plain_map::{Call, Pair, Rules};
@@ -25,8 +28,8 @@ pub struct Sizes {
     pub rows: Vec<SeatRows>,
 }
 
-/// The sizes of the table of a batch that begins with these pairs and asks these calls, each seat its share of them,
-/// seat 0 first, where a table of any batch would have these settings.
+/// The sizes of the table of a batch that begins with these pairs and asks this of its table, where a table of any
+/// batch would have these settings.
 ///
 /// `given` has the rows of every seat, and then the settings stay. With `None` the greatest depth is what the keys of
 /// the batch can need, and each seat gets the rows that suffice for its share, so that no call is refused: these are at
@@ -37,19 +40,19 @@ pub fn sizes_for(
     hashing: Hashing,
     given: Option<SeatRows>,
     first: &[Pair],
-    calls: &[(u32, Call)],
-    shares: &[Vec<(u32, Call)>],
+    demand: &Demand,
 ) -> Result<Sizes, AllocError>
     requires given { ForSome given (AreBelow (2 ^ 32)) }
-    requires few { All (λ share. vec_len share < CALL_LIMIT) shares.now }
-    ensures table { IfOk result (λ sizes.
-        IsTableFor settings.now hashing given first.now calls.now sizes.settings) }
-    ensures rows { IfOk result (λ sizes. sizes.rows.items
-        ≡ rows_of sizes.settings hashing given first.now calls.now (map (λ share. share.items) shares.now)) }
+    requires few { All (λ updates. updates < CALL_LIMIT) demand.now.updates.items }
+    ensures table { IfOk result (λ sizes. (calls : List (ℕ × ACall)) (shares : List (List (ℕ × ACall))) →
+        IsDemandOf calls shares demand.now → IsTableFor settings.now hashing given first.now calls sizes.settings) }
+    ensures rows { IfOk result (λ sizes. (calls : List (ℕ × ACall)) (shares : List (List (ℕ × ACall))) →
+        IsDemandOf calls shares demand.now →
+        sizes.rows.items ≡ rows_of sizes.settings hashing given first.now calls shares) }
     ensures below { IfOk result (λ sizes. All (AreBelow (2 ^ 32)) sizes.rows.items) }
 {
     if let Some(given) = given {
-        let rows = vec![in alloc; given; shares.len()]?;
+        let rows = vec![in alloc; given; demand.updates.len()]?;
         return Ok(Sizes {
             settings: *settings,
             rows,
@@ -60,13 +63,13 @@ pub fn sizes_for(
         depth: settings.depth,
         hashing,
     };
-    let found = splits_of(alloc, &rules, settings.start, first, calls)?;
+    let found = splits_of(alloc, &rules, settings.start, first, &demand.inserted)?;
     // the lesser depth is between the starting one and the greatest
     let made = Settings::new(settings.seats, settings.items, found.depth, settings.start);
     let Ok(lesser) = made else { unreachable!() };
-    let mut rows = Vec::with_capacity(alloc, shares.len())?;
-    for share in shares {
-        rows.push(batch_rows(&lesser, updates_of(share), found.splits))?;
+    let mut rows = Vec::with_capacity(alloc, demand.updates.len())?;
+    for updates in &demand.updates {
+        rows.push(batch_rows(&lesser, *updates, found.splits))?;
     }
     Ok(Sizes {
         settings: lesser,

@@ -1,9 +1,7 @@
 //! Batches worked by hand, which show that the definitions mean what was meant, and that memory is found.
 
-ghost use Rattle.std.specs.Prelude.{◌≡◌, IfOk, length, vec_len};
-
 use crate::splits::{Splits, splits_of};
-use crate::{batch_rows, sizes_for, updates_of};
+use crate::{Demand, batch_rows, demand_of, sizes_for, updates_of};
 use hash_bits::Hashing;
 use plain_map::{Call, Key, Pair, Rules};
 use std::alloc::{AllocError, Global};
@@ -31,14 +29,12 @@ fn pairs(alloc: Global, ports: &[u64]) -> Result<Vec<Pair>, AllocError> {
     Ok(pairs)
 }
 
-fn inserts(alloc: Global, ports: &[u64]) -> Result<Vec<(u32, Call)>, AllocError>
-    ensures { IfOk result (λ calls. vec_len calls ≡ length ports.now) }
-{
-    let mut calls = Vec::new(alloc);
+fn keys(alloc: Global, ports: &[u64]) -> Result<Vec<Key>, AllocError> {
+    let mut keys = Vec::new(alloc);
     for port in ports {
-        calls.push((1, Call::Insert(key(*port), *port)))?;
+        keys.push(key(*port))?;
     }
-    Ok(calls)
+    Ok(keys)
 }
 
 // The starting depth, the ports of the first pairs, those of the inserts, and the greatest depth and the splits that
@@ -58,8 +54,8 @@ fn found_of(
         hashing: Hashing::Ports(0),
     };
     let first = pairs(alloc, first)?;
-    let calls = inserts(alloc, inserted)?;
-    splits_of(alloc, &rules, start.min(rules.depth), &first, &calls)
+    let inserted = keys(alloc, inserted)?;
+    splits_of(alloc, &rules, start.min(rules.depth), &first, &inserted)
 }
 
 // Three keys of one prefix split it.
@@ -127,7 +123,7 @@ fn depths_of_worked_batches(rt: HostRuntime) -> Result<(), Fail> {
     Ok(())
 }
 
-// A remove and a lookup bring no key, and two keys of one hash are two.
+// Two keys of one hash are two.
 #[test]
 fn keys_count_and_not_hashes(rt: HostRuntime) -> Result<(), Fail> {
     let rules = Rules {
@@ -136,15 +132,10 @@ fn keys_count_and_not_hashes(rt: HostRuntime) -> Result<(), Fail> {
         hashing: Hashing::Ports(0),
     };
     let other = Key { k0: 7, ..key(1) };
-    let one = (1, Call::Insert(key(1), 0));
-    for (call, depth, splits) in [
-        (Call::Remove(other), 0, 0),
-        (Call::Lookup(other), 0, 0),
-        (Call::Insert(other, 0), 1, 1),
-    ] {
-        let found = splits_of(rt.alloc(), &rules, 0, &[], &[one, (2, call)])?;
-        assert_eq!(rt; found.depth, depth, "{call:?}");
-        assert_eq!(rt; found.splits, splits, "{call:?}");
+    for (inserted, depth, splits) in [([key(1), key(1)], 0, 0), ([key(1), other], 1, 1)] {
+        let found = splits_of(rt.alloc(), &rules, 0, &[], &inserted)?;
+        assert_eq!(rt; found.depth, depth, "{inserted:?}");
+        assert_eq!(rt; found.splits, splits, "{inserted:?}");
     }
     Ok(())
 }
@@ -168,18 +159,17 @@ fn rows_of_worked_needs(rt: HostRuntime) -> Result<(), Fail> {
     Ok(())
 }
 
-// Two seats share three inserts of one prefix, which split three and need every depth; a lookup needs no row.
+// Two seats share three inserts of one prefix, which split three and need every depth.
 #[test]
 fn sizes_of_each_share(rt: HostRuntime) -> Result<(), Fail> {
     let settings = Settings::new(2, 2, 3, 0)?;
     let hashing = Hashing::Ports(0);
-    let calls = inserts(rt.alloc(), &[1, 2, 3])?;
-    let mut odd = inserts(rt.alloc(), &[1, 3])?;
-    odd.push((4, Call::Lookup(key(1))))?;
-    let even = inserts(rt.alloc(), &[2])?;
-    let shares = vec![in rt.alloc(); odd, even]?;
+    let demand = Demand {
+        inserted: keys(rt.alloc(), &[1, 2, 3, 2])?,
+        updates: vec![in rt.alloc(); 2, 1]?,
+    };
     // 8 new leaves; automatic are 2u + 16 + 8 bucket rows, 24 bucket words
-    let found = sizes_for(rt.alloc(), &settings, hashing, None, &[], &calls, &shares)?;
+    let found = sizes_for(rt.alloc(), &settings, hashing, None, &[], &demand)?;
     let want = |op_rows, bucket_rows, directory_rows| SeatRows {
         op_rows,
         bucket_rows,
@@ -199,11 +189,11 @@ fn sizes_of_each_share(rt: HostRuntime) -> Result<(), Fail> {
 fn sizes_where_nothing_is_split(rt: HostRuntime) -> Result<(), Fail> {
     let settings = Settings::new(2, 2, 3, 0)?;
     let hashing = Hashing::Ports(0);
-    let calls = inserts(rt.alloc(), &[1, 2])?;
-    let odd = inserts(rt.alloc(), &[1])?;
-    let even = inserts(rt.alloc(), &[2])?;
-    let shares = vec![in rt.alloc(); odd, even]?;
-    let found = sizes_for(rt.alloc(), &settings, hashing, None, &[], &calls, &shares)?;
+    let demand = Demand {
+        inserted: keys(rt.alloc(), &[1, 2])?,
+        updates: vec![in rt.alloc(); 1, 1]?,
+    };
+    let found = sizes_for(rt.alloc(), &settings, hashing, None, &[], &demand)?;
     // 2 new leaves; automatic are 2u + 2 + 2 bucket rows, 4 bucket words
     let want = SeatRows {
         op_rows: 1,
@@ -220,10 +210,10 @@ fn sizes_where_nothing_is_split(rt: HostRuntime) -> Result<(), Fail> {
 #[test]
 fn sizes_of_given_rows(rt: HostRuntime) -> Result<(), Fail> {
     let settings = Settings::new(2, 2, 3, 1)?;
-    let calls = inserts(rt.alloc(), &[1, 2])?;
-    let odd = inserts(rt.alloc(), &[1])?;
-    let even = inserts(rt.alloc(), &[2])?;
-    let shares = vec![in rt.alloc(); odd, even]?;
+    let demand = Demand {
+        inserted: keys(rt.alloc(), &[1, 2])?,
+        updates: vec![in rt.alloc(); 1, 1]?,
+    };
     let given = SeatRows {
         op_rows: 9,
         bucket_rows: 8,
@@ -236,11 +226,30 @@ fn sizes_of_given_rows(rt: HostRuntime) -> Result<(), Fail> {
         Hashing::Ports(0),
         Some(given),
         &[],
-        &calls,
-        &shares,
+        &demand,
     )?;
     assert_eq!(rt; found.settings, settings);
     assert_eq!(rt; found.rows.as_slice(), [given, given].as_slice());
+    Ok(())
+}
+
+// Two seats share three inserts, a remove and a lookup. The keys are told in order, and one that is inserted again is
+// told once; a remove and a lookup bring no key, and a lookup is no update.
+#[test]
+fn demand_of_worked_shares(rt: HostRuntime) -> Result<(), Fail> {
+    let calls = [
+        (1, Call::Insert(key(2), 1)),
+        (2, Call::Insert(key(1), 2)),
+        (3, Call::Remove(key(3))),
+        (4, Call::Lookup(key(4))),
+        (5, Call::Insert(key(2), 5)),
+    ];
+    let odd = vec![in rt.alloc(); calls[0], calls[2], calls[4]]?;
+    let even = vec![in rt.alloc(); calls[1], calls[3]]?;
+    let shares = vec![in rt.alloc(); odd, even]?;
+    let demand = demand_of(rt.alloc(), &calls, &shares)?;
+    assert_eq!(rt; demand.inserted.as_slice(), [key(1), key(2)].as_slice());
+    assert_eq!(rt; demand.updates.as_slice(), [3, 1].as_slice());
     Ok(())
 }
 
