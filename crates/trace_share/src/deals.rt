@@ -1,8 +1,8 @@
 //! How the calls of a batch are dealt to the seats.
 
-ghost use Rattle.std.specs.Prelude.{◌≡◌, ℕ, ◌+◌, ◌*◌, ◌/◌, ◌%◌, ◌<◌, ◌≤◌, ◌==◌, [], length, map, replicate, vec_len, IfOk};
+ghost use Rattle.std.specs.Prelude.{◌≡◌, ℕ, ◌+◌, ◌*◌, ◌/◌, ◌%◌, ◌<◌, ◌≤◌, ◌==◌, [], map, replicate, IfOk};
 ghost use Rattle.trace_share.specs.declared.deals.Share.TheVariants.{Block, Flow, Round};
-ghost use Rattle.trace_share.specs.Deal.{dealt, flow_hash, key_in, makes, part_start};
+ghost use Rattle.trace_share.specs.Deal.{dealt, flow_hash, makes, part_start};
 
 use hash_bits::Hashing;
 use plain_map::{Call, Key};

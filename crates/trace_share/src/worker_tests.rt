@@ -4,7 +4,7 @@ ghost use Rattle.std.specs.Prelude.{◌≡◌, ◌+◌, ◌++◌, ◌∷◌, ◌
 ghost use Rattle.std.proofs.Common.{rules};
 ghost use Rattle.plain_map.specs.Room.{left_of, published};
 ghost use Rattle.plain_map.specs.Serving.{IsAskable};
-ghost use Rattle.trace_share.specs.Work.{IsReady};
+ghost use Rattle.trace_share.specs.Work.{IsLogOf, IsReady, room_in};
 
 use crate::{Outcome, Worker, serve_all};
 use edge_traits::{Gate, OpenGate};
@@ -138,10 +138,10 @@ fn worker_of<'a, R: Abort>(
     alloc: Global,
     op_rows: u64,
     calls: &[(u32, Call)],
-) -> Result<Worker<Fake<'a, R>>, AllocError>
+) -> Result<Worker<Fake<'a, R>, Vec<Outcome>>, AllocError>
     requires askable { All (λ call. IsAskable call.1) calls.now }
     requires few { length calls.now < 2 ^ 32 }
-    ensures { IfOk result (IsReady (λ s. s.answered.items)) }
+    ensures { IfOk result (IsReady (λ s. s.answered.items) IsLogOf room_in) }
 {
     match Worker::new(alloc, Fake::new(rt, alloc, op_rows), calls.to_vec(alloc)?) {
         Ok(worker) => Ok(worker),
@@ -167,7 +167,7 @@ fn three<R: Threads + Abort + Sync>(rt: &R, alloc: Global) -> Result<Told, Alloc
     let mut told = Vec::new(alloc);
     let mut answered = Vec::new(alloc);
     for worker in &workers {
-        for outcome in &worker.log {
+        for outcome in &worker.kept {
             told.push(match outcome {
                 Outcome::Answered(record) => (record.packet, Ok(record.reply)),
                 Outcome::Refused { packet, full, .. } => (*packet, Err(*full)),

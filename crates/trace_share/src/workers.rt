@@ -1,30 +1,30 @@
 //! Workers that each serve their calls, in threads of their own.
 
-ghost use Rattle.std.specs.Prelude.{◌≡◌, ℕ, ◌+◌, ◌^◌, ◌<◌, ◌≤◌, [], ◌∷◌, length, vec_len, vec_capacity, IfOk, IfErr};
+ghost use Rattle.std.specs.Prelude.{◌≡◌, ◌+◌, ◌<◌, ◌≤◌, [], ◌∷◌, length, vec_len, IfOk, IfErr};
 ghost use Rattle.std.specs.List.{All, AllZip};
 ghost use Rattle.std.specs.Thread.{IsSync};
 ghost use Rattle.plain_map.specs.Serving.{CanCount, IsAskable};
 ghost use Rattle.trace_share.specs.Outcomes.{ComesTo};
 ghost use Rattle.trace_share.specs.Work.{IsDone, IsReady};
 
-use crate::Outcome;
+use crate::{Collector, Outcome};
 use edge_traits::Gate;
 use plain_map::{Call, Reply, Server};
 use std::alloc::{AllocError, Global};
 use std::mem;
 use std::thread::{Threads, join_mut};
 
-/// One that answers calls, with the calls that it is to answer and what came of them.
+/// One that answers calls, with the calls that it is to answer, and what is kept of how they ended.
 #[derive(Drop)]
-pub struct Worker<S> {
+pub struct Worker<S, K> {
     pub server: S,
     /// Each with the packet that it came from.
     pub calls: Vec<(u32, Call)>,
-    /// One for each call that was made, in order.
-    pub log: Vec<Outcome>,
+    /// Takes one outcome for each call that is made, in order.
+    pub kept: K,
 }
 
-impl<S> Worker<S> {
+impl<S, K: Collector> Worker<S, K> {
     /// A worker that has made no call, with room for what comes of its calls.
     ///
     /// Where there is no memory the server comes back as it was, and the calls are given up.
@@ -32,42 +32,63 @@ impl<S> Worker<S> {
         alloc: Global,
         server: S,
         calls: Vec<(u32, Call)>,
-    ) -> Result<Worker<S>, (AllocError, S)>
+    ) -> Result<Worker<S, K>, (AllocError, S)>
         ensures server { IfOk result (λ worker. worker.server ≡ server) }
         ensures calls { IfOk result (λ worker. worker.calls ≡ calls) }
-        ensures log { IfOk result (λ worker. worker.log.items ≡ []) }
-        ensures room { IfOk result (λ worker. vec_len worker.calls ≤ vec_capacity worker.log) }
+        ensures none { IfOk result (λ worker. K.holds worker.kept []) }
+        ensures room { IfOk result (λ worker. vec_len worker.calls ≤ K.room worker.kept) }
         ensures refused { IfErr result (λ failed. failed.1 ≡ server) }
     {
-        match Vec::with_capacity(alloc, calls.len()) {
-            Ok(log) => Ok(Worker { server, calls, log }),
+        match K::with_room(alloc, calls.len()) {
+            Ok(kept) => Ok(Worker {
+                server,
+                calls,
+                kept,
+            }),
             Err(failed) => Err((failed, server)),
         }
     }
 }
 
-impl<S: Server> Worker<S> {
-    // Makes all calls, one after the other. The log is taken out of the worker meanwhile: its length is written at each
-    // call, and the worker that lies beside this one would else lose that part of memory each time.
-    fn serve_calls<G: Gate>(&mut self, seat: u32, gate: &G)
-        requires { IsReady S.answered self.old }
-        ensures { IsDone S.answered S.spent S.rows S.need S.stays self.old self.new }
-    {
-        let none = Vec::new(*self.log.allocator());
-        let mut log = mem::replace(&mut self.log, none);
+/// One that has calls to make.
+pub trait Works {
+    // It may make them now.
+    ghost ready: { Self → Type 0 };
+
+    // The second is the first, once it has made them.
+    ghost done: { Self → Self → Type 0 };
+
+    /// Makes all its calls, one after the other. It passes the gate before each, and tells it of each answer, as this
+    /// seat. It takes no memory.
+    fn work<G: Gate>(&mut self, seat: u32, gate: &G)
+        requires ready { ready self.old }
+        ensures done { done self.old self.new };
+}
+
+impl<S: Server, K: Collector> Works for Worker<S, K> {
+    ghost ready = { IsReady S.answered K.holds K.room };
+
+    ghost done = { IsDone S.answered S.spent S.rows S.need S.stays K.holds };
+
+    // What is kept is taken out of the worker meanwhile: it is written at each call, and the worker that lies beside
+    // this one would else lose that part of memory each time.
+    fn work<G: Gate>(&mut self, seat: u32, gate: &G) {
+        let none = K::empty(*self.calls.allocator());
+        let mut kept = mem::replace(&mut self.kept, none);
         for place in 0..self.calls.len() {
             let (packet, call) = self.calls[place];
             let number = place as u32 + 1;
             gate.pass(seat, number);
             let outcome = outcome_of(&mut self.server, packet, call);
             gate.told(seat, number, carried(&outcome));
-            log.push_reserved(outcome);
+            kept.collect(outcome);
         }
-        self.log = log;
+        self.kept = kept;
     }
 }
 
-// Makes one call.
+// Makes one call. It is made part of each kind of worker, so that no outcome is built that nobody keeps.
+#[inline(always)]
 fn outcome_of<S: Server>(server: &mut S, packet: u32, call: Call) -> Outcome
     requires askable { IsAskable call }
     requires countable { CanCount (S.answered server.old) }
@@ -95,34 +116,34 @@ fn carried(outcome: &Outcome) -> u64 {
 ///
 /// A worker passes the gate before each of its calls and tells it of the answer, as the seat that is its place
 /// among the workers. Nothing takes memory but the threads; where no thread can be made, the caller's does the work.
-pub fn serve_all<R: Threads + Sync, S: Server + Send, G: Gate + Sync>(
+pub fn serve_all<R: Threads + Sync, W: Works + Send, G: Gate + Sync>(
     rt: &R,
-    workers: &mut [Worker<S>],
+    workers: &mut [W],
     gate: &G,
 )
     requires few { length workers.old ≤ 8 }
-    requires ready { All (IsReady S.answered) workers.old }
-    ensures done { AllZip (IsDone S.answered S.spent S.rows S.need S.stays) workers.old workers.new }
+    requires ready { All W.ready workers.old }
+    ensures done { AllZip W.done workers.old workers.new }
 {
     serve_from(rt, 0, workers, gate);
 }
 
 // The halves at once, down to single workers. The first has this seat.
-fn serve_from<R: Threads + Sync, S: Server + Send, G: Gate + Sync>(
+fn serve_from<R: Threads + Sync, W: Works + Send, G: Gate + Sync>(
     rt: &R,
     first: u32,
-    workers: &mut [Worker<S>],
+    workers: &mut [W],
     gate: &G,
 )
     requires few { first + length workers.old ≤ 8 }
-    requires ready { All (IsReady S.answered) workers.old }
-    ensures { AllZip (IsDone S.answered S.spent S.rows S.need S.stays) workers.old workers.new }
+    requires ready { All W.ready workers.old }
+    ensures { AllZip W.done workers.old workers.new }
 {
     if workers.len() == 0 {
         return;
     }
     if workers.len() == 1 {
-        workers[0].serve_calls(first, gate);
+        workers[0].work(first, gate);
         return;
     }
     let half = workers.len() / 2;
@@ -132,13 +153,13 @@ fn serve_from<R: Threads + Sync, S: Server + Send, G: Gate + Sync>(
         rt,
         &mut ||
             requires { IsSync R.row × IsSync G.row × (first + length front.now ≤ 8)
-                × All (IsReady S.answered) front.now }
-            ensures { AllZip (IsDone S.answered S.spent S.rows S.need S.stays) front.entry.now front.exit.now }
+                × All W.ready front.now }
+            ensures { AllZip W.done front.entry.now front.exit.now }
         { serve_from(rt, first, front, gate) },
         &mut ||
             requires { IsSync R.row × IsSync G.row × (second + length back.now ≤ 8)
-                × All (IsReady S.answered) back.now }
-            ensures { AllZip (IsDone S.answered S.spent S.rows S.need S.stays) back.entry.now back.exit.now }
+                × All W.ready back.now }
+            ensures { AllZip W.done back.entry.now back.exit.now }
         { serve_from(rt, second, back, gate) },
     );
 }
