@@ -31,6 +31,7 @@ impl<'a> Server for Caller<'a> {
 
     ghost stays = { λ c d. IsSame c.seat d.seat × (d.directory.now ≡ c.directory.now) };
 
+    #[inline(always)]
     fn serve(&mut self, packet: u32, call: &Call) -> Result<Record, Full> {
         self.seat.answer(self.directory, packet, call)
     }

@@ -107,6 +107,7 @@ impl Seat {
     /// Looks a key up. It is never refused, and takes no memory.
     ///
     /// **Steps:** exactly those of the items of the row that it reads; it waits for nobody.
+    #[inline(always)]
     pub fn lookup(&mut self, directory: &Directory, packet: u32, key: &Key) -> Record
         requires seat { IsOf directory.now self.old }
         requires countable { CanCount (account_of self.old).records }
