@@ -1,6 +1,6 @@
 -- The outcomes of a batch in packet order are those of its logs: there are such outcomes, and their totals are those of
 -- the logs, one after the other.
-use Rattle.std.proofs.Common.{◌≡◌, ℕ, suc, zero, ◌<◌, ◌≤◌, ◌+◌, max, Bool, true, false, cond, ◌==◌, List, [], ◌∷◌, ◌++◌, length, map, set, get_or, filter, refl, sym, ap, ◌∙◌, subst, inl, inr, add-zero, zero-add, arith}
+use Rattle.std.proofs.Common.{◌≡◌, ℕ, suc, zero, ◌<◌, ◌≤◌, ◌+◌, max, cond, ◌==◌, List, [], ◌∷◌, ◌++◌, length, map, set, get_or, filter, refl, sym, ap, ◌∙◌, subst, inl, inr, add-zero, zero-add, arith}
 use Rattle.std.specs.Prelude.{All, flat_map}
 use Rattle.std.specs.List.{range_with_len}
 use Rattle.std.proofs.lemmas.Bool.{cases_eq}
@@ -13,8 +13,8 @@ use Rattle.plain_map.specs.declared.full.FullKind.TheVariants.{OpRows}
 use Rattle.trace_share.specs.declared.deals.Share.{Share}
 use Rattle.trace_share.specs.declared.outcome.Outcome.{Outcome}
 use Rattle.trace_share.specs.declared.outcome.Outcome.TheVariants.{Refused}
-use Rattle.trace_share.proofs.DealLemmas.{other_is, same_is}
-use Rattle.trace_share.proofs.OnceLemmas.{one_makes}
+use Rattle.trace_share.proofs.DealLemmas.{map_cond, other_is, same_is}
+use Rattle.trace_share.proofs.OnceLemmas.{flat_map_nothing, flat_map_same, one_makes}
 use Rattle.batch_runner.specs.declared.totals.Totals.{Totals}
 use Rattle.batch_runner.specs.declared.totals.Replies.{Replies}
 use Rattle.batch_runner.specs.Served.{AreInPacketOrder}
@@ -108,15 +108,6 @@ totals_swap p q r =
       replies = replies_swap p.replies q.replies r.replies i;
     })
 
--- lists that agree on each number agree end to end
-same_lists : {X : Type 0} (f g : ℕ → List X) (a n : ℕ) → ((s : ℕ) → a ≤ s → s < a + n → f s ≡ g s) →
-    flat_map f (range_with_len a n) ≡ flat_map g (range_with_len a n)
-same_lists f g a zero same = refl
-same_lists f g a (suc n) same =
-    ap (λ front. front ++ flat_map f (range_with_len (a + 1) n)) (same a (omega arith) (omega arith))
-    ∙ ap (λ rest. g a ++ rest)
-    (same_lists f g (a + 1) n (λ (s : ℕ) (low : a + 1 ≤ s) (high : s < a + 1 + n). same s (omega arith) (omega arith)))
-
 -- one outcome more in one of the lists is one more in all
 one_more : (f g : ℕ → List Outcome) (x : Outcome) (t a n : ℕ) → a ≤ t → t < a + n →
     ((s : ℕ) → a ≤ s → s < a + n → f s ≡ cond (t == s) (x ∷ g s) (g s)) →
@@ -129,7 +120,7 @@ one_more f g x t a (suc n) low high is =
           let first : f a ≡ x ∷ g a =
           is a (omega arith) (omega arith) ∙ ap (λ b. cond b (x ∷ g a) (g a)) (same_is t a same) in
           let others : flat_map f (range_with_len (a + 1) n) ≡ flat_map g (range_with_len (a + 1) n) =
-          same_lists f g (a + 1) n
+          flat_map_same f g (a + 1) n
           (λ (s : ℕ) (from : a + 1 ≤ s) (to : s < a + 1 + n).
           is s (omega arith) (omega arith)
           ∙ ap (λ b. cond b (x ∷ g s) (g s)) (other_is t s (λ (e : t ≡ s). omega arith))) in
@@ -151,20 +142,10 @@ one_more f g x t a (suc n) low high is =
 abbrev of_seat : List (ℕ × Outcome) → ℕ → List Outcome
 of_seat outcomes seat = map (λ (o : ℕ × Outcome). o.1) (filter (λ (o : ℕ × Outcome). o.0 == seat) outcomes)
 
-no_lists : (a n : ℕ) → flat_map (of_seat []) (range_with_len a n) ≡ []
-no_lists a zero = refl
-no_lists a (suc n) = no_lists (a + 1) n
-
-map_cond : (b : Bool) (o : ℕ × Outcome) (rest : List (ℕ × Outcome)) →
-    map (λ (p : ℕ × Outcome). p.1) (cond b (o ∷ rest) rest)
-    ≡ cond b (o.1 ∷ map (λ (p : ℕ × Outcome). p.1) rest) (map (λ (p : ℕ × Outcome). p.1) rest)
-map_cond true o rest = refl
-map_cond false o rest = refl
-
 -- those of all seats have the totals of all
 by_seats : (n : ℕ) (outcomes : List (ℕ × Outcome)) → All (λ (o : ℕ × Outcome). o.0 < n) outcomes →
     totals_of (map (λ (o : ℕ × Outcome). o.1) outcomes) ≡ totals_of (flat_map (of_seat outcomes) (range_with_len 0 n))
-by_seats n [] below = ap totals_of (sym (no_lists 0 n))
+by_seats n [] below = ap totals_of (sym (flat_map_nothing {X = Outcome} 0 n))
 by_seats n (o ∷ outcomes) below =
     let P : ℕ × Outcome → Type 0 = λ (p : ℕ × Outcome). p.0 < n in
     totals_sum (o.1 ∷ []) (map (λ (p : ℕ × Outcome). p.1) outcomes)
@@ -172,7 +153,7 @@ by_seats n (o ∷ outcomes) below =
     ∙ sym (one_more (of_seat (o ∷ outcomes)) (of_seat outcomes) o.1 o.0 0 n (omega arith)
     (omega (arith, All-head P o outcomes below))
     (λ (s : ℕ) (from : 0 ≤ s) (to : s < 0 + n).
-    map_cond (o.0 == s) o (filter (λ (p : ℕ × Outcome). p.0 == s) outcomes)))
+    map_cond (λ (p : ℕ × Outcome). p.1) (o.0 == s) o (filter (λ (p : ℕ × Outcome). p.0 == s) outcomes)))
 
 -- lists that are told one by one, from a number on, are these
 told_lists : (logs : List (List Outcome)) (list : ℕ → List Outcome) (a : ℕ) →

@@ -1,5 +1,5 @@
 -- No seat has more calls in a batch than the batch has.
-use Rattle.std.proofs.Common.{◌≡◌, ℕ, ◌<◌, ◌≤◌, List, [], ◌∷◌, length, map, sym, subst, arith, vec_len, Vec, Global}
+use Rattle.std.proofs.Common.{◌≡◌, ℕ, ◌<◌, ◌≤◌, List, [], ◌∷◌, length, map, sym, subst, arith}
 use Rattle.std.specs.Prelude.{All}
 use Rattle.std.proofs.lemmas.List.{length-map}
 use Rattle.std.proofs.lemmas.List.Elements.{All-nil, All-cons, All-head, All-tail, All-weaker}
@@ -37,16 +37,14 @@ short_asked service calls logs asked =
     (unmap_all L f logs (subst (All L) (sym asked) shares))
 
 -- whole logs neither
-pub short_logs : (service : Service) (calls : List (ℕ × Call)) (logs : List (Vec Outcome Global)) (limit : ℕ) →
-    map (λ (log : List Outcome). map asked_in log) (map (λ (log : Vec Outcome Global). log.items) logs)
-    ≡ shares_of service calls → length calls < limit →
-    All (λ (log : Vec Outcome Global). vec_len log < limit) logs
+pub short_logs : (service : Service) (calls : List (ℕ × Call)) (logs : List (List Outcome)) (limit : ℕ) →
+    map (λ (log : List Outcome). map asked_in log) logs ≡ shares_of service calls → length calls < limit →
+    All (λ (log : List Outcome). length log < limit) logs
 short_logs service calls logs limit asked few =
-    let item : Vec Outcome Global → List Outcome = λ (log : Vec Outcome Global). log.items in
     let L : List (ℕ × Call) → Type 0 = λ (s : List (ℕ × Call)). length s ≤ length calls in
     let f : List Outcome → List (ℕ × Call) = λ (log : List Outcome). map asked_in log in
-    let M : List Outcome → Type 0 = λ (log : List Outcome). length (map asked_in log) ≤ length calls in
     let shares : All L (shares_of service calls) = dealt_few service.share service.settings.seats calls in
-    All-weaker (λ (log : Vec Outcome Global). M log.items) (λ (log : Vec Outcome Global). vec_len log < limit)
-    (λ log less. omega (arith, less, few, length-map log.items asked_in, log.ok.0)) logs
-    (unmap_all M item logs (unmap_all L f (map item logs) (subst (All L) (sym asked) shares)))
+    All-weaker (λ (log : List Outcome). length (map asked_in log) ≤ length calls)
+    (λ (log : List Outcome). length log < limit)
+    (λ log less. omega (arith, less, few, length-map log asked_in)) logs
+    (unmap_all L f logs (subst (All L) (sym asked) shares))

@@ -1,5 +1,5 @@
 -- What holds of all calls holds of each seat's share.
-use Rattle.std.proofs.Common.{◌≡◌, ℕ, ◌<◌, ◌≤◌, ◌+◌, Bool, List, [], ◌∷◌, length, map, filter, get_or, sym, subst, arith, vec_len, Vec, Global}
+use Rattle.std.proofs.Common.{◌≡◌, ℕ, ◌<◌, ◌≤◌, ◌+◌, Bool, List, [], ◌∷◌, length, map, filter, get_or, sym, ap, subst, ◌∙◌, arith, vec_len, Vec, Global}
 use Rattle.std.specs.Prelude.{All, Option, Some, None}
 use Rattle.std.specs.List.{enumerate_from, range_with_len}
 use Rattle.std.proofs.lemmas.List.{length-map, length-replicate}
@@ -12,9 +12,12 @@ use Rattle.step_counts.specs.declared.settings.Settings.{Settings}
 use Rattle.plain_map.specs.declared.calls.Call.{Call}
 use Rattle.plain_map.specs.declared.keys.Pair.{Pair}
 use Rattle.core_model.specs.Needs.{batch_rows_of}
+use Rattle.core_model.specs.SeatStates.{is_update}
 use Rattle.trace_share.specs.declared.deals.Share.{Share}
 use Rattle.trace_share.specs.Deal.{makes, calls_of, dealt}
+use Rattle.batch_rows.specs.declared.demand.Demand.{Demand}
 use Rattle.batch_rows.specs.BatchRows.{rows_of, rules_in, splits_in_calls, updates_in_calls}
+use Rattle.batch_rows.specs.Demands.{IsDemandOf}
 
 -- there is a share for each seat
 pub long_dealt : (share : Share) (seats : ℕ) (calls : List (ℕ × Call)) → length (dealt share seats calls) ≡ seats
@@ -89,6 +92,28 @@ few_items limit calls share seats shares few is =
     (subst (All (λ (s : List (ℕ × Call)). length s ≤ length calls)) (sym is) (dealt_few share seats calls)) in
     All-weaker (λ (s : Vec (ℕ × Call) Global). length s.items ≤ length calls)
     (λ (s : Vec (ℕ × Call) Global). vec_len s < limit) (λ s less. omega (arith, less, few, s.ok.0)) shares each
+
+-- a seat makes no more updates than there are calls
+pub few_updates : (limit : ℕ) (calls : List (ℕ × Call)) (share : Share) (seats : ℕ) (updates : List ℕ) →
+    length calls < limit → updates ≡ map updates_in_calls (dealt share seats calls) →
+    All (λ number. number < limit) updates
+few_updates limit calls share seats updates few is =
+    subst (All (λ number. number < limit)) (sym is)
+    (All-map (λ number. number < limit) updates_in_calls (dealt share seats calls)
+    (All-weaker (λ (s : List (ℕ × Call)). length s ≤ length calls)
+    (λ (s : List (ℕ × Call)). updates_in_calls s < limit)
+    (λ s less. omega (arith, less, few, count_by-le-length (λ (asked : ℕ × Call). is_update asked.1) s))
+    (dealt share seats calls) (dealt_few share seats calls)))
+
+-- what is asked of a table by these shares is asked by the seats that they are dealt to
+pub demand_dealt : (calls : List (ℕ × Call)) (share : Share) (seats : ℕ) (shares others : List (Vec (ℕ × Call) Global))
+    (demand : Demand) → others ≡ shares →
+    map (λ (s : Vec (ℕ × Call) Global). s.items) shares ≡ dealt share seats calls →
+    IsDemandOf calls (map (λ (s : Vec (ℕ × Call) Global). s.items) others) demand →
+    IsDemandOf calls (dealt share seats calls) demand
+demand_dealt calls share seats shares others demand same is asked =
+    subst (λ (lists : List (List (ℕ × Call))). IsDemandOf calls lists demand)
+    (ap (map (λ (s : Vec (ℕ × Call) Global). s.items)) same ∙ is) asked
 
 -- there are rows for each share
 pub long_rows : (s : Settings) (hashing : Hashing) (given : Option SeatRows) (first : List Pair)

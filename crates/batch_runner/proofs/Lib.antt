@@ -14,3 +14,4 @@ pub mod TotalLemmas
 pub mod Sums
 pub mod Merges
 pub mod ByLogs
+pub mod Kept

@@ -4,14 +4,14 @@ use Rattle.std.specs.Prelude.{All}
 use Rattle.std.specs.List.{enumerate_from}
 use Rattle.std.proofs.lemmas.Bool.{cases_eq}
 use Rattle.std.proofs.lemmas.List.{append-nil, get_or-set_other, get_or-set_same, length-map, map-append, take_all, take_more, get_or-map, take-append-drop}
-use Rattle.std.proofs.lemmas.List.Elements.{All-nil, All-push, filter_more, filter-append}
-use Rattle.std.proofs.lemmas.List.FromFn.{get_or-enumerate_from, get_or-map-range_with_len, length-enumerate_from, length-map-range_with_len}
+use Rattle.std.proofs.lemmas.List.Elements.{All-nil, All-push, filter-append}
+use Rattle.std.proofs.lemmas.List.FromFn.{get_or-map-range_with_len, length-enumerate_from, length-map-range_with_len}
 use Rattle.plain_map.specs.declared.calls.Call.{Call}
 use Rattle.trace_share.specs.declared.deals.Share.{Share}
 use Rattle.trace_share.specs.declared.outcome.Outcome.{Outcome}
 use Rattle.trace_share.specs.Deal.{makes, calls_of, dealt}
 use Rattle.trace_share.specs.Outcomes.{asked_in}
-use Rattle.trace_share.proofs.DealLemmas.{calls_until, same_is, other_is}
+use Rattle.trace_share.proofs.DealLemmas.{calls_until, map_cond, other_is, same_is, until_more}
 use Rattle.batch_runner.specs.Served.{AreInPacketOrder}
 
 -- the calls of a seat from the i-th of all on
@@ -30,34 +30,6 @@ cut_at share seats calls i seat =
     ap (λ (ps : List (ℕ × (ℕ × Call))). map last (filter test ps)) (sym (take-append-drop i placed))
     ∙ ap (map last) (filter-append test (take i placed) (drop i placed))
     ∙ map-append last (filter test (take i placed)) (filter test (drop i placed))
-
-map_one : {X Y : Type 0} (f : X → Y) (b : Bool) (x : X) → map f (cond b (x ∷ []) []) ≡ cond b (f x ∷ []) []
-map_one f true x = refl
-map_one f false x = refl
-
--- a call goes to its seat's list alone
-until_more : (share : Share) (seats : ℕ) (calls : List (ℕ × Call)) (i seat : ℕ) (call : ℕ × Call) (own : Bool) →
-    i < length calls → call ≡ get_or calls i call → makes share seats (length calls) seat (i, call) ≡ own →
-    calls_until share seats calls (i + 1) seat ≡ calls_until share seats calls i seat ++ cond own (call ∷ []) []
-unfolding calls_until
-until_more share seats calls i seat call own inside is tested =
-    let placed : List (ℕ × (ℕ × Call)) = enumerate_from 0 calls in
-    let test : ℕ × (ℕ × Call) → Bool = makes share seats (length calls) seat in
-    let size : length placed ≡ length calls = length-enumerate_from 0 calls in
-    let within : i < length placed = omega arith in
-    let next : get_or placed i (i, call) ≡ (i, call) =
-    get_or-enumerate_from 0 calls i (i, call) inside
-    ∙ ap (λ (place : ℕ). (place, get_or calls i call)) (zero-add i)
-    ∙ ap (λ (one : ℕ × Call). (i, one)) (sym is) in
-    let more : filter test (take (i + 1) placed)
-    ≡ filter test (take i placed) ++ cond own ((i, call) ∷ []) [] =
-    filter_more test placed i (i, call) within
-    ∙ ap (λ (one : ℕ × (ℕ × Call)). filter test (take i placed) ++ cond (test one) (one ∷ []) []) next
-    ∙ ap (λ (b : Bool). filter test (take i placed) ++ cond b ((i, call) ∷ []) []) tested in
-    ap (map (λ (p : ℕ × (ℕ × Call)). p.1)) more
-    ∙ map-append (λ (p : ℕ × (ℕ × Call)). p.1) (filter test (take i placed)) (cond own ((i, call) ∷ []) [])
-    ∙ ap (λ (one : List (ℕ × Call)). map (λ (p : ℕ × (ℕ × Call)). p.1) (filter test (take i placed)) ++ one)
-    (map_one (λ (p : ℕ × (ℕ × Call)). p.1) own (i, call))
 
 -- before the first call there is none, and after the last one all
 until_none : (share : Share) (seats : ℕ) (calls : List (ℕ × Call)) (seat : ℕ) →
@@ -195,7 +167,7 @@ module _ (share : Share) (seats : ℕ) (calls : List (ℕ × Call)) (logs : List
               let last : ℕ × Outcome → Outcome = λ (o : ℕ × Outcome). o.1 in
               ap (map last) (filter-append test outcomes ((seat, outcome) ∷ []))
               ∙ map-append last (filter test outcomes) (cond (seat == s) ((seat, outcome) ∷ []) [])
-              ∙ ap (λ (os : List Outcome). kept s outcomes ++ os) (map_one last (seat == s) (seat, outcome))
+              ∙ ap (λ (os : List Outcome). kept s outcomes ++ os) (map_cond last (seat == s) (seat, outcome) [])
 
           then : List ℕ
           then = set taken seat (get_or taken seat 0 + 1)

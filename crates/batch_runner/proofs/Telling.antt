@@ -19,6 +19,12 @@ use Rattle.batch_runner.proofs.Deals.{long_dealt}
 use Rattle.batch_runner.proofs.Rights.{can_open}
 use Rattle.batch_runner.proofs.Counted.{short_asked, unmap_all}
 
+-- as many outcomes are counted as there were calls
+pub told_many : (service : Service) (served : Served) → IsServed service served →
+    length (map (λ (o : ℕ × Outcome). o.1) served.outcomes) ≡ length served.calls
+told_many service served is = length-map served.outcomes (λ (o : ℕ × Outcome). o.1)
+    ∙ sym (length-map served.outcomes (λ (o : ℕ × Outcome). asked_in o.1)) ∙ ap length is.outcomes.asked
+
 module _ (service : Service) (served : Served) (batch : Batch) (is : IsServed service served)
     (told : IsToldBy service served batch) where
   -- its pairs can open the next
@@ -43,18 +49,13 @@ module _ (service : Service) (served : Served) (batch : Batch) (is : IsServed se
       (All-map (λ count. count ≤ length served.calls) (λ (log : List Outcome). length (records_in log)) served.logs
       (short_asked service served.calls served.logs is.of_run.asked))
 
-  -- as many outcomes are counted as there were calls
-  told_many : length (map (λ (o : ℕ × Outcome). o.1) served.outcomes) ≡ length served.calls
-  told_many = length-map served.outcomes (λ (o : ℕ × Outcome). o.1)
-      ∙ sym (length-map served.outcomes (λ (o : ℕ × Outcome). asked_in o.1)) ∙ ap length is.outcomes.asked
-
   -- so the next batch can be opened, and its counts are small
   pub told_on : CanGoOn service served.calls batch
   told_on = record {
     reopens = told_open;
     seats = omega (arith, told_seats, service.settings.seats_in_range.1);
     answered = told_answered;
-    counted = (map (λ (o : ℕ × Outcome). o.1) served.outcomes, told.totals, told_many);
+    counted = (map (λ (o : ℕ × Outcome). o.1) served.outcomes, told.totals, told_many service served is);
   }
 
   -- the answered ones are how many calls the seats have answered then

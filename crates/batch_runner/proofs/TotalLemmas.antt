@@ -224,7 +224,7 @@ totals_more {A = A} f xs i x inside is =
 
 -- ---- two lists
 
-count_sum : {A : Type 0} (test : A → Bool) (xs ys : List A) →
+pub count_sum : {A : Type 0} (test : A → Bool) (xs ys : List A) →
     count_by test (xs ++ ys) ≡ count_by test xs + count_by test ys
 count_sum test xs ys =
     omega (

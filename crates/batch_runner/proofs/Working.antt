@@ -2,7 +2,7 @@
 use Rattle.std.proofs.Common.{◌≡◌, ℕ, zero, suc, ◌<◌, ◌+◌, ◌^◌, List, [], ◌∷◌, ◌++◌, length, map, take, drop, reverse, refl, sym, ap, ◌∙◌, subst, vec_len, Vec, Global, arith, append_assoc, append-nil}
 use Rattle.std.specs.Prelude.{All}
 use Rattle.std.specs.List.{AllZip}
-use Rattle.std.proofs.lemmas.List.{drop_all, map-append, reverse-append}
+use Rattle.std.proofs.lemmas.List.{drop_all, reverse-append}
 use Rattle.std.proofs.Math.Seq.{take-length}
 use Rattle.std.proofs.lemmas.List.Elements.{All-nil, All-cons, All-head, All-tail}
 use Rattle.step_counts.specs.declared.rows.SeatRows.{SeatRows}
@@ -45,14 +45,6 @@ new_end t n (y ∷ ys) x (suc m) e =
 
 -- ---- workers
 
--- each of as many as there are shares
-pub many_fresh : (t : TableValue) (n : ℕ) (shares : List (List (ℕ × Call))) (ws : List SeatWorker) →
-    AreFresh t n shares ws → length ws ≡ length shares
-many_fresh t n [] [] f = refl
-many_fresh t n [] (w ∷ ws) f = absurd f
-many_fresh t n (share ∷ shares) [] f = absurd f
-many_fresh t n (share ∷ shares) (w ∷ ws) f = ap suc (many_fresh t (suc n) shares ws f.1)
-
 -- what a worker's server has answered and published, its ranges, what an update may need, and how it stays the same
 abbrev pub answered : Caller → List Record
 answered s = (account_of s.seat).records
@@ -69,177 +61,206 @@ need s = need_of (settings_of s.seat.holding.setup)
 abbrev pub stays : Caller → Caller → Type 0
 stays s s' = IsSame s.seat s'.seat × (s'.directory.now ≡ s.directory.now)
 
--- they are ready
+-- a share of calls that may be asked, no more than can be counted
 abbrev pub IsShort : List (ℕ × Call) → Type 0
 IsShort share = (All (λ (call : ℕ × Call). IsAskable call.1) share) × (length share < 2 ^ 32)
 
-pub all_ready : (t : TableValue) (n : ℕ) (shares : List (List (ℕ × Call))) (ws : List SeatWorker) →
-    All IsShort shares → AreFresh t n shares ws → All (IsReady answered) ws
-all_ready t n [] [] short f = All-nil (IsReady answered)
-all_ready t n [] (w ∷ ws) short f = absurd f
-all_ready t n (share ∷ shares) [] short f = absurd f
-all_ready t n (share ∷ shares) (w ∷ ws) short f =
-    let one = f.0 in
-    let here = All-head IsShort share shares short in
-    let none : length (answered w.server) ≡ 0 = ap (λ (s : SeatValue). length (account_of s).records) one.seat in
-    let long : vec_len w.calls ≡ length share = w.calls.ok.0 ∙ ap length one.calls_are in
-    All-cons (IsReady answered) w ws
-    (record {
-      none = one.none;
-      room = one.room;
-      askable = subst (All (λ (call : ℕ × Call). IsAskable call.1)) (sym one.calls_are) here.0;
-      countable = omega (arith, none, long, here.1);
-    })
-    (all_ready t (suc n) shares ws (All-tail IsShort share shares short) f.1)
-
--- one that is done has made its calls
-made_by : (t : TableValue) (n : ℕ) (share : List (ℕ × Call)) (w v : SeatWorker) → IsFresh t n share w →
-    IsDone answered spent rows need stays w v → IsThrough t n share v
-made_by t n share w v f d =
-    let c = d.came_to in
-    let was : w.server.seat ≡ new_seat t n = f.seat in
-    let used_is : c.used ≡ (account_of v.server.seat).spent =
-    sym (c.spent_are ∙ ap (λ (s : SeatValue). (account_of s).spent ++ c.used) was) in
-    record {
-      of = record {
-        table = c.same.0.table ∙ ap (λ (s : SeatValue). s.table_id) was;
-        setup = c.same.0.setup ∙ ap (λ (s : SeatValue). s.holding.setup) was;
-      };
-      number_is = c.same.0.number ∙ ap (λ (s : SeatValue). s.holding.seat) was;
-      asked = c.asked ∙ f.calls_are;
-      records = c.answered_are ∙ ap (λ (s : SeatValue). (account_of s).records ++ records_in v.log.items) was;
-      refused = subst (λ (used : List SeatRows). RefusedByRoom (sizes_of t.setup.shape n)
-          (need_of (settings_of t.setup)) [] used v.log.items)
-          used_is
-          (subst (λ (s : SeatValue). RefusedByRoom (sizes_of s.holding.setup.shape s.holding.seat)
-          (need_of (settings_of s.holding.setup)) (account_of s).spent c.used v.log.items) was c.refused);
-    }
-
-pub all_through : (t : TableValue) (n : ℕ) (shares : List (List (ℕ × Call))) (ws vs : List SeatWorker) →
-    AreFresh t n shares ws → AllZip (IsDone answered spent rows need stays) ws vs → AreThrough t n shares vs
-all_through t n [] [] [] f z = tt
-all_through t n [] [] (v ∷ vs) f z = absurd z
-all_through t n [] (w ∷ ws) vs f z = absurd f
-all_through t n (share ∷ shares) [] vs f z = absurd f
-all_through t n (share ∷ shares) (w ∷ ws) [] f z = absurd z
-all_through t n (share ∷ shares) (w ∷ ws) (v ∷ vs) f z =
-    (made_by t n share w v f.0 z.0, all_through t (suc n) shares ws vs f.1 z.1)
-
--- ---- the last worker first
-
+-- a list's last is first when it is turned round
 pub reverse_end : {A : Type 0} (xs : List A) (x : A) → reverse (xs ++ x ∷ []) ≡ x ∷ reverse xs
 reverse_end xs x = reverse-append xs (x ∷ [])
 
--- made from the last seat down
-pub record FreshFrom (t : TableValue) (n : ℕ) (all front : List (List (ℕ × Call))) (ws : List SeatWorker) :
-    Type 0 where
-  pub back : List (List (ℕ × Call))
-  pub cut : all ≡ front ++ back
-  pub fresh : AreFresh t n back (reverse ws)
+-- workers that keep such values of the outcomes
+module _ {K : Type 0} (holds : K → List Outcome → Type 0) (room : K → ℕ) where
+  -- each of as many as there are shares
+  pub many_fresh : (t : TableValue) (n : ℕ) (shares : List (List (ℕ × Call))) (ws : List (SeatWorker K)) →
+      AreFresh holds room t n shares ws → length ws ≡ length shares
+  many_fresh t n [] [] f = refl
+  many_fresh t n [] (w ∷ ws) f = absurd f
+  many_fresh t n (share ∷ shares) [] f = absurd f
+  many_fresh t n (share ∷ shares) (w ∷ ws) f = ap suc (many_fresh t (suc n) shares ws f.1)
 
-pub fresh_none : (t : TableValue) (n : ℕ) (all : List (List (ℕ × Call))) → FreshFrom t n all all []
-fresh_none t n all = record { back = []; cut = sym (append-nil all); fresh = tt }
+  -- they are ready
+  pub all_ready : (t : TableValue) (n : ℕ) (shares : List (List (ℕ × Call))) (ws : List (SeatWorker K)) →
+      All IsShort shares → AreFresh holds room t n shares ws → All (IsReady answered holds room) ws
+  all_ready t n [] [] short f = All-nil (IsReady answered holds room)
+  all_ready t n [] (w ∷ ws) short f = absurd f
+  all_ready t n (share ∷ shares) [] short f = absurd f
+  all_ready t n (share ∷ shares) (w ∷ ws) short f =
+      let one = f.0 in
+      let here = All-head IsShort share shares short in
+      let none : length (answered w.server) ≡ 0 = ap (λ (s : SeatValue). length (account_of s).records) one.seat in
+      let long : vec_len w.calls ≡ length share = w.calls.ok.0 ∙ ap length one.calls_are in
+      All-cons (IsReady answered holds room) w ws
+      (record {
+        none = one.none;
+        room_left = one.room_left;
+        askable = subst (All (λ (call : ℕ × Call). IsAskable call.1)) (sym one.calls_are) here.0;
+        countable = omega (arith, none, long, here.1);
+      })
+      (all_ready t (suc n) shares ws (All-tail IsShort share shares short) f.1)
 
-pub fresh_more : (t : TableValue) (n m : ℕ) (all front more : List (List (ℕ × Call))) (share : List (ℕ × Call))
-    (ws now : List SeatWorker) (w : SeatWorker) → m ≡ suc n → FreshFrom t m all more ws → more ≡ front ++ share ∷ [] →
-    IsFresh t n share w → now ≡ ws ++ w ∷ [] → FreshFrom t n all front now
-fresh_more t n m all front more share ws now w m_is from more_is one now_is = record {
-  back = share ∷ from.back;
-  cut = from.cut ∙ ap (λ (xs : List (List (ℕ × Call))). xs ++ from.back) more_is
-      ∙ append_assoc front (share ∷ []) from.back;
-  fresh = subst (AreFresh t n (share ∷ from.back)) (sym (ap reverse now_is ∙ reverse_end ws w))
-      (one, subst (λ (k : ℕ). AreFresh t k from.back (reverse ws)) m_is from.fresh);
-}
+  -- one that is done has made its calls
+  made_by : (t : TableValue) (n : ℕ) (share : List (ℕ × Call)) (w v : SeatWorker K) → IsFresh holds room t n share w →
+      IsDone answered spent rows need stays holds w v → IsThrough holds t n share v
+  made_by t n share w v f d =
+      let c = d.came_to in
+      let was : w.server.seat ≡ new_seat t n = f.seat in
+      let used_is : c.used ≡ (account_of v.server.seat).spent =
+      sym (c.spent_are ∙ ap (λ (s : SeatValue). (account_of s).spent ++ c.used) was) in (
+        d.log,
+        record {
+          of = record {
+            table = c.same.0.table ∙ ap (λ (s : SeatValue). s.table_id) was;
+            setup = c.same.0.setup ∙ ap (λ (s : SeatValue). s.holding.setup) was;
+          };
+          number_is = c.same.0.number ∙ ap (λ (s : SeatValue). s.holding.seat) was;
+          asked = c.asked ∙ f.calls_are;
+          records = c.answered_are ∙ ap (λ (s : SeatValue). (account_of s).records ++ records_in d.log) was;
+          refused = subst (λ (used : List SeatRows). RefusedByRoom (sizes_of t.setup.shape n)
+              (need_of (settings_of t.setup)) [] used d.log)
+              used_is
+              (subst (λ (s : SeatValue). RefusedByRoom (sizes_of s.holding.setup.shape s.holding.seat)
+              (need_of (settings_of s.holding.setup)) (account_of s).spent c.used d.log) was c.refused);
+        },
+        d.kept,
+      )
 
--- the last of those that are through
-pub record LastThrough (t : TableValue) (n : ℕ) (shares : List (List (ℕ × Call))) (ws : List SeatWorker)
-    (w : SeatWorker) :
-    Type 0 where
-  pub front : List (List (ℕ × Call))
-  pub share : List (ℕ × Call)
-  pub cut : shares ≡ front ++ share ∷ []
-  pub others : AreThrough t n front ws
-  pub last : IsThrough t (n + length ws) share w
+  -- so have all that are done
+  pub all_through : (t : TableValue) (n : ℕ) (shares : List (List (ℕ × Call))) (ws vs : List (SeatWorker K)) →
+      AreFresh holds room t n shares ws → AllZip (IsDone answered spent rows need stays holds) ws vs →
+      AreThrough holds t n shares vs
+  all_through t n [] [] [] f z = tt
+  all_through t n [] [] (v ∷ vs) f z = absurd z
+  all_through t n [] (w ∷ ws) vs f z = absurd f
+  all_through t n (share ∷ shares) [] vs f z = absurd f
+  all_through t n (share ∷ shares) (w ∷ ws) [] f z = absurd z
+  all_through t n (share ∷ shares) (w ∷ ws) (v ∷ vs) f z =
+      (made_by t n share w v f.0 z.0, all_through t (suc n) shares ws vs f.1 z.1)
 
-pub through_end : (t : TableValue) (n : ℕ) (shares : List (List (ℕ × Call))) (ws : List SeatWorker) (w : SeatWorker) →
-    AreThrough t n shares (ws ++ w ∷ []) → LastThrough t n shares ws w
-through_end t n [] [] w h = absurd h
-through_end t n [] (v ∷ ws) w h = absurd h
-through_end t n (share ∷ []) [] w h =
-    let z : n ≡ n + 0 = omega arith in
-    record {
-      front = [];
-      share = share;
-      cut = refl;
-      others = tt;
-      last = subst (λ (k : ℕ). IsThrough t k share w) z h.0;
-    }
-through_end t n (share ∷ next ∷ shares) [] w h = absurd h.1
-through_end t n (share ∷ shares) (v ∷ ws) w h =
-    let r = through_end t (suc n) shares ws w h.1 in
-    let z : suc n + length ws ≡ n + suc (length ws) = omega arith in
-    record {
-      front = share ∷ r.front;
-      share = r.share;
-      cut = ap (λ (xs : List (List (ℕ × Call))). share ∷ xs) r.cut;
-      others = (h.0, r.others);
-      last = subst (λ (k : ℕ). IsThrough t k r.share w) z r.last;
-    }
+  -- made from the last seat down
+  pub record FreshFrom (t : TableValue) (n : ℕ) (all front : List (List (ℕ × Call))) (ws : List (SeatWorker K)) :
+      Type 0 where
+    pub back : List (List (ℕ × Call))
+    pub cut : all ≡ front ++ back
+    pub fresh : AreFresh holds room t n back (reverse ws)
 
--- taken apart from the last one down
-pub record MadeFrom (t : TableValue) (n : ℕ) (all : List (List (ℕ × Call))) (ws : List SeatWorker)
-    (seats : List SeatValue) (logs : List (List Outcome)) : Type 0 where
-  pub front : List (List (ℕ × Call))
-  pub back : List (List (ℕ × Call))
-  pub cut : all ≡ front ++ back
-  pub through : AreThrough t 0 front ws
-  pub made : HaveMade t n back (reverse seats) (reverse logs)
+  -- none is made yet
+  pub fresh_none : (t : TableValue) (n : ℕ) (all : List (List (ℕ × Call))) → FreshFrom t n all all []
+  fresh_none t n all = record { back = []; cut = sym (append-nil all); fresh = tt }
 
-pub made_none : (t : TableValue) (n : ℕ) (all : List (List (ℕ × Call))) (ws : List SeatWorker) → AreThrough t 0 all ws →
-    MadeFrom t n all ws [] []
-made_none t n all ws h = record { front = all; back = []; cut = sym (append-nil all); through = h; made = tt }
+  -- one more is made
+  pub fresh_more : (t : TableValue) (n m : ℕ) (all front more : List (List (ℕ × Call))) (share : List (ℕ × Call))
+      (ws now : List (SeatWorker K)) (w : SeatWorker K) → m ≡ suc n → FreshFrom t m all more ws →
+      more ≡ front ++ share ∷ [] → IsFresh holds room t n share w → now ≡ ws ++ w ∷ [] → FreshFrom t n all front now
+  fresh_more t n m all front more share ws now w m_is from more_is one now_is = record {
+    back = share ∷ from.back;
+    cut = from.cut ∙ ap (λ (xs : List (List (ℕ × Call))). xs ++ from.back) more_is
+        ∙ append_assoc front (share ∷ []) from.back;
+    fresh = subst (AreFresh holds room t n (share ∷ from.back)) (sym (ap reverse now_is ∙ reverse_end ws w))
+        (one, subst (λ (k : ℕ). AreFresh holds room t k from.back (reverse ws)) m_is from.fresh);
+  }
 
-pub made_more : (t : TableValue) (n m : ℕ) (all : List (List (ℕ × Call))) (ws now : List SeatWorker) (w : SeatWorker)
-    (seats seats' : List SeatValue) (logs logs' : List (List Outcome)) → MadeFrom t m all ws seats logs →
-    ws ≡ now ++ w ∷ [] → n ≡ length now → m ≡ suc n → seats' ≡ seats ++ w.server.seat ∷ [] →
-    logs' ≡ logs ++ w.log.items ∷ [] → MadeFrom t n all now seats' logs'
-made_more t n m all ws now w seats seats' logs logs' from ws_is n_is m_is seats_are logs_are =
-    let r = through_end t 0 from.front now w (subst (AreThrough t 0 from.front) ws_is from.through) in
-    let z : 0 + length now ≡ n = omega (arith, n_is) in
-    record {
-      front = r.front;
-      back = r.share ∷ from.back;
-      cut = from.cut ∙ ap (λ (xs : List (List (ℕ × Call))). xs ++ from.back) r.cut
-          ∙ append_assoc r.front (r.share ∷ []) from.back;
-      through = r.others;
-      made = subst (λ (x : List SeatValue × List (List Outcome)). HaveMade t n (r.share ∷ from.back) x.0 x.1)
-          (λ i. (
-            sym (ap reverse seats_are ∙ reverse_end seats w.server.seat) i,
-            sym (ap reverse logs_are ∙ reverse_end logs w.log.items) i,
-          )) (
-            subst (λ (k : ℕ). IsThrough t k r.share w) z r.last,
-            subst (λ (k : ℕ). HaveMade t k from.back (reverse seats) (reverse logs)) m_is from.made,
-          );
-    }
+-- ---- the last worker first
 
--- then all are
-pub made_end : (t : TableValue) (all : List (List (ℕ × Call))) (ws : List SeatWorker) (seats : List SeatValue)
-    (logs : List (List Outcome)) → length ws ≡ 0 → MadeFrom t 0 all ws seats logs →
-    HaveMade t 0 all (reverse seats) (reverse logs)
-made_end t all (w ∷ ws) seats logs none from = absurd (omega (arith, none))
-made_end t all [] seats logs none from =
-    subst (λ (shares : List (List (ℕ × Call))). HaveMade t 0 shares (reverse seats) (reverse logs))
-    (sym (from.cut ∙ ap (λ (xs : List (List (ℕ × Call))). xs ++ from.back) (nothing from.front from.through))) from.made
-  where
-    nothing : (front : List (List (ℕ × Call))) → AreThrough t 0 front [] → front ≡ []
-    nothing [] h = refl
-    nothing (share ∷ front) h = absurd h
+module _ {K : Type 0} (holds : K → List Outcome → Type 0) where
+  -- the last of those that are through
+  pub record LastThrough (t : TableValue) (n : ℕ) (shares : List (List (ℕ × Call))) (ws : List (SeatWorker K))
+      (w : SeatWorker K) : Type 0 where
+    pub front : List (List (ℕ × Call))
+    pub share : List (ℕ × Call)
+    pub cut : shares ≡ front ++ share ∷ []
+    pub others : AreThrough holds t n front ws
+    pub last : IsThrough holds t (n + length ws) share w
 
-pub map_reverse : {A B : Type 0} (f : A → B) (xs : List A) → map f (reverse xs) ≡ reverse (map f xs)
-map_reverse f [] = refl
-map_reverse f (x ∷ xs) =
-    ap (map f) (reverse-append (x ∷ []) xs) ∙ map-append f (reverse xs) (x ∷ [])
-    ∙ ap (λ ys. ys ++ f x ∷ []) (map_reverse f xs) ∙ sym (reverse-append (f x ∷ []) (map f xs))
+  -- there is one
+  pub through_end : (t : TableValue) (n : ℕ) (shares : List (List (ℕ × Call))) (ws : List (SeatWorker K))
+      (w : SeatWorker K) → AreThrough holds t n shares (ws ++ w ∷ []) → LastThrough t n shares ws w
+  through_end t n [] [] w h = absurd h
+  through_end t n [] (v ∷ ws) w h = absurd h
+  through_end t n (share ∷ []) [] w h =
+      let z : n ≡ n + 0 = omega arith in
+      record {
+        front = [];
+        share = share;
+        cut = refl;
+        others = tt;
+        last = subst (λ (k : ℕ). IsThrough holds t k share w) z h.0;
+      }
+  through_end t n (share ∷ next ∷ shares) [] w h = absurd h.1
+  through_end t n (share ∷ shares) (v ∷ ws) w h =
+      let r = through_end t (suc n) shares ws w h.1 in
+      let z : suc n + length ws ≡ n + suc (length ws) = omega arith in
+      record {
+        front = share ∷ r.front;
+        share = r.share;
+        cut = ap (λ (xs : List (List (ℕ × Call))). share ∷ xs) r.cut;
+        others = (h.0, r.others);
+        last = subst (λ (k : ℕ). IsThrough holds t k r.share w) z r.last;
+      }
+
+  -- taken apart from the last one down
+  pub record MadeFrom (t : TableValue) (n : ℕ) (all : List (List (ℕ × Call))) (ws : List (SeatWorker K))
+      (seats : List SeatValue) (kept : List K) : Type 0 where
+    pub front : List (List (ℕ × Call))
+    pub back : List (List (ℕ × Call))
+    pub cut : all ≡ front ++ back
+    pub through : AreThrough holds t 0 front ws
+    pub logs : List (List Outcome)
+    pub made : HaveMade t n back (reverse seats) logs
+    pub held : AllZip holds (reverse kept) logs
+
+  -- none is taken apart yet
+  pub made_none : (t : TableValue) (n : ℕ) (all : List (List (ℕ × Call))) (ws : List (SeatWorker K)) →
+      AreThrough holds t 0 all ws → MadeFrom t n all ws [] []
+  made_none t n all ws h = record {
+    front = all;
+    back = [];
+    cut = sym (append-nil all);
+    through = h;
+    logs = [];
+    made = tt;
+    held = tt;
+  }
+
+  -- one more is
+  pub made_more : (t : TableValue) (n m : ℕ) (all : List (List (ℕ × Call))) (ws now : List (SeatWorker K))
+      (w : SeatWorker K) (seats seats' : List SeatValue) (kept kept' : List K) → MadeFrom t m all ws seats kept →
+      ws ≡ now ++ w ∷ [] → n ≡ length now → m ≡ suc n → seats' ≡ seats ++ w.server.seat ∷ [] →
+      kept' ≡ kept ++ w.kept ∷ [] → MadeFrom t n all now seats' kept'
+  made_more t n m all ws now w seats seats' kept kept' from ws_is n_is m_is seats_are kept_are =
+      let r = through_end t 0 from.front now w (subst (AreThrough holds t 0 from.front) ws_is from.through) in
+      let z : 0 + length now ≡ n = omega (arith, n_is) in
+      let one = subst (λ (k : ℕ). IsThrough holds t k r.share w) z r.last in
+      record {
+        front = r.front;
+        back = r.share ∷ from.back;
+        cut = from.cut ∙ ap (λ (xs : List (List (ℕ × Call))). xs ++ from.back) r.cut
+            ∙ append_assoc r.front (r.share ∷ []) from.back;
+        through = r.others;
+        logs = one.0 ∷ from.logs;
+        made = subst (λ (x : List SeatValue). HaveMade t n (r.share ∷ from.back) x (one.0 ∷ from.logs))
+            (sym (ap reverse seats_are ∙ reverse_end seats w.server.seat))
+            (one.1, subst (λ (k : ℕ). HaveMade t k from.back (reverse seats) from.logs) m_is from.made);
+        held = subst (λ (x : List K). AllZip holds x (one.0 ∷ from.logs))
+            (sym (ap reverse kept_are ∙ reverse_end kept w.kept)) (one.2, from.held);
+      }
+
+  -- then all are
+  pub made_end : (t : TableValue) (all : List (List (ℕ × Call))) (ws : List (SeatWorker K)) (seats : List SeatValue)
+      (kept : List K) → length ws ≡ 0 → MadeFrom t 0 all ws seats kept →
+      (logs : List (List Outcome)) × HaveMade t 0 all (reverse seats) logs × AllZip holds (reverse kept) logs
+  made_end t all (w ∷ ws) seats kept none from = absurd (omega (arith, none))
+  made_end t all [] seats kept none from = (
+    from.logs,
+    subst (λ (shares : List (List (ℕ × Call))). HaveMade t 0 shares (reverse seats) from.logs)
+        (sym (from.cut ∙ ap (λ (xs : List (List (ℕ × Call))). xs ++ from.back) (nothing from.front from.through)))
+        from.made,
+    from.held,
+  )
+    where
+      nothing : (front : List (List (ℕ × Call))) → AreThrough holds t 0 front [] → front ≡ []
+      nothing [] h = refl
+      nothing (share ∷ front) h = absurd h
 
 -- the shares are short
 pub all_short : (shares : List (Vec (ℕ × Call) Global)) →
@@ -257,10 +278,10 @@ all_short (share ∷ shares) askable short =
     (all_short shares (All-tail A share shares askable) (All-tail S share shares short))
 
 -- what a slice of a whole `Vec` leaves there
-pub whole_slice : (ws vs : List SeatWorker) (n : ℕ) → n ≡ length ws → length vs ≡ length ws →
+pub whole_slice : {A : Type 0} (ws vs : List A) (n : ℕ) → n ≡ length ws → length vs ≡ length ws →
     take n (vs ++ drop (length vs) ws) ≡ vs
 whole_slice ws vs n is long =
     let none : drop (length vs) ws ≡ [] = drop_all (length vs) ws (omega arith) in
     let n_is : n ≡ length vs = is ∙ sym long in
-    ap (λ (t : List SeatWorker). take n (vs ++ t)) none ∙ ap (take n) (append-nil vs)
+    ap (λ t. take n (vs ++ t)) none ∙ ap (take n) (append-nil vs)
     ∙ ap (λ (k : ℕ). take k vs) n_is ∙ take-length vs

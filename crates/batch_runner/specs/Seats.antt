@@ -1,5 +1,5 @@
 -- The seats of a batch's table, in the order of their numbers, before and after they make their calls.
-use Rattle.std.specs.Prelude.{◌≡◌, ℕ, suc, ◌≤◌, List, [], ◌∷◌, map, vec_len, vec_capacity}
+use Rattle.std.specs.Prelude.{◌≡◌, ℕ, suc, ◌≤◌, List, [], ◌∷◌, map, vec_len}
 use Rattle.step_counts.specs.StepCounts.{need_of}
 use Rattle.plain_map.specs.declared.calls.Call.{Call}
 use Rattle.word_rows.specs.Shape.{sizes_of}
@@ -12,23 +12,25 @@ use Rattle.trace_share.specs.declared.workers.Worker.{Worker}
 use Rattle.trace_share.specs.Outcomes.{asked_in, records_in, RefusedByRoom}
 
 -- a worker that makes calls by a seat
-abbrev pub SeatWorker : Type 0
-SeatWorker = Worker Caller
+abbrev pub SeatWorker : Type 0 → Type 0
+SeatWorker K = Worker Caller K
 
 -- it has the seat with this number, which is new, these calls, and room for what comes of them
-pub record IsFresh (t : TableValue) (number : ℕ) (calls : List (ℕ × Call)) (w : SeatWorker) : Type 0 where
+pub record IsFresh {K : Type 0} (holds : K → List Outcome → Type 0) (room : K → ℕ) (t : TableValue) (number : ℕ)
+    (calls : List (ℕ × Call)) (w : SeatWorker K) : Type 0 where
   pub seat : w.server.seat ≡ new_seat t number
   pub directory : w.server.directory.now ≡ t
   pub calls_are : w.calls.items ≡ calls
-  pub none : w.log.items ≡ []
-  pub room : vec_len w.calls ≤ vec_capacity w.log
+  pub none : holds w.kept []
+  pub room_left : vec_len w.calls ≤ room w.kept
 
 -- so have these, from a number on, with these calls
-abbrev pub AreFresh : TableValue → (number : ℕ) → List (List (ℕ × Call)) → List SeatWorker → Type 0
-AreFresh t number [] [] = Unit {0}
-AreFresh t number (calls ∷ shares) (w ∷ workers) =
-    IsFresh t number calls w × AreFresh t (suc number) shares workers
-AreFresh t number _ _ = ⊥
+abbrev pub AreFresh : {K : Type 0} → (holds : K → List Outcome → Type 0) → (room : K → ℕ) → TableValue → (number : ℕ) →
+    List (List (ℕ × Call)) → List (SeatWorker K) → Type 0
+AreFresh holds room t number [] [] = Unit {0}
+AreFresh holds room t number (calls ∷ shares) (w ∷ workers) =
+    IsFresh holds room t number calls w × AreFresh holds room t (suc number) shares workers
+AreFresh holds room t number _ _ = ⊥
 
 -- the seat with this number has made these calls, which came to this log
 pub record HasMade (t : TableValue) (number : ℕ) (calls : List (ℕ × Call)) (s : SeatValue) (log : List Outcome) :
@@ -48,11 +50,13 @@ HaveMade t number (calls ∷ shares) (s ∷ seats) (log ∷ logs) =
 HaveMade t number _ _ _ = ⊥
 
 -- a worker that has made its calls
-abbrev pub IsThrough : TableValue → (number : ℕ) → List (ℕ × Call) → SeatWorker → Type 0
-IsThrough t number calls w = HasMade t number calls w.server.seat w.log.items
+abbrev pub IsThrough : {K : Type 0} → (holds : K → List Outcome → Type 0) → TableValue → (number : ℕ) →
+    List (ℕ × Call) → SeatWorker K → Type 0
+IsThrough holds t number calls w = (log : List Outcome) × HasMade t number calls w.server.seat log × holds w.kept log
 
-abbrev pub AreThrough : TableValue → (number : ℕ) → List (List (ℕ × Call)) → List SeatWorker → Type 0
-AreThrough t number [] [] = Unit {0}
-AreThrough t number (calls ∷ shares) (w ∷ workers) =
-    IsThrough t number calls w × AreThrough t (suc number) shares workers
-AreThrough t number _ _ = ⊥
+abbrev pub AreThrough : {K : Type 0} → (holds : K → List Outcome → Type 0) → TableValue → (number : ℕ) →
+    List (List (ℕ × Call)) → List (SeatWorker K) → Type 0
+AreThrough holds t number [] [] = Unit {0}
+AreThrough holds t number (calls ∷ shares) (w ∷ workers) =
+    IsThrough holds t number calls w × AreThrough holds t (suc number) shares workers
+AreThrough holds t number _ _ = ⊥

@@ -14,7 +14,7 @@ use Rattle.batch_rows.specs.Depths.{IsTableFor}
 use Rattle.batch_runner.specs.declared.service.Service.{Service}
 use Rattle.batch_runner.specs.declared.batch.Batch.{Batch}
 use Rattle.batch_runner.specs.Totals.{totals_of}
-use Rattle.batch_runner.specs.Served.{CanOpen, IsOfRun, Served, depth_in, leaves_in, order_in, rules_of, setup_in, shares_of}
+use Rattle.batch_runner.specs.Served.{AreInPacketOrder, CanOpen, IsOfRun, IsServed, Served, depth_in, leaves_in, order_in, rules_of, setup_in, shares_of}
 
 -- this is what the batch came to
 pub record IsToldBy (service : Service) (served : Served) (batch : Batch) : Type 0 where
@@ -63,6 +63,16 @@ served_with first calls logs closed outcomes batch = record {
   outcomes = outcomes;
   pairs = batch.pairs.items;
 }
+
+-- there are outcomes of a batch with these logs and this closed table, in packet order, and whatever these are, this is
+-- what it came to
+pub record HasOutcomes (service : Service) (first : List Pair) (calls : List (ℕ × Call)) (logs : List (List Outcome))
+    (closed : ClosedValue) (batch : Batch) : Type 0 where
+  pub some : (outcomes : List (ℕ × Outcome)) × AreInPacketOrder calls logs outcomes
+  pub served : (outcomes : List (ℕ × Outcome)) → AreInPacketOrder calls logs outcomes →
+      IsServed service (served_with first calls logs closed outcomes batch)
+  pub told : (outcomes : List (ℕ × Outcome)) → AreInPacketOrder calls logs outcomes →
+      IsToldBy service (served_with first calls logs closed outcomes batch) batch
 
 -- the pairs that a batch of these calls leaves can open the next one, its counts are small, and its totals are of as
 -- many outcomes as there were calls

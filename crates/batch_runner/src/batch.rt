@@ -1,6 +1,7 @@
 //! One batch.
 
 ghost use Rattle.std.specs.Prelude.{◌≡◌, ℕ, ◌^◌, ◌<◌, ◌++◌, All, IfOk, List, OnErr, length, map};
+ghost use Rattle.std.specs.List.{AllZip};
 ghost use Rattle.std.specs.Option.{ForSome};
 ghost use Rattle.plain_map.specs.Calls.{key_in};
 ghost use Rattle.plain_map.specs.Serving.{IsAskable};
@@ -10,26 +11,28 @@ ghost use Rattle.core_model.specs.Setup.{settings_of};
 ghost use Rattle.shared_table.specs.Values.{new_seats};
 ghost use Rattle.report_text.specs.Report.{batch_lines};
 ghost use Rattle.trace_share.specs.declared.outcome.Outcome.{Outcome as AnOutcome};
+ghost use Rattle.batch_rows.specs.Demands.{IsDemandOf};
 ghost use Rattle.batch_rows.specs.Depths.{IsTableFor};
 ghost use Rattle.batch_rows.specs.declared.rows.TheConstants.{CALL_LIMIT};
-ghost use Rattle.batch_runner.specs.Served.{AreInPacketOrder, CanOpen, IsServed, Served, rules_of, setup_in, shares_of};
+ghost use Rattle.batch_runner.specs.Served.{CanOpen, IsServed, Served, rules_of, setup_in, shares_of};
 ghost use Rattle.batch_runner.specs.Printed.{lines_of};
-ghost use Rattle.batch_runner.specs.Told.{CanGoOn, IsClosedBatch, IsOrderOf, IsToldBy, served_with};
+ghost use Rattle.batch_runner.specs.Told.{CanGoOn, HasOutcomes, IsClosedBatch, IsOrderOf, IsToldBy};
+ghost use Rattle.batch_runner.specs.Totals.{IsTotalOf};
 
 use crate::ordering::order_in;
 use crate::outcomes::{counts_of, outcomes_of};
 use crate::service::Service;
 use crate::text::put_lines;
-use crate::totals::Totals;
+use crate::totals::{Totals, totals_in};
 use crate::workers::serve_shares;
 use crate::workspace::Workspace;
-use batch_rows::sizes_for;
+use batch_rows::{Demand, demand_of, sizes_for};
 use edge_traits::Gate;
 use plain_map::{Call, CallId, MOST_SEATS, OpenFault, Pair};
 use shared_table::{ClosedTable, Directory, Seat, order_laws};
 use std::alloc::{AllocError, Global};
 use std::thread::Threads;
-use trace_share::{Outcome, deal};
+use trace_share::{Collector, Outcome, deal};
 
 /// What a batch came to.
 #[derive(Drop)]
@@ -87,9 +90,19 @@ pub fn print_batch<R: Threads + Sync, G: Gate + Sync>(
     ensures kept { OnErr result (out.new.items ≡ out.old.items) }
 {
     let shares = deal(alloc, service.share, service.settings.seats, calls)?;
-    let (closed, logs) = close_batch(rt, alloc, service, workspace, first, calls, shares, gate)?;
+    let demand = demand_of(alloc, calls, &shares)?;
+    let (closed, logs) = close_batch::<R, Vec<Outcome>, G>(
+        rt, alloc, service, workspace, first, calls, shares, &demand, gate,
+    )?;
     let outcomes = outcomes_of(alloc, service.share, service.settings.seats, calls, &logs)?;
-    let batch = told(alloc, service, first, calls, &closed, &logs)?;
+    let batch = told(
+        alloc,
+        service,
+        first,
+        calls,
+        &closed,
+        &totals_in(alloc, &logs)?,
+    )?;
     let start = out.len();
     if let Err(failed) = put_lines(
         rt,
@@ -130,15 +143,25 @@ pub fn serve_batch<R: Threads + Sync, G: Gate + Sync>(
     ensures goes_on { IfOk result (λ account. CanGoOn service.now calls.now account.batch) }
 {
     let shares = deal(alloc, service.share, service.settings.seats, calls)?;
-    let (closed, logs) = close_batch(rt, alloc, service, workspace, first, calls, shares, gate)?;
-    let batch = told(alloc, service, first, calls, &closed, &logs)?;
+    let demand = demand_of(alloc, calls, &shares)?;
+    let (closed, logs) = close_batch::<R, Vec<Outcome>, G>(
+        rt, alloc, service, workspace, first, calls, shares, &demand, gate,
+    )?;
+    let batch = told(
+        alloc,
+        service,
+        first,
+        calls,
+        &closed,
+        &totals_in(alloc, &logs)?,
+    )?;
     let order = order_in(alloc, &mut workspace.tables, &closed, &logs)?;
     workspace.blank.keep(closed);
     Ok(Account { batch, logs, order })
 }
 
-/// The same without lines and order, where the calls are dealt already. The shares are those of the seats, seat 0
-/// first.
+/// The same without lines and order, where the calls are dealt already and it is told what they ask of the table. The
+/// shares are those of the seats, seat 0 first.
 pub fn try_batch<R: Threads + Sync, G: Gate + Sync>(
     rt: &R,
     alloc: Global,
@@ -147,6 +170,7 @@ pub fn try_batch<R: Threads + Sync, G: Gate + Sync>(
     first: &[Pair],
     calls: &[(u32, Call)],
     shares: Vec<Vec<(u32, Call)>>,
+    demand: &Demand,
     gate: &G,
 ) -> Result<Batch, AllocError>
     requires given { ForSome service.now.rows (AreBelow (2 ^ 32)) }
@@ -154,19 +178,22 @@ pub fn try_batch<R: Threads + Sync, G: Gate + Sync>(
     requires askable { All (λ call. IsAskable call.1) calls.now }
     requires opens { CanOpen (rules_of service.now) first.now }
     requires shares { map (λ share. share.items) shares.items ≡ shares_of service.now calls.now }
+    requires demand { IsDemandOf calls.now (shares_of service.now calls.now) demand.now }
     ensures served { IfOk result (λ batch. (served : Served) × (served.first ≡ first.now)
         × (served.calls ≡ calls.now) × IsServed service.now served × IsToldBy service.now served batch) }
     ensures goes_on { IfOk result (CanGoOn service.now calls.now) }
 {
-    let (closed, logs) = close_batch(rt, alloc, service, workspace, first, calls, shares, gate)?;
-    let batch = told(alloc, service, first, calls, &closed, &logs)?;
+    let (closed, totals) = close_batch::<R, Totals, G>(
+        rt, alloc, service, workspace, first, calls, shares, demand, gate,
+    )?;
+    let batch = told(alloc, service, first, calls, &closed, &totals)?;
     workspace.blank.keep(closed);
     Ok(batch)
 }
 
-// Opens the table, lets the seats make their shares of the calls, and closes it. The logs are those of the seats, in
-// order.
-fn close_batch<R: Threads + Sync, G: Gate + Sync>(
+// Opens the table, lets the seats make their shares of the calls, and closes it; with what was kept of each seat's
+// calls, in the order of the seats.
+fn close_batch<R: Threads + Sync, K: Collector + Send, G: Gate + Sync>(
     rt: &R,
     alloc: Global,
     service: &Service,
@@ -174,68 +201,64 @@ fn close_batch<R: Threads + Sync, G: Gate + Sync>(
     first: &[Pair],
     calls: &[(u32, Call)],
     shares: Vec<Vec<(u32, Call)>>,
+    demand: &Demand,
     gate: &G,
-) -> Result<(ClosedTable, Vec<Vec<Outcome>>), AllocError>
+) -> Result<(ClosedTable, Vec<K>), AllocError>
     requires given { ForSome service.now.rows (AreBelow (2 ^ 32)) }
     requires few { length calls.now < CALL_LIMIT }
     requires askable { All (λ call. IsAskable call.1) calls.now }
     requires opens { CanOpen (rules_of service.now) first.now }
     requires shares { map (λ share. share.items) shares.items ≡ shares_of service.now calls.now }
-    ensures { IfOk result (λ done. IsClosedBatch service.now first.now calls.now done.0
-        (map (λ log. log.items) done.1.items)) }
+    requires demand { IsDemandOf calls.now (shares_of service.now calls.now) demand.now }
+    ensures { IfOk result (λ done. (logs : List (List AnOutcome)) × AllZip K.holds done.1.items logs
+        × IsClosedBatch service.now first.now calls.now done.0 logs) }
 {
-    let (directory, seats) = opened(alloc, service, workspace, first, calls, &shares)?;
-    let (seats, logs) = serve_shares(rt, alloc, &directory, seats, shares, gate)?;
+    let (directory, seats) = opened(alloc, service, workspace, first, calls, demand)?;
+    let (seats, kept) = serve_shares(rt, alloc, &directory, seats, shares, gate)?;
     let closed = directory.close_in_place(seats);
     order_laws();
-    Ok((closed, logs))
+    Ok((closed, kept))
 }
 
-// What a batch came to whose table is closed: there are outcomes of it in packet order, and whatever these are, it is
-// told of them.
+// What a batch came to whose table is closed, of which the totals of each seat's calls are told: there are outcomes of
+// it in packet order, and whatever these are, it is told of them.
 fn told(
     alloc: Global,
     service: &Service,
     first: &[Pair],
     calls: &[(u32, Call)],
     closed: &ClosedTable,
-    logs: &[Vec<Outcome>],
+    each: &[Totals],
 ) -> Result<Batch, AllocError>
     requires few { length calls.now < CALL_LIMIT }
-    requires closed { IsClosedBatch service.now first.now calls.now closed.now (map (λ log. log.items) logs.now) }
-    ensures some { IfOk result (λ _. (outcomes : List (ℕ × AnOutcome))
-        × AreInPacketOrder calls.now (map (λ log. log.items) logs.now) outcomes) }
-    ensures served { IfOk result (λ batch. (outcomes : List (ℕ × AnOutcome)) →
-        AreInPacketOrder calls.now (map (λ log. log.items) logs.now) outcomes →
-        IsServed service.now (served_with first.now calls.now (map (λ log. log.items) logs.now) closed.now
-        outcomes batch)) }
-    ensures told { IfOk result (λ batch. (outcomes : List (ℕ × AnOutcome)) →
-        AreInPacketOrder calls.now (map (λ log. log.items) logs.now) outcomes →
-        IsToldBy service.now (served_with first.now calls.now (map (λ log. log.items) logs.now) closed.now
-        outcomes batch) batch) }
+    requires closed { (logs : List (List AnOutcome)) × AllZip IsTotalOf each.now logs
+        × IsClosedBatch service.now first.now calls.now closed.now logs }
+    ensures told { IfOk result (λ batch. (logs : List (List AnOutcome)) → AllZip IsTotalOf each.now logs →
+        IsClosedBatch service.now first.now calls.now closed.now logs →
+        HasOutcomes service.now first.now calls.now logs closed.now batch) }
 {
     Ok(Batch {
-        totals: Totals::of(logs),
-        answered: counts_of(alloc, logs)?,
+        totals: Totals::sum(each),
+        answered: counts_of(alloc, each)?,
         pairs: closed.pairs(alloc)?,
         leaves: closed.leaves(alloc)?.len() as u64,
         depth: closed.depth() as u32,
     })
 }
 
-// The table of a batch, and its seats in order.
+// The table of a batch of these calls, of which it is told what they ask, and its seats in order.
 fn opened(
     alloc: Global,
     service: &Service,
     workspace: &mut Workspace,
     first: &[Pair],
     calls: &[(u32, Call)],
-    shares: &[Vec<(u32, Call)>],
+    demand: &Demand,
 ) -> Result<(Directory, Vec<Seat>), AllocError>
     requires given { ForSome service.now.rows (AreBelow (2 ^ 32)) }
     requires few { length calls.now < CALL_LIMIT }
     requires opens { CanOpen (rules_of service.now) first.now }
-    requires shares { map (λ share. share.items) shares.now ≡ shares_of service.now calls.now }
+    requires demand { IsDemandOf calls.now (shares_of service.now calls.now) demand.now }
     ensures table { IfOk result (λ made. IsTableFor service.now.settings service.now.hashing service.now.rows
         first.now calls.now (settings_of made.0.setup)) }
     ensures setup { IfOk result (λ made.
@@ -248,8 +271,7 @@ fn opened(
         service.hashing,
         service.rows,
         first,
-        calls,
-        shares,
+        demand,
     )?;
     match Directory::open_in(
         alloc,

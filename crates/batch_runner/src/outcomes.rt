@@ -1,11 +1,15 @@
 //! What the calls of all seats came to, put together.
 
-ghost use Rattle.std.specs.Prelude.{◌≡◌, ◌^◌, ◌<◌, ◌≤◌, All, IfOk, length, map, vec_len};
+ghost use Rattle.std.specs.Prelude.{◌≡◌, ◌^◌, ◌<◌, ◌≤◌, All, IfOk, List, length, map};
+ghost use Rattle.std.specs.List.{AllZip};
+ghost use Rattle.trace_share.specs.declared.outcome.Outcome.{Outcome as AnOutcome};
 ghost use Rattle.trace_share.specs.Deal.{dealt};
 ghost use Rattle.trace_share.specs.Outcomes.{asked_in, records_in};
 ghost use Rattle.batch_runner.specs.Served.{AreInPacketOrder};
 ghost use Rattle.batch_runner.specs.Told.{read_there};
+ghost use Rattle.batch_runner.specs.Totals.{IsTotalOf};
 
+use crate::totals::Totals;
 use plain_map::{Call, Record};
 use std::alloc::{AllocError, Global};
 use trace_share::{Outcome, Share, seat_for};
@@ -64,28 +68,16 @@ fn answered_in(alloc: Global, log: &[Outcome]) -> Result<Vec<Record>, AllocError
     Ok(records)
 }
 
-/// How many of each log were answered.
-pub(crate) fn counts_of(alloc: Global, logs: &[Vec<Outcome>]) -> Result<Vec<u32>, AllocError>
-    requires few { All (λ log. vec_len log < 2 ^ 32) logs.now }
-    ensures { IfOk result (λ counts. counts.items ≡ map (λ log. length (records_in log.items)) logs.now) }
+/// How many calls of each seat were answered.
+pub(crate) fn counts_of(alloc: Global, each: &[Totals]) -> Result<Vec<u32>, AllocError>
+    requires few { (logs : List (List AnOutcome)) × AllZip IsTotalOf each.now logs
+        × All (λ log. length log < 2 ^ 32) logs }
+    ensures { IfOk result (λ counts. (logs : List (List AnOutcome)) → AllZip IsTotalOf each.now logs →
+        counts.items ≡ map (λ log. length (records_in log)) logs) }
 {
-    let mut counts = Vec::with_capacity(alloc, logs.len())?;
-    for log in logs {
-        counts.push(count_in(log))?;
+    let mut counts = Vec::with_capacity(alloc, each.len())?;
+    for totals in each {
+        counts.push((totals.calls - totals.refused) as u32)?;
     }
     Ok(counts)
-}
-
-// How many of these were answered.
-fn count_in(log: &[Outcome]) -> u32
-    requires few { length log.now < 2 ^ 32 }
-    ensures { result ≡ length (records_in log.now) }
-{
-    let mut count = 0;
-    for outcome in log {
-        if let Outcome::Answered(_) = outcome {
-            count += 1;
-        }
-    }
-    count
 }

@@ -1,11 +1,13 @@
 //! What all calls came to, over all batches.
 
-ghost use Rattle.std.specs.Prelude.{◌≡◌, ◌+◌, ◌-◌, ◌^◌, ◌<◌, [], List, ◌++◌, flat_map, length};
+ghost use Rattle.std.specs.Prelude.{◌≡◌, ◌+◌, ◌-◌, ◌^◌, ◌<◌, [], All, IfOk, List, ◌++◌, flat_map, length, map, vec_len};
+ghost use Rattle.std.specs.List.{AllZip};
 ghost use Rattle.trace_share.specs.declared.outcome.Outcome.{Outcome as AnOutcome};
-ghost use Rattle.batch_runner.specs.Totals.{AreFewer, totals_of, with_outcome, with_replies, with_reply};
+ghost use Rattle.batch_runner.specs.Totals.{AreFewer, IsTotalOf, totals_of, with_outcome, with_replies, with_reply};
 
 use plain_map::{Call, Reply};
-use trace_share::Outcome;
+use std::alloc::{AllocError, Global};
+use trace_share::{Collector, Outcome};
 
 /// How many calls had each reply.
 #[derive(Clone, Copy, Debug, PartialEq, Eq)]
@@ -53,14 +55,16 @@ impl Totals {
         }
     }
 
-    /// Of the calls of these logs.
-    pub(crate) fn of(logs: &[Vec<Outcome>]) -> Totals
-        requires few { length (flat_map (λ log. log.items) logs.now) < 2 ^ 63 }
-        ensures { result ≡ totals_of (flat_map (λ log. log.items) logs.now) }
+    /// Of all calls of some seats, of which each one's are told.
+    pub(crate) fn sum(each: &[Totals]) -> Totals
+        requires few { (logs : List (List AnOutcome)) × AllZip IsTotalOf each.now logs
+            × (length (flat_map (λ log. log) logs) < 2 ^ 63) }
+        ensures { (logs : List (List AnOutcome)) → AllZip IsTotalOf each.now logs →
+            result ≡ totals_of (flat_map (λ log. log) logs) }
     {
         let mut totals = Totals::new();
-        for log in logs {
-            totals.put_log(log);
+        for more in each {
+            totals.add(more);
         }
         totals
     }
@@ -80,16 +84,6 @@ impl Totals {
         self.replies.add(&batch.replies);
     }
 
-    // The calls of one log more.
-    fn put_log(&mut self, log: &[Outcome])
-        requires { (all : List AnOutcome) × (self.old ≡ totals_of all) × (length all + length log.now < 2 ^ 64) }
-        ensures { (all : List AnOutcome) → self.old ≡ totals_of all → self.new ≡ totals_of (all ++ log.now) }
-    {
-        for outcome in log {
-            self.put(outcome);
-        }
-    }
-
     // One call more.
     fn put(&mut self, outcome: &Outcome)
         requires { (all : List AnOutcome) × (self.old ≡ totals_of all) × (length all + 1 < 2 ^ 64) }
@@ -99,16 +93,59 @@ impl Totals {
         match outcome {
             Outcome::Answered(made) => {
                 self.replies.put(made.reply);
-                match made.call {
-                    Call::Lookup(_) => self.lookup = self.lookup.max(made.steps),
-                    Call::Insert(_, _) | Call::Remove(_) => {
-                        self.update = self.update.max(made.steps);
-                    }
-                }
+                let (update, lookup) = match made.call {
+                    Call::Lookup(_) => (0, made.steps),
+                    Call::Insert(_, _) | Call::Remove(_) => (made.steps, 0),
+                };
+                self.update = self.update.max(update);
+                self.lookup = self.lookup.max(lookup);
             }
             Outcome::Refused { .. } => self.refused += 1,
         }
     }
+}
+
+/// Keeps what they came to, and not one of them.
+impl Collector for Totals {
+    ghost holds = { IsTotalOf };
+
+    ghost room = { λ kept. 2 ^ 64 - 1 - kept.calls };
+
+    fn empty(_alloc: Global) -> Totals {
+        Totals::new()
+    }
+
+    fn with_room(_alloc: Global, _count: usize) -> Result<Totals, AllocError> {
+        Ok(Totals::new())
+    }
+
+    fn collect(&mut self, outcome: Outcome) {
+        self.put(&outcome);
+    }
+}
+
+/// Of the calls of each of these logs.
+pub(crate) fn totals_in(alloc: Global, logs: &[Vec<Outcome>]) -> Result<Vec<Totals>, AllocError>
+    requires short { All (λ log. vec_len log < 2 ^ 63) logs.now }
+    ensures { IfOk result (λ totals. AllZip IsTotalOf totals.items (map (λ log. log.items) logs.now)) }
+{
+    let mut each = Vec::with_capacity(alloc, logs.len())?;
+    for log in logs {
+        each.push(totals_in_log(log))?;
+    }
+    Ok(each)
+}
+
+// Of the calls of one log.
+fn totals_in_log(log: &[Outcome]) -> Totals
+    requires short { length log.now < 2 ^ 63 }
+    ensures { IsTotalOf result log.now }
+{
+    let mut totals = Totals::new();
+    for outcome in log {
+        totals.put(outcome);
+    }
+    totals
 }
 
 impl Replies {
@@ -130,13 +167,11 @@ impl Replies {
         requires { AreFewer (2 ^ 64 - 1) self.now }
         ensures { self.exit.now ≡ with_reply reply self.entry.now }
     {
-        match reply {
-            Reply::New => self.new += 1,
-            Reply::Old(_) => self.old += 1,
-            Reply::NoRoom => self.noroom += 1,
-            Reply::Gone(_) => self.gone += 1,
-            Reply::Found(_) => self.found += 1,
-            Reply::Absent => self.absent += 1,
-        }
+        self.new += u64::from(matches!(reply, Reply::New));
+        self.old += u64::from(matches!(reply, Reply::Old(_)));
+        self.noroom += u64::from(matches!(reply, Reply::NoRoom));
+        self.gone += u64::from(matches!(reply, Reply::Gone(_)));
+        self.found += u64::from(matches!(reply, Reply::Found(_)));
+        self.absent += u64::from(matches!(reply, Reply::Absent));
     }
 }

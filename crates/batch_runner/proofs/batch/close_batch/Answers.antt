@@ -93,10 +93,9 @@ close_in_place-closed-requires-clause-seats g c =
     let d : TableValue = c.in_ok-directory.directory in
     let item : Vec (ℕ × Call) Global → List (ℕ × Call) = λ (share : Vec (ℕ × Call) Global). share.items in
     let shares : List (List (ℕ × Call)) = map item c.args.shares.items in
-    let out : Vec Outcome Global → List Outcome = λ (log : Vec Outcome Global). log.items in
-    let logs : List (List Outcome) = map out c.in_ok-seats.logs.items in
+    let logs : List (List Outcome) = c.in_ok-seats.ensures.0 in
     let seats : List SeatValue = c.in_ok-seats.seats.items in
-    all_of_table d shares seats logs c.in_ok-seats.ensures
+    all_of_table d shares seats logs c.in_ok-seats.ensures.1
 
 pub close_in_place-closed-requires-clause-all : goal.close_in_place-closed-requires-clause-all
 close_in_place-closed-requires-clause-all g c =
@@ -106,11 +105,10 @@ close_in_place-closed-requires-clause-all g c =
     let d : TableValue = c.in_ok-directory.directory in
     let item : Vec (ℕ × Call) Global → List (ℕ × Call) = λ (share : Vec (ℕ × Call) Global). share.items in
     let shares : List (List (ℕ × Call)) = map item c.args.shares.items in
-    let out : Vec Outcome Global → List Outcome = λ (log : Vec Outcome Global). log.items in
-    let logs : List (List Outcome) = map out c.in_ok-seats.logs.items in
+    let logs : List (List Outcome) = c.in_ok-seats.ensures.0 in
     let seats : List SeatValue = c.in_ok-seats.seats.items in
     c.in_ok-seats.seats.ok.0 ∙ all_seats service c.args.first.now calls d c.in_ok-directory.ensures.table
-    c.in_ok-directory.ensures.setup shares c.requires.shares seats logs c.in_ok-seats.ensures
+    c.in_ok-directory.ensures.setup shares c.requires.shares seats logs c.in_ok-seats.ensures.1
 
 pub returns : goal.returns
 returns g c =
@@ -120,15 +118,18 @@ returns g c =
     let d : TableValue = c.in_ok-directory.directory in
     let item : Vec (ℕ × Call) Global → List (ℕ × Call) = λ (share : Vec (ℕ × Call) Global). share.items in
     let shares : List (List (ℕ × Call)) = map item c.args.shares.items in
-    let out : Vec Outcome Global → List Outcome = λ (log : Vec Outcome Global). log.items in
-    let logs : List (List Outcome) = map out c.in_ok-seats.logs.items in
+    let logs : List (List Outcome) = c.in_ok-seats.ensures.0 in
     let seats : List SeatValue = c.in_ok-seats.seats.items in
     let setup_is = c.in_ok-directory.ensures.setup in
     let shares_are = c.requires.shares in
-    let made = c.in_ok-seats.ensures in
+    let made = c.in_ok-seats.ensures.1 in
     let words : List ℕ = c.close_in_place-closed.result.words in
     let ran = c.close_in_place-closed.ensures.ran in
-    let table = c.in_ok-directory.ensures.table in
-    subst (λ (s : Shape). IsClosedBatch service first calls (record { shape = s; words = words }) logs)
-    (sym c.close_in_place-closed.ensures.shape)
-    (closed_batch service first calls d table setup_is shares shares_are seats logs made words ran c.order_laws.ensures)
+    let table = c.in_ok-directory.ensures.table in (
+      logs,
+      c.in_ok-seats.ensures.2,
+      subst (λ (s : Shape). IsClosedBatch service first calls (record { shape = s; words = words }) logs)
+          (sym c.close_in_place-closed.ensures.shape)
+          (closed_batch service first calls d table setup_is shares shares_are seats logs made words ran
+          c.order_laws.ensures),
+    )

@@ -1,11 +1,16 @@
-use Rattle.std.proofs.Common.{refl}
+use Rattle.std.proofs.Common.{List, refl, sym, subst}
+use Rattle.std.specs.List.{AllZip}
+use Rattle.batch_runner.specs.declared.totals.Totals.{Totals}
+use Rattle.batch_runner.specs.Totals.{IsTotalOf}
 use Rattle.batch_runner.proofs.Telling.{told_on}
 use Rattle.batch_runner.proofs.batch.try_batch.Goals as goal
 
 pub returns-clause-served : goal.returns-clause-served
 returns-clause-served g c =
-    let some = c.in_ok-batch.ensures.some in
-    (_, refl, refl, c.in_ok-batch.ensures.served some.0 some.1, c.in_ok-batch.ensures.told some.0 some.1)
+    let closed = c.in_ok-closed.ensures in
+    let has = c.in_ok-batch.ensures.told closed.0
+    (subst (λ (each : List Totals). AllZip IsTotalOf each closed.0) (sym c.deref.ensures.value) closed.1) closed.2 in
+    (_, refl, refl, has.served has.some.0 has.some.1, has.told has.some.0 has.some.1)
 
 pub returns-clause-goes_on : goal.returns-clause-goes_on
 unfolding returns-clause-served

@@ -1,4 +1,4 @@
-use Rattle.std.proofs.Common.{◌<◌, ◌^◌, [], arith}
+use Rattle.std.proofs.Common.{[], arith}
 use Rattle.batch_runner.proofs.tests.rows.batches_go_on.Goals as goal
 
 pub add-requires-2-clause-all : goal.add-requires-2-clause-all
