@@ -1,14 +1,14 @@
 -- What is kept of batches that were served, one batch further.
 use Rattle.std.proofs.Common.{◌≡◌, ◌≤◌, ℕ, ◌+◌, List, [], ◌∷◌, ◌++◌, length, map, sym, ◌∙◌, ap, subst, refl, length-append, arith}
 use Rattle.std.specs.List.{All, IsDistinct, flat_map}
-use Rattle.std.proofs.lemmas.List.{flat_map_more, length-map}
+use Rattle.std.proofs.lemmas.List.{flat_map_more}
 use Rattle.std.proofs.lemmas.List.Elements.{All-append, All-cons, All-nil, All-replicate}
 use Rattle.std.proofs.lemmas.Simd.{map-map}
 use Rattle.plain_map.specs.declared.calls.Call.{Call}
 use Rattle.plain_map.specs.declared.keys.Pair.{Pair}
 use Rattle.plain_map.specs.declared.records.Record.{Record}
 use Rattle.bucket_states.specs.Parts.{HasDistinctKeys}
-use Rattle.trace_share.specs.Outcomes.{asked_in, records_in}
+use Rattle.trace_share.specs.Outcomes.{records_in}
 use Rattle.report_text.specs.Report.{Batch as Lines, batch_lines, head_line}
 use Rattle.batch_orders.specs.Batches.{answered_then, with_counts}
 use Rattle.batch_runner.specs.declared.batch.Batch.{Batch}
@@ -18,6 +18,7 @@ use Rattle.batch_runner.specs.Served.{CanOpen, IsServed, Served, AreServed, dept
 use Rattle.batch_runner.specs.Printed.{all_lines, answered_in_all, lines_of, outcomes_in}
 use Rattle.batch_runner.specs.Told.{IsToldBy}
 use Rattle.batch_runner.specs.Totals.{totals_of}
+use Rattle.batch_runner.proofs.Telling.{told_many}
 use Rattle.command_line.specs.declared.plan.Plan.{Plan}
 use Rattle.trace_runner.specs.declared.progress.Progress.{Progress}
 use Rattle.trace_runner.specs.Served.{depth_left, head_of, leaves_left, lines_so_far, no_counts}
@@ -101,11 +102,6 @@ HasServed-none service progress before pairs totals leaves depth opens =
       depth = depth;
     }
 
--- as many outcomes are told as there were calls
-pub as_many : (service : Service) (served : Served) → IsServed service served →
-    length served.outcomes ≡ length served.calls
-as_many service served is = sym (length-map served.outcomes (λ o. asked_in o.1)) ∙ ap length is.outcomes.asked
-
 -- the counts of a batch are those of its records
 counts_are : (service : Service) (served : Served) (before : List ℕ) →
     with_counts before (map (λ log. length (records_in log)) served.logs)
@@ -130,8 +126,7 @@ HasServed-more service old new batches served batch calls has first asked is tol
       ap (λ (t : Totals). t.calls) totals,
       ap (λ (t : Totals). t.calls) has.totals,
       length-append (outcomes_in batches) (map (λ o. o.1) served.outcomes),
-      length-map served.outcomes (λ o. o.1),
-      as_many service served is,
+      told_many service served is,
       ap length asked,
     ) in
     record {

@@ -5,12 +5,14 @@ ghost use Rattle.std.specs.Option.{ForSome};
 ghost use Rattle.plain_map.specs.Serving.{IsAskable};
 ghost use Rattle.word_rows.specs.Shape.{AreBelow};
 ghost use Rattle.report_text.specs.Report.{batch_lines};
+ghost use Rattle.batch_rows.specs.Demands.{IsDemandOf};
 ghost use Rattle.batch_runner.specs.declared.service.Service.{Service};
 ghost use Rattle.batch_runner.specs.Served.{IsServed, Served, shares_of};
 ghost use Rattle.batch_runner.specs.Printed.{lines_of};
 ghost use Rattle.batch_runner.specs.Told.{CanGoOn, IsToldBy};
 ghost use Rattle.trace_runner.specs.declared.intake.TheConstants.{BATCH, PACKET_LIMIT};
 
+use batch_rows::Demand;
 use batch_runner::{Batch, Service, Totals, Workspace, go_on, print_batch, try_batch};
 use edge_traits::Gate;
 use plain_map::{Call, MOST_SEATS, Pair};
@@ -86,7 +88,8 @@ impl Progress {
         Ok(())
     }
 
-    /// Serves the calls of one batch more, which are dealt already, and prints nothing.
+    /// Serves the calls of one batch more, which are dealt already, and of which it is told what they ask of the table;
+    /// prints nothing.
     pub fn try_calls<R: Threads + Sync, G: Gate + Sync>(
         &mut self,
         rt: &R,
@@ -95,6 +98,7 @@ impl Progress {
         workspace: &mut Workspace,
         calls: &[(u32, Call)],
         shares: Vec<Vec<(u32, Call)>>,
+        demand: &Demand,
         gate: &G,
     ) -> Result<(), AllocError>
         requires given { ForSome service.now.rows (AreBelow (2 ^ 32)) }
@@ -104,6 +108,7 @@ impl Progress {
         requires going { IsGoing service.now self.old }
         requires all { self.old.totals.calls ≤ PACKET_LIMIT }
         requires shares { map (λ share. share.items) shares.items ≡ shares_of service.now calls.now }
+        requires demand { IsDemandOf calls.now (shares_of service.now calls.now) demand.now }
         ensures served { OnOk result (IsOneMore service.now self.old self.new calls.now) }
         ensures going { OnOk result (IsGoing service.now self.new) }
         ensures counted { OnOk result (self.new.totals.calls ≡ self.old.totals.calls + length calls.now) }
@@ -116,6 +121,7 @@ impl Progress {
             &self.pairs,
             calls,
             shares,
+            demand,
             gate,
         )?;
         self.keep(service, calls, batch);

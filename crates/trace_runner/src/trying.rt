@@ -1,6 +1,6 @@
 //! Mode `trial`: the made capture is served, and its counts are put.
 
-ghost use Rattle.std.specs.Prelude.{◌≡◌, ◌≤◌, ◌<◌, ◌^◌, ◌+◌, ◌*◌, ℕ, List, [], ◌∷◌, ◌++◌, length, map, All, Option, IfOk, OnOk, false};
+ghost use Rattle.std.specs.Prelude.{◌≡◌, ◌≤◌, ◌<◌, ◌^◌, ◌+◌, ◌*◌, ℕ, List, [], ◌++◌, length, map, All, Option, IfOk, OnOk, false};
 ghost use Rattle.std.specs.Option.{ForSome};
 ghost use Rattle.std.specs.Thread.{IsSync};
 ghost use Rattle.edge_traits.specs.Edge.{Rose};
@@ -8,6 +8,7 @@ ghost use Rattle.pcap_reader.specs.Reading.{IsAtStart};
 ghost use Rattle.plain_map.specs.declared.calls.Call.{Call as ACall};
 ghost use Rattle.plain_map.specs.Serving.{IsAskable};
 ghost use Rattle.word_rows.specs.Shape.{AreBelow};
+ghost use Rattle.batch_rows.specs.Demands.{IsDemandOf};
 ghost use Rattle.batch_runner.specs.Served.{Served, shares_of};
 ghost use Rattle.command_line.specs.Words.{IsInRange};
 ghost use Rattle.trace_runner.specs.Batches.{AreOfBatches, batch_count, batch_length};
@@ -20,6 +21,7 @@ use crate::laws::serving_laws;
 use crate::progress::Progress;
 use crate::serving::service_of;
 use crate::status::Status;
+use batch_rows::{Demand, demand_of};
 use batch_runner::{Service, Workspace};
 use command_line::Plan;
 use edge_traits::{Failed, Gate, Sink, Source, write_all};
@@ -93,6 +95,8 @@ struct Read {
     part: Part,
     /// The calls of each seat, seat 0 first, each seat's in their order.
     shares: Vec<Vec<(u32, Call)>>,
+    /// What they ask of the batch's table.
+    demand: Demand,
 }
 
 /// Serves the packets behind a file head. While the calls of a batch are served, the next batch is read and dealt.
@@ -131,6 +135,7 @@ fn try_packets<R: Threads + Sync, S: Source + Send, G: Gate + Sync>(
                     numbers,
                     &calls,
                     read.shares,
+                    &read.demand,
                     gate,
                 ) {
                     Ok(progress) => return Ok(Tried { progress, ending }),
@@ -148,6 +153,7 @@ fn try_packets<R: Threads + Sync, S: Source + Send, G: Gate + Sync>(
                     &mut workspace,
                     &calls,
                     read.shares,
+                    &read.demand,
                     gate,
                     reader,
                     source,
@@ -160,7 +166,8 @@ fn try_packets<R: Threads + Sync, S: Source + Send, G: Gate + Sync>(
     }
 }
 
-/// Reads the next batch, behind so many packets, into a list that is empty, and deals its calls.
+/// Reads the next batch, behind so many packets, into a list that is empty, deals its calls, and tells what they ask of
+/// a table: so whoever serves the batch need not go through its calls before.
 fn read_and_deal<S: Source>(
     alloc: Global,
     service: &Service,
@@ -177,11 +184,18 @@ fn read_and_deal<S: Source>(
         (S.faults source.old) (S.faults source.new) reader.old reader.new before next.new.items read.part) }
     ensures dealt { IfOk result (λ read. map (λ share. share.items) read.shares.items
         ≡ shares_of service.now next.new.items) }
+    ensures asked { IfOk result (λ read.
+        IsDemandOf next.new.items (shares_of service.now next.new.items) read.demand) }
     ensures counted { S.faults source.old ≤ S.faults source.new }
 {
     let part = read_batch(reader, source, before, PACKET_LIMIT, next)?;
     let shares = deal(alloc, service.share, service.settings.seats, next)?;
-    Ok(Read { part, shares })
+    let demand = demand_of(alloc, next, &shares)?;
+    Ok(Read {
+        part,
+        shares,
+        demand,
+    })
 }
 
 /// Serves the calls of a batch, while a thread of its own reads the next batch, behind so many packets, into a list
@@ -194,6 +208,7 @@ fn try_and_read<R: Threads + Sync, S: Source + Send, G: Gate + Sync>(
     workspace: &mut Workspace,
     calls: &[(u32, Call)],
     shares: Vec<Vec<(u32, Call)>>,
+    demand: &Demand,
     gate: &G,
     reader: &mut Reader,
     source: &mut S,
@@ -207,6 +222,7 @@ fn try_and_read<R: Threads + Sync, S: Source + Send, G: Gate + Sync>(
     requires going { IsGoing service.now progress.old }
     requires all { progress.old.totals.calls ≤ PACKET_LIMIT }
     requires shares { map (λ share. share.items) shares.items ≡ shares_of service.now calls.now }
+    requires demand { IsDemandOf calls.now (shares_of service.now calls.now) demand.now }
     requires reads { reader.old.ended ≡ false }
     requires stands { reader.old.given ≡ before }
     requires room { before < PACKET_LIMIT }
@@ -218,6 +234,8 @@ fn try_and_read<R: Threads + Sync, S: Source + Send, G: Gate + Sync>(
         (S.faults source.old) (S.faults source.new) reader.old reader.new before next.new.items read.part) }
     ensures dealt { IfOk result (λ read. map (λ share. share.items) read.shares.items
         ≡ shares_of service.now next.new.items) }
+    ensures asked { IfOk result (λ read.
+        IsDemandOf next.new.items (shares_of service.now next.new.items) read.demand) }
     ensures counted { S.faults source.old ≤ S.faults source.new }
 {
     let mut shares = shares;
@@ -231,13 +249,16 @@ fn try_and_read<R: Threads + Sync, S: Source + Send, G: Gate + Sync>(
                 reader.exit.now before next.exit.now.items read.part) }
             ensures dealt { IfOk result (λ read. map (λ share. share.items) read.shares.items
                 ≡ shares_of service.entry.now next.exit.now.items) }
+            ensures asked { IfOk result (λ read. IsDemandOf next.exit.now.items
+                (shares_of service.entry.now next.exit.now.items) read.demand) }
             ensures counted { S.faults source.entry.now ≤ S.faults source.exit.now }
         { read_and_deal(alloc, service, reader, source, before, next) },
         &mut || -> Result<(), AllocError>
             requires { IsSync R.row × IsSync G.row × ForSome service.now.rows (AreBelow (2 ^ 32))
                 × (length calls.now ≤ BATCH) × All (λ call. IsAskable call.1) calls.now × HasTexts calls.now
                 × IsGoing service.now progress.now × (progress.now.totals.calls ≤ PACKET_LIMIT)
-                × (map (λ share. share.items) shares.items ≡ shares_of service.now calls.now) }
+                × (map (λ share. share.items) shares.items ≡ shares_of service.now calls.now)
+                × IsDemandOf calls.now (shares_of service.now calls.now) demand.now }
             ensures served { OnOk result (IsOneMore service.entry.now progress.entry.now progress.exit.now
                 calls.entry.now) }
             ensures going { OnOk result (IsGoing service.entry.now progress.exit.now) }
@@ -246,7 +267,7 @@ fn try_and_read<R: Threads + Sync, S: Source + Send, G: Gate + Sync>(
         {
             // A closure that may be called again can only take out what it gives away.
             let shares = mem::replace(&mut shares, Vec::new(alloc));
-            progress.try_calls(rt, alloc, service, workspace, calls, shares, gate)
+            progress.try_calls(rt, alloc, service, workspace, calls, shares, demand, gate)
         },
     );
     tried?;
@@ -263,6 +284,7 @@ fn try_last<R: Threads + Sync, G: Gate + Sync>(
     numbers: (u32, u32),
     calls: &[(u32, Call)],
     shares: Vec<Vec<(u32, Call)>>,
+    demand: &Demand,
     gate: &G,
 ) -> Result<Progress, AllocError>
     requires given { ForSome service.now.rows (AreBelow (2 ^ 32)) }
@@ -271,6 +293,7 @@ fn try_last<R: Threads + Sync, G: Gate + Sync>(
     requires few { (numbers.1 ≤ BATCH) × (numbers.0 + numbers.1 ≤ PACKET_LIMIT) }
     requires between { AreBetween numbers.0 (numbers.0 + numbers.1) calls.now }
     requires shares { map (λ share. share.items) shares.items ≡ shares_of service.now calls.now }
+    requires demand { IsDemandOf calls.now (shares_of service.now calls.now) demand.now }
     ensures { IfOk result (λ last. (batches : List Served) (all : List (ℕ × ACall)) →
         HasServed service.now progress batches →
         AreOfBatches all (map (λ (batch : Served). batch.calls) batches) → batch_length * length batches ≡ numbers.0 →
@@ -282,7 +305,7 @@ fn try_last<R: Threads + Sync, G: Gate + Sync>(
     if numbers.1 == 0 && numbers.0 > 0 {
         return Ok(progress);
     }
-    match progress.try_calls(rt, alloc, service, workspace, calls, shares, gate) {
+    match progress.try_calls(rt, alloc, service, workspace, calls, shares, demand, gate) {
         Ok(()) => Ok(progress),
         Err(memory) => Err(memory),
     }

@@ -5,6 +5,7 @@ use Rattle.std.proofs.lemmas.List.Elements.{All-weaker}
 use Rattle.plain_map.specs.declared.calls.Call.{Call}
 use Rattle.edge_traits.proofs.EdgeLemmas.{Rose-since}
 use Rattle.plain_map.specs.Serving.{IsAskable}
+use Rattle.batch_rows.specs.Demands.{IsDemandOf}
 use Rattle.batch_runner.specs.Served.{shares_of}
 use Rattle.trace_runner.specs.declared.intake.TheConstants.{PACKET_LIMIT}
 use Rattle.trace_runner.specs.declared.intake.Part.{Part}
@@ -21,6 +22,7 @@ batches-init g c =
       counted = c.read_and_deal.ensures.counted;
       between = read.between;
       dealt = c.in_ok-read.ensures.dealt;
+      asked = c.in_ok-read.ensures.asked;
       goes_on = read.goes_on;
       few = read.few;
       limited = read.limited;
@@ -85,6 +87,8 @@ batches-preserved g c =
           read.between;
       dealt = subst (λ (v : Vec (ℕ × Call) Global). map item told.read.shares.items
           ≡ shares_of c.args.service.now v.items) swapped told.ensures.dealt;
+      asked = subst (λ (v : Vec (ℕ × Call) Global). IsDemandOf v.items (shares_of c.args.service.now v.items)
+          told.read.demand) swapped told.ensures.asked;
       goes_on = read.goes_on;
       few = read.few;
       limited = read.limited;

@@ -3,6 +3,7 @@ use Rattle.std.specs.Prelude.{MatchOption}
 use Rattle.edge_traits.specs.Edge.{Rose}
 use Rattle.plain_map.specs.declared.calls.Call.{Call}
 use Rattle.report_text.specs.declared.parts.Ending.TheVariants.{ReadFault}
+use Rattle.batch_rows.specs.Demands.{IsDemandOf}
 use Rattle.batch_runner.specs.Served.{Served, shares_of}
 use Rattle.trace_runner.specs.declared.intake.TheConstants.{BATCH, PACKET_LIMIT}
 use Rattle.trace_runner.specs.Batches.{AreOfBatches, batch_length}
@@ -23,6 +24,7 @@ invariant-batches g l =
       between : AreBetween l.packets many l.calls.items;
       dealt : map (λ (share : Vec (ℕ × Call) Global). share.items) l.read.shares.items
           ≡ shares_of l.service l.calls.items;
+      asked : IsDemandOf l.calls.items (shares_of l.service l.calls.items) l.read.demand;
       goes_on : IfNone part.ending ((l.reader.ended ≡ false) × (l.reader.given ≡ many)
           × (part.packets ≡ BATCH) × (many < PACKET_LIMIT));
       few : part.packets ≤ BATCH;
