@@ -46,17 +46,21 @@ awk '{ if (!($1 in least) || $2 < least[$1]) least[$1] = $2; if ($3 > most[$1]) 
             least["trial1"] / least["softflowd"], least["trial2"] / least["softflowd"]
     }' "$work/times"
 
-# The cost of a packet by the length of the capture, with what a capture of no packet takes and without. The shortest are served
-# many times more, since they are over in some milliseconds.
+# The cost of a packet by the length of the capture, with what a capture of no packet takes and without, in interleaved turns too.
+# The shortest are served many times a turn, since they are over in some milliseconds.
 rm "$work/times"
 for many in 0 10000 100000 1000000 "$packets"; do
-    "$flowdir" make --number 0 --packets "$many" >"$file"
-    times="$turns"
-    [ "$many" -gt 100000 ] || times=$((turns * 20))
-    for _ in $(seq "$times"); do
-        start="$EPOCHREALTIME"
-        "$flowdir" serve --seats 2 <"$file" >"$work/out"
-        echo "$many ${start/[.,]/} ${EPOCHREALTIME/[.,]/}" >>"$work/times"
+    "$flowdir" make --number 0 --packets "$many" >"$work/$many.pcap"
+done
+for _ in $(seq "$turns"); do
+    for many in 0 10000 100000 1000000 "$packets"; do
+        times=1
+        [ "$many" -gt 100000 ] || times=20
+        for _ in $(seq "$times"); do
+            start="$EPOCHREALTIME"
+            "$flowdir" serve --seats 2 <"$work/$many.pcap" >"$work/out"
+            echo "$many ${start/[.,]/} ${EPOCHREALTIME/[.,]/}" >>"$work/times"
+        done
     done
 done
 awk '{ took = $3 - $2; if (!($1 in least) || took < least[$1]) least[$1] = took }
