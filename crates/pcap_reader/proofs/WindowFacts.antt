@@ -3,7 +3,7 @@ use Rattle.std.proofs.Common.{◌≡◌, ℕ, ◌+◌, ◌-◌, ◌≤◌, List,
 use Rattle.std.specs.List.{slice_range}
 use Rattle.std.specs.Io.KnownBytes.{Consumes, IsAtEnd, Keeps}
 use Rattle.std.proofs.Math.Seq.{take-append-add}
-use Rattle.std.proofs.lemmas.List.{drop-drop, take-take, drop-append-le, take-append-le, nil_from_length}
+use Rattle.std.proofs.lemmas.List.{drop-drop, take-take, take_all, drop-append-le, take-append-le, nil_from_length}
 use Rattle.std.proofs.lemmas.Slice.{between_is}
 use Rattle.std.proofs.KnownBytes.{Consumes-nil, Consumes-kept, Consumes-trans}
 use borrow.Rule.Slice.PartMut.{put_mid}
@@ -43,6 +43,12 @@ take_written xs ys a k n inside few =
     let behind = ys ++ drop k (drop a xs) in
     ap (λ l. front ++ l) (sym (take-append-le n ys (drop k (drop a xs)) few)) ∙ sym (take-append-add front behind n)
     ∙ ap (λ m. take (m + n) (front ++ behind)) size
+
+-- the front of a list that was filled up, as long as it was before
+pub take_filled : (xs more : List ℕ) (n k : ℕ) → k ≡ length xs → k ≤ n → take k (take n xs ++ more) ≡ xs
+take_filled xs more n k size long =
+    ap (λ l. take k (l ++ more)) (take_all n xs (omega arith)) ∙ take-append-le k xs more (omega arith)
+    ∙ take_all k xs (omega arith)
 
 -- ---- a window's value
 

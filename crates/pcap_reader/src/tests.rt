@@ -198,15 +198,17 @@ fn packets_before_a_failed_read_are_given(rt: HostRuntime) -> Result<(), Fail> {
     Ok(())
 }
 
-// A file longer than the buffer, so that the bytes held move to its front between records.
+// A file longer than the buffer, so that the bytes held move to its front between records. The last record is the
+// longest that there is, so that the whole buffer comes into use.
 #[test]
 fn a_long_file_is_read(rt: HostRuntime) -> Result<(), Fail> {
     let alloc = rt.alloc();
     let mut file = Vec::new(alloc);
     let mut text = Vec::new(alloc);
     head(&mut file, [0xa1, 0xb2, 0x3c, 0x4d], false, 65_535)?;
-    for i in 0..40u8 {
-        let packet = vec![in alloc; i; 30_000]?;
+    for i in 0..=40u8 {
+        let length = if i < 40 { 30_000 } else { 262_144 };
+        let packet = vec![in alloc; i; length]?;
         record(&mut file, false, &packet)?;
         text.extend_from_slice(&packet)?;
         text.push(b'/')?;

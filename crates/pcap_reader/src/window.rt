@@ -3,7 +3,7 @@
 //! It is made once. Bytes are taken in place, and those that are left move to the front only where
 //! the room behind them is short of a piece.
 
-ghost use Rattle.std.specs.Prelude.{◌≡◌, ◌≤◌, ◌<◌, ◌+◌, ◌-◌, [], length, take, drop, slice_range, vec_len, IfOk, OnErr};
+ghost use Rattle.std.specs.Prelude.{◌≡◌, ◌≤◌, ◌<◌, ◌+◌, ◌-◌, [], length, take, drop, slice_range, vec_capacity, vec_len, IfOk, OnErr};
 ghost use Rattle.std.specs.Io.KnownBytes.{IsAtEnd, Keeps};
 ghost use Rattle.edge_traits.specs.Edge.{Rose};
 ghost use Rattle.pcap_reader.specs.Reading.{buffer_length};
@@ -19,6 +19,9 @@ pub const PIECE: usize = 65_536;
 /// The size of the buffer in bytes: the longest record and a piece behind it have room, and so has
 /// as much again, so that few bytes are moved.
 pub const CAPACITY: usize = 524_288;
+/// So much of the buffer is used, in bytes, until a record is met that leaves no room for a piece in it. So the memory
+/// of the rest is not touched where records are short.
+pub const FIRST_LENGTH: usize = 131_072;
 
 /// The bytes that were read and not yet taken, and behind them room for a piece.
 #[derive(Debug, Drop)]
@@ -50,8 +53,10 @@ impl Window {
     pub fn new(alloc: Global) -> Result<Window, AllocError>
         ensures { IfOk result (λ window. window ≡ record { last = []; unread = [] }) }
     {
+        let mut buf = Vec::with_capacity(alloc, CAPACITY)?;
+        buf.resize(FIRST_LENGTH, 0u8)?;
         Ok(Window {
-            buf: vec![in alloc; 0u8; CAPACITY]?,
+            buf,
             mark: 0,
             start: 0,
             end: 0,
@@ -121,23 +126,42 @@ impl Window {
 }
 
 /// Moves the bytes from `start` to `end` to the front where there is no room for a piece behind
-/// them, and answers where they begin and end now.
+/// them, and answers where they begin and end now. Where there is none then either, the whole
+/// buffer is used from now on.
 fn make_room(buf: &mut Vec<u8>, start: usize, end: usize) -> (usize, usize)
-    requires capacity { vec_len buf.old ≡ CAPACITY }
+    requires capacity { CAPACITY ≤ vec_capacity buf.old }
+    requires few_used { vec_len buf.old ≤ CAPACITY }
     requires order { start ≤ end }
-    requires inside { end ≤ CAPACITY }
+    requires inside { end ≤ vec_len buf.old }
     requires few { end - start ≤ WHOLE_RECORD }
-    ensures len { vec_len buf.new ≡ CAPACITY }
+    ensures capacity { CAPACITY ≤ vec_capacity buf.new }
+    ensures few_used { vec_len buf.new ≤ CAPACITY }
     ensures order { result.0 ≤ result.1 }
-    ensures room { result.1 + PIECE ≤ CAPACITY }
+    ensures room { result.1 + PIECE ≤ vec_len buf.new }
     ensures bytes { slice_range buf.new.items result.0 result.1 ≡ slice_range buf.old.items start end }
 {
-    if CAPACITY - end < PIECE {
-        buf.copy_within(start..end, 0);
-        (0, end - start)
-    } else {
-        (start, end)
+    if PIECE <= buf.len() - end {
+        return (start, end);
     }
+    buf.copy_within(start..end, 0);
+    let held = end - start;
+    if buf.len() - held < PIECE {
+        use_all(buf);
+    }
+    (0, held)
+}
+
+/// Uses the whole buffer. It takes no memory.
+fn use_all(buf: &mut Vec<u8>)
+    requires capacity { CAPACITY ≤ vec_capacity buf.old }
+    requires few_used { vec_len buf.old ≤ CAPACITY }
+    ensures capacity { CAPACITY ≤ vec_capacity buf.new }
+    ensures all_used { vec_len buf.new ≡ CAPACITY }
+    ensures bytes { take (vec_len buf.old) buf.new.items ≡ buf.old.items }
+{
+    let Ok(()) = buf.resize(CAPACITY, 0u8) else {
+        unreachable!()
+    };
 }
 
 /// Reads once, into the bytes from `end` on, and answers how many came.

@@ -41,12 +41,7 @@ returns-clause-bytes g c =
     let fills = c.in_ok-count.ensures.fills in
     let taken = fills.taken in
     let size : length buf ≡ vec.len = omega (arith, c.read_behind.auto.buf, c.as_mut_slice.ensures.len) in
-    let inside : end ≤ length vec.items = omega (
-      arith,
-      c.make_room-start.ensures.room,
-      c.make_room-start.ensures.len,
-      vec.ok.0,
-    ) in
+    let inside : end ≤ length vec.items = omega (arith, c.make_room-start.ensures.room, vec.ok.0) in
     let unread : slice_range vec.items start end ≡ c.args.self.now.unread = c.make_room-start.ensures.bytes
     ∙ ap (λ (h : Held). h.unread) c.self.view_is in
     let grown : take end vec.items ++ taken ≡ take (end + count) buf =
