@@ -89,20 +89,8 @@ pub fn print_batch<R: Threads + Sync, G: Gate + Sync>(
     ensures goes_on { IfOk result (CanGoOn service.now calls.now) }
     ensures kept { OnErr result (out.new.items ≡ out.old.items) }
 {
-    let shares = deal(alloc, service.share, service.settings.seats, calls)?;
-    let demand = demand_of(alloc, calls, &shares)?;
-    let (closed, logs) = close_batch::<R, Vec<Outcome>, G>(
-        rt, alloc, service, workspace, first, calls, shares, &demand, gate,
-    )?;
+    let (closed, logs, batch) = logged_batch(rt, alloc, service, workspace, first, calls, gate)?;
     let outcomes = outcomes_of(alloc, service.share, service.settings.seats, calls, &logs)?;
-    let batch = told(
-        alloc,
-        service,
-        first,
-        calls,
-        &closed,
-        &totals_in(alloc, &logs)?,
-    )?;
     let start = out.len();
     if let Err(failed) = put_lines(
         rt,
@@ -142,19 +130,7 @@ pub fn serve_batch<R: Threads + Sync, G: Gate + Sync>(
         × IsOrderOf service.now served account.order.items) }
     ensures goes_on { IfOk result (λ account. CanGoOn service.now calls.now account.batch) }
 {
-    let shares = deal(alloc, service.share, service.settings.seats, calls)?;
-    let demand = demand_of(alloc, calls, &shares)?;
-    let (closed, logs) = close_batch::<R, Vec<Outcome>, G>(
-        rt, alloc, service, workspace, first, calls, shares, &demand, gate,
-    )?;
-    let batch = told(
-        alloc,
-        service,
-        first,
-        calls,
-        &closed,
-        &totals_in(alloc, &logs)?,
-    )?;
+    let (closed, logs, batch) = logged_batch(rt, alloc, service, workspace, first, calls, gate)?;
     let order = order_in(alloc, &mut workspace.tables, &closed, &logs)?;
     workspace.blank.keep(closed);
     Ok(Account { batch, logs, order })
@@ -189,6 +165,35 @@ pub fn try_batch<R: Threads + Sync, G: Gate + Sync>(
     let batch = told(alloc, service, first, calls, &closed, &totals)?;
     workspace.blank.keep(closed);
     Ok(batch)
+}
+
+// Serves a batch to its end, and keeps the log of each seat: the closed table, the logs, and what the batch came to.
+fn logged_batch<R: Threads + Sync, G: Gate + Sync>(
+    rt: &R,
+    alloc: Global,
+    service: &Service,
+    workspace: &mut Workspace,
+    first: &[Pair],
+    calls: &[(u32, Call)],
+    gate: &G,
+) -> Result<(ClosedTable, Vec<Vec<Outcome>>, Batch), AllocError>
+    requires given { ForSome service.now.rows (AreBelow (2 ^ 32)) }
+    requires few { length calls.now < CALL_LIMIT }
+    requires askable { All (λ call. IsAskable call.1) calls.now }
+    requires opens { CanOpen (rules_of service.now) first.now }
+    ensures closed { IfOk result (λ done. IsClosedBatch service.now first.now calls.now done.0
+        (map (λ log. log.items) done.1.items)) }
+    ensures told { IfOk result (λ done. HasOutcomes service.now first.now calls.now
+        (map (λ log. log.items) done.1.items) done.0 done.2) }
+{
+    let shares = deal(alloc, service.share, service.settings.seats, calls)?;
+    let demand = demand_of(alloc, calls, &shares)?;
+    let (closed, logs) = close_batch::<R, Vec<Outcome>, G>(
+        rt, alloc, service, workspace, first, calls, shares, &demand, gate,
+    )?;
+    let totals = totals_in(alloc, &logs)?;
+    let batch = told(alloc, service, first, calls, &closed, &totals)?;
+    Ok((closed, logs, batch))
 }
 
 // Opens the table, lets the seats make their shares of the calls, and closes it; with what was kept of each seat's

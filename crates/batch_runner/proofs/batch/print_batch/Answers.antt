@@ -12,97 +12,58 @@ use Rattle.history_order.specs.Closing.{IsOfARun, closing_with}
 use Rattle.trace_share.specs.declared.outcome.Outcome.{Outcome}
 use Rattle.trace_share.specs.Outcomes.{asked_in, records_in}
 use Rattle.report_text.specs.Report.{call_in}
-use Rattle.batch_rows.specs.declared.rows.TheConstants.{CALL_LIMIT}
 use Rattle.batch_runner.specs.Served.{AreInPacketOrder, Served}
 use Rattle.batch_runner.specs.Told.{read_there, served_with}
 use Rattle.batch_runner.proofs.Counted.{unmap_all}
-use Rattle.batch_runner.proofs.Deals.{demand_dealt, few_items}
-use Rattle.batch_runner.proofs.Kept.{items_of, kept_closed, kept_totals}
+use Rattle.batch_runner.proofs.Kept.{items_of}
 use Rattle.batch_runner.proofs.Lines.{lines_are}
 use Rattle.batch_runner.proofs.Telling.{told_calls, told_on}
 use Rattle.batch_runner.proofs.batch.print_batch.Goals as goal
-
-pub demand_of-requires : goal.demand_of-requires
-demand_of-requires g c =
-    let item : Vec (ℕ × Call) Global → List (ℕ × Call) = λ (share : Vec (ℕ × Call) Global). share.items in
-    record {
-      few = few_items CALL_LIMIT c.args.calls.now c.args.service.now.share c.args.service.now.settings.seats
-          c.deref.result.now c.requires.few (ap (map item) c.deref.ensures.value ∙ c.in_ok-shares.ensures);
-    }
-
-pub close_batch-requires-clause-demand : goal.close_batch-requires-clause-demand
-close_batch-requires-clause-demand g c κs within =
-    demand_dealt c.args.calls.now c.args.service.now.share c.args.service.now.settings.seats
-    c.in_ok-shares.shares.items c.deref.result.now c.in_ok-demand.demand c.deref.ensures.value c.in_ok-shares.ensures
-    c.in_ok-demand.ensures.demand
 
 abbrev records_of : List (Vec Outcome Global) → List (List Record)
 records_of logs = map records_in (items_of logs)
 
 pub outcomes_of-requires-clause-logs : goal.outcomes_of-requires-clause-logs
 outcomes_of-requires-clause-logs g c =
-    let logs : List (Vec Outcome Global) = c.in_ok-closed.logs.items in
-    let closed = kept_closed c.args.service.now c.args.first.now c.args.calls.now c.in_ok-closed.closed logs
-    c.in_ok-closed.ensures in
-    ap (λ (ls : List (Vec Outcome Global)). map (map asked_in) (items_of ls)) c.deref-2.ensures.value ∙ closed.asked
-
-pub told-requires-clause-closed : goal.told-requires-clause-closed
-told-requires-clause-closed g c =
-    let logs : List (Vec Outcome Global) = c.in_ok-closed.logs.items in (
-      items_of logs,
-      kept_totals c.deref-3.result.now logs c.deref-4.result.now c.in_ok-totals_in.field-0.items c.deref-3.ensures.value
-          c.deref-4.ensures.value c.in_ok-totals_in.ensures,
-      kept_closed c.args.service.now c.args.first.now c.args.calls.now c.in_ok-closed.closed logs
-          c.in_ok-closed.ensures,
-    )
+    ap (λ (ls : List (Vec Outcome Global)). map (map asked_in) (items_of ls)) c.deref.ensures.value
+    ∙ c.in_ok-closed.ensures.closed.asked
 
 pub put_lines-requires-clause-run : goal.put_lines-requires-clause-run
 put_lines-requires-clause-run g c =
-    let logs : List (Vec Outcome Global) = c.in_ok-closed.logs.items in
-    let closed = kept_closed c.args.service.now c.args.first.now c.args.calls.now c.in_ok-closed.closed logs
-    c.in_ok-closed.ensures in
     subst (λ (ls : List (Vec Outcome Global)).
     IsOfARun c.in_ok-closed.closed.shape c.in_ok-closed.closed.words (records_of ls) [])
-    (sym c.deref-5.ensures.value) closed.of_a_run
+    (sym c.deref-2.ensures.value) c.in_ok-closed.ensures.closed.of_a_run
 
 pub put_lines-requires-clause-texts : goal.put_lines-requires-clause-texts
 put_lines-requires-clause-texts g c =
     let T : ℕ × Outcome → Type 0 = λ (o : ℕ × Outcome). HasText (key_in (call_in o.1)) in
-    let logs : List (Vec Outcome Global) = c.in_ok-closed.logs.items in
-    let closed = kept_closed c.args.service.now c.args.first.now c.args.calls.now c.in_ok-closed.closed logs
-    c.in_ok-closed.ensures in
-    let has = c.in_ok-batch.ensures.told (items_of logs)
-    (kept_totals c.deref-3.result.now logs c.deref-4.result.now c.in_ok-totals_in.field-0.items c.deref-3.ensures.value
-    c.deref-4.ensures.value c.in_ok-totals_in.ensures) closed in
+    let has = c.in_ok-closed.ensures.told in
     let outcomes : List (ℕ × Outcome) = read_there c.in_ok-outcomes.outcomes.items in
     let ordered = subst
     (λ (ls : List (Vec Outcome Global)). AreInPacketOrder c.args.calls.now (items_of ls) outcomes)
-    c.deref-2.ensures.value c.in_ok-outcomes.ensures in
-    subst (All (λ (o : ℕ × Bor Outcome). HasText (key_in (call_in o.1.now)))) (sym c.deref-6.ensures.value)
+    c.deref.ensures.value c.in_ok-outcomes.ensures in
+    subst (All (λ (o : ℕ × Bor Outcome). HasText (key_in (call_in o.1.now)))) (sym c.deref-3.ensures.value)
     (unmap_all T (λ (o : ℕ × Bor Outcome). (o.0, o.1.now)) c.in_ok-outcomes.outcomes.items
-    (told_calls c.args.service.now _ c.in_ok-batch.batch (has.served outcomes ordered)
+    (told_calls c.args.service.now _ c.in_ok-closed.batch (has.served outcomes ordered)
     (has.told outcomes ordered) (λ (call : Call). HasText (key_in call)) c.requires.texts))
 
 pub returns-clause-served : goal.returns-clause-served
 returns-clause-served g c =
     let logs : List (Vec Outcome Global) = c.in_ok-closed.logs.items in
-    let closed = kept_closed c.args.service.now c.args.first.now c.args.calls.now c.in_ok-closed.closed logs
-    c.in_ok-closed.ensures in
-    let has = c.in_ok-batch.ensures.told (items_of logs)
-    (kept_totals c.deref-3.result.now logs c.deref-4.result.now c.in_ok-totals_in.field-0.items c.deref-3.ensures.value
-    c.deref-4.ensures.value c.in_ok-totals_in.ensures) closed in
-    let records : records_of c.deref-5.result.now ≡ records_of logs = ap records_of c.deref-5.ensures.value in
+    let closed = c.in_ok-closed.ensures.closed in
+    let has = c.in_ok-closed.ensures.told in
+    let records : records_of c.deref-2.result.now ≡ records_of logs = ap records_of c.deref-2.ensures.value in
     let order : List CallId = ids_of (order_of c.in_ok-closed.closed.shape
-    (closing_with c.in_ok-closed.closed.words (records_of c.deref-5.result.now) [])) in
+    (closing_with c.in_ok-closed.closed.words (records_of c.deref-2.result.now) [])) in
     let seats : ℕ = c.args.service.now.settings.seats in
     let before : List ℕ = c.args.before.now in
     let text : List ℕ = c.args.out.now.items in
     let outcomes : List (ℕ × Outcome) = read_there c.in_ok-outcomes.outcomes.items in
     let ordered = subst
     (λ (ls : List (Vec Outcome Global)). AreInPacketOrder c.args.calls.now (items_of ls) outcomes)
-    c.deref-2.ensures.value c.in_ok-outcomes.ensures in
+    c.deref.ensures.value c.in_ok-outcomes.ensures in
     let served : Served = served_with c.args.first.now c.args.calls.now (items_of logs)
-    c.in_ok-closed.closed outcomes c.in_ok-batch.batch in (
+    c.in_ok-closed.closed outcomes c.in_ok-closed.batch in (
       served,
       refl,
       refl,
@@ -110,8 +71,8 @@ returns-clause-served g c =
       has.told outcomes ordered,
       c.in_default.ensures.appended
           ∙ ap (λ (ls : List ℕ). text ++ ls)
-          (lines_are seats before c.args.service.now served c.deref-6.result.now order
-          (ap read_there (sym c.deref-6.ensures.value))
+          (lines_are seats before c.args.service.now served c.deref-3.result.now order
+          (ap read_there (sym c.deref-3.ensures.value))
           (λ i. ids_of (order_of (closed.shape_is i)
           (closing_with c.in_ok-closed.closed.words (records i) [])))),
     )
