@@ -1,26 +1,22 @@
 -- Keys, each once: what a sort and a dedup leave, and what depends on the keys alone and not on their order.
-use Rattle.std.proofs.Common.{◌≡◌, ℕ, ◌-◌, ◌^◌, ◌≤◌, Bool, true, false, cond, ◌||◌, List, [], ◌∷◌, ◌++◌, ◌+◌, ◌<◌, drop, length, take, get_or, append_assoc, refl, sym, ap, subst, ◌∙◌, arith}
+use Rattle.std.proofs.Common.{◌≡◌, ℕ, ◌-◌, ◌^◌, ◌≤◌, Bool, true, false, cond, ◌||◌, List, [], ◌∷◌, ◌++◌, ◌+◌, ◌<◌, drop, length, take, get_or, append_assoc, refl, sym, ap, ◌∙◌, arith}
 use Rattle.std.specs.Prelude.{filter, count_by, sum_by, nat_lt, ◌&&◌, ◌==◌}
 use Rattle.std.specs.List.{IsDistinct, range_with_len, dedup, AllByRecursion as Each}
-use Rattle.std.specs.List.Sorted.{IsPermutation, IsSorted}
-use Rattle.std.specs.Ordering.{eq_by_cmp}
+use Rattle.std.specs.List.Sorted.{IsPermutation}
 use Rattle.std.proofs.lemmas.Bool.{or_right}
 use Rattle.std.proofs.lemmas.List.{append-nil, drop_more, take_more}
 use Rattle.std.proofs.lemmas.List.Concat.{flat_map-append}
 use Rattle.std.proofs.lemmas.List.Folds.{list_any-append}
-use Rattle.std.proofs.lemmas.List.Kept.{Contains-dedup, Contains-from_dedup, IsStrictlySortedBy-dedup}
+use Rattle.std.proofs.lemmas.List.Kept.{Contains-dedup, Contains-from_dedup}
 use Rattle.std.proofs.lemmas.List.Sorted.{list_any-IsPermutation}
 use Rattle.std.proofs.lemmas.List.Sums.{length-filter}
-use Rattle.std.proofs.lemmas.Map.Keys.{IsDistinct-from_sorted}
 use Rattle.std.proofs.lemmas.Map.Views.{Contains-from_any, list_any-from_Contains}
 use Rattle.plain_map.specs.declared.calls.Call.{Call}
 use Rattle.plain_map.specs.declared.calls.Call.TheVariants.{Insert, Lookup, Remove}
 use Rattle.plain_map.specs.declared.keys.Key.{Key}
 use Rattle.plain_map.specs.declared.rules.Rules.{Rules}
-use Rattle.plain_map.specs.Keys.{key_cmp}
-use Rattle.plain_map.proofs.KeyLemmas.{keys_total}
 use Rattle.bucket_states.specs.Items.{prefix_of, same_key}
-use Rattle.bucket_states.proofs.KeyTests.{Decides-same_key, eq_by_cmp-same_key, same_key-equiv}
+use Rattle.bucket_states.proofs.KeyTests.{Decides-same_key, same_key-equiv}
 use Rattle.core_model.specs.Needs.{crowded, distinct_keys, inserted_by, splits_for}
 use Rattle.core_bounds.proofs.KeyCounts.{has, has_passing, distinct_has, no_more}
 use Rattle.batch_rows.specs.BatchRows.{inserted_in_calls}
@@ -91,17 +87,6 @@ pub once_same : (keys sorted once : List Key) → IsPermutation keys sorted → 
     HaveSameKeys once keys
 once_same keys sorted once moved is q =
     ap (λ kept. has kept q) is ∙ dedup_same sorted q ∙ sym (list_any-IsPermutation (same_key q) keys sorted moved)
-
--- and none stands twice
-pub once_distinct : (sorted once : List Key) → IsSorted key_cmp sorted → once ≡ dedup same_key sorted →
-    IsDistinct same_key once
-once_distinct sorted once rising is =
-    let strict = IsStrictlySortedBy-dedup keys_total (λ a b. sym (eq_by_cmp-same_key a b)) sorted rising in
-    rw is (alike (dedup same_key sorted) (IsDistinct-from_sorted key_cmp (dedup same_key sorted) strict))
-  where
-    alike : (keys : List Key) → IsDistinct (λ a b. eq_by_cmp key_cmp a b) keys → IsDistinct same_key keys
-    alike keys distinct = subst (λ (test : Key → Key → Bool). IsDistinct test keys)
-        (λ i a b. eq_by_cmp-same_key a b i) distinct
 
 -- the same keys, behind others
 pub same_behind : (keys others more : List Key) → HaveSameKeys others more →

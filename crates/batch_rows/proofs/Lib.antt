@@ -1,4 +1,5 @@
 pub mod KeyLemmas
+pub mod OrderLemmas
 pub mod CountLemmas
 pub mod DepthLemmas
 pub mod RowLemmas

@@ -2,7 +2,7 @@
 
 ghost use Rattle.std.specs.Prelude.{◌≡◌, ◌<◌, All, IfOk, map, vec_len};
 ghost use Rattle.batch_rows.specs.BatchRows.{inserted_in_calls, updates_in_calls};
-ghost use Rattle.batch_rows.specs.Counts.{HaveSameKeys};
+ghost use Rattle.batch_rows.specs.Counts.{AreInOrder, HaveSameKeys};
 ghost use Rattle.batch_rows.specs.Demands.{IsDemandOf};
 ghost use Rattle.batch_rows.specs.declared.rows.TheConstants.{CALL_LIMIT};
 
@@ -18,7 +18,7 @@ const FIRST_ROOM: usize = 256;
 /// What a batch asks of its table.
 #[derive(Debug, Drop)]
 pub struct Demand {
-    /// The keys of its inserts. In the order of keys, and each once, they are soonest put to use.
+    /// The keys of its inserts. `demand_of` gives them in order and each once, and so they are soonest put to use.
     pub inserted: Vec<Key>,
     /// How many updates each seat makes, seat 0 first.
     pub updates: Vec<u32>,
@@ -34,6 +34,7 @@ pub fn demand_of(
 ) -> Result<Demand, AllocError>
     requires few { All (λ share. vec_len share < CALL_LIMIT) shares.now }
     ensures demand { IfOk result (IsDemandOf calls.now (map (λ share. share.items) shares.now)) }
+    ensures in_order { IfOk result (λ demand. AreInOrder demand.inserted.items) }
     ensures few { IfOk result (λ demand. All (λ updates. updates < CALL_LIMIT) demand.updates.items) }
 {
     let inserted = inserted_keys(alloc, calls)?;
@@ -44,7 +45,8 @@ pub fn demand_of(
 // The keys of the inserts among these calls, in order and each once. Most that stand there again are left out before
 // the sort: those of which the last key that has their hint is the same.
 fn inserted_keys(alloc: Global, calls: &[(u32, Call)]) -> Result<Vec<Key>, AllocError>
-    ensures { IfOk result (λ inserted. HaveSameKeys inserted.items (inserted_in_calls calls.now)) }
+    ensures same { IfOk result (λ inserted. HaveSameKeys inserted.items (inserted_in_calls calls.now)) }
+    ensures in_order { IfOk result (λ inserted. AreInOrder inserted.items) }
 {
     let mut hints = vec![in alloc; 0u32; HINTS]?;
     let mut inserted = Vec::with_capacity(alloc, FIRST_ROOM)?;

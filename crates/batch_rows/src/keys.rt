@@ -1,10 +1,8 @@
 //! Lists of keys.
 
 ghost use Rattle.std.specs.Prelude.{◌≡◌, ◌++◌, IfOk};
-ghost use Rattle.std.specs.List.{IsDistinct};
-ghost use Rattle.bucket_states.specs.Items.{same_key};
 ghost use Rattle.bucket_states.specs.Parts.{keys_of};
-ghost use Rattle.batch_rows.specs.Counts.{HaveSameKeys};
+ghost use Rattle.batch_rows.specs.Counts.{AreInOrder, HaveSameKeys};
 
 use plain_map::{Key, Pair};
 use std::alloc::{AllocError, Global};
@@ -20,9 +18,10 @@ pub(crate) fn first_keys(alloc: Global, first: &[Pair]) -> Result<Vec<Key>, Allo
     Ok(keys)
 }
 
-/// The keys of both lists: in order, where both lists are, and then none of the one stands there again for the other.
+/// The keys of both lists: in order and each once, where both lists are.
 pub(crate) fn union_of(alloc: Global, keys: &[Key], others: &[Key]) -> Result<Vec<Key>, AllocError>
-    ensures { IfOk result (λ all. HaveSameKeys all.items (keys.now ++ others.now)) }
+    ensures same { IfOk result (λ all. HaveSameKeys all.items (keys.now ++ others.now)) }
+    ensures in_order { IfOk result (λ all. AreInOrder keys.now → AreInOrder others.now → AreInOrder all.items) }
 {
     let mut all = Vec::with_capacity(alloc, keys.len() + others.len())?;
     let mut place = 0;
@@ -42,7 +41,7 @@ pub(crate) fn union_of(alloc: Global, keys: &[Key], others: &[Key]) -> Result<Ve
 /// Keeps each key once, and puts them in order.
 pub(crate) fn keep_once(keys: &mut Vec<Key>)
     ensures same { HaveSameKeys keys.new.items keys.old.items }
-    ensures distinct { IsDistinct same_key keys.new.items }
+    ensures in_order { AreInOrder keys.new.items }
 {
     keys.sort_unstable();
     keys.dedup();
