@@ -2,6 +2,7 @@
 
 ghost use Rattle.std.specs.Prelude.{◌≡◌, ◌^◌, ◌<◌, ◌≤◌, All, IfOk, List, length, map};
 ghost use Rattle.std.specs.List.{AllZip};
+ghost use Rattle.history_order.specs.Closing.{read_in, records_there};
 ghost use Rattle.trace_share.specs.declared.outcome.Outcome.{Outcome as AnOutcome};
 ghost use Rattle.trace_share.specs.Deal.{dealt};
 ghost use Rattle.trace_share.specs.Outcomes.{asked_in, records_in};
@@ -40,13 +41,12 @@ pub(crate) fn outcomes_of<'a>(
     Ok(outcomes)
 }
 
-/// The records of those of each log that were answered.
-pub(crate) fn records_of(
+/// The records of those of each log that were answered, where they stand.
+pub(crate) fn records_of<'a>(
     alloc: Global,
-    logs: &[Vec<Outcome>],
-) -> Result<Vec<Vec<Record>>, AllocError>
-    ensures { IfOk result (λ records. map (λ log. log.items) records.items
-        ≡ map records_in (map (λ log. log.items) logs.now)) }
+    logs: &'a [Vec<Outcome>],
+) -> Result<Vec<Vec<&'a Record>>, AllocError>
+    ensures { IfOk result (λ records. read_in records.items ≡ map records_in (map (λ log. log.items) logs.now)) }
 {
     let mut records = Vec::with_capacity(alloc, logs.len())?;
     for log in logs {
@@ -56,13 +56,13 @@ pub(crate) fn records_of(
 }
 
 // The records of those that were answered.
-fn answered_in(alloc: Global, log: &[Outcome]) -> Result<Vec<Record>, AllocError>
-    ensures { IfOk result (λ records. records.items ≡ records_in log.now) }
+fn answered_in<'a>(alloc: Global, log: &'a [Outcome]) -> Result<Vec<&'a Record>, AllocError>
+    ensures { IfOk result (λ records. records_there records.items ≡ records_in log.now) }
 {
     let mut records = Vec::with_capacity(alloc, log.len())?;
     for outcome in log {
         if let Outcome::Answered(made) = outcome {
-            records.push(*made)?;
+            records.push(made)?;
         }
     }
     Ok(records)

@@ -1,6 +1,7 @@
 -- Steps of loops that make lists.
 use Rattle.std.proofs.Common.{◌≡◌, ℕ, zero, suc, ◌+◌, ◌-◌, ◌<◌, Bool, true, false, cond, not, List, [], ◌∷◌, ◌++◌, length, drop, get_or, reverse, map, Option, Some, None, refl, inl, inr, sym, ap, ◌∙◌, subst, arith, append_assoc, append-nil, Vec, Global, eqb-true, eq-eqb, true≢false}
 use Rattle.std.specs.Prelude.{◌==◌, ◌||◌, filter, filter_map, flat_map, slice_index_or}
+use Rattle.std.specs.Borrow.{Bor}
 use Rattle.std.specs.List.{cons_option}
 use Rattle.std.proofs.lemmas.List.{at_drop_more, drop_more, reverse-append}
 use Rattle.std.proofs.lemmas.List.Folds.{list_any-append}
@@ -8,6 +9,7 @@ use Rattle.std.proofs.lemmas.Bool.{cases_Bool, cases_eq}
 use Rattle.core_model.specs.Reading.{each_once, is_among, line}
 use Rattle.plain_map.specs.declared.records.Record.{Record}
 use Rattle.word_rows.specs.Shape.{Shape}
+use Rattle.history_order.specs.Closing.{read_in, records_there}
 use Rattle.history_order.specs.Filling.{AreMet, while_true, entries_of, new_beside, leaves_from}
 
 -- a piece goes over to what is done
@@ -209,11 +211,11 @@ length_leaves shape words met (row ∷ rows) =
     ap suc (length_leaves shape words (met ++ entries_of shape words row) rows)
 
 -- the records of all seats, by their lists
-pub joined_items : (logs : List (Vec Record Global)) →
-    flat_map (λ (v : Vec Record Global). v.items) logs
-    ≡ flat_map (λ (log : List Record). log) (map (λ (v : Vec Record Global). v.items) logs)
+pub joined_items : (logs : List (Vec (Bor Record) Global)) →
+    flat_map (λ (v : Vec (Bor Record) Global). records_there v.items) logs
+    ≡ flat_map (λ (log : List Record). log) (read_in logs)
 joined_items [] = refl
-joined_items (v ∷ vs) = ap (λ rest. v.items ++ rest) (joined_items vs)
+joined_items (v ∷ vs) = ap (λ rest. records_there v.items ++ rest) (joined_items vs)
 
 -- and as many images as members
 pub length_items : (lists : List (Vec ℕ Global)) → length (map (λ (v : Vec ℕ Global). v.items) lists) ≡ length lists

@@ -1,5 +1,7 @@
 -- What a closed table leaves, with the records by seat.
-use Rattle.std.specs.Prelude.{◌≡◌, ℕ, List, [], map, slice_index_or, flat_map}
+use Rattle.std.specs.Prelude.{◌≡◌, ℕ, List, Vec, [], map, slice_index_or, flat_map}
+use Rattle.std.specs.Borrow.{Bor}
+use Rattle.std.specs.declared.alloc.Global.{Global}
 use Rattle.plain_map.specs.declared.records.Record.{Record}
 use Rattle.plain_map.specs.declared.records.Pending.{Pending}
 use Rattle.word_rows.specs.Shape.{Shape}
@@ -17,6 +19,14 @@ closing_with words logs begun = record { words = words; records = flat_map (λ l
 -- the records of a seat
 abbrev pub log_of : List (List Record) → (seat : ℕ) → List Record
 log_of logs seat = slice_index_or logs seat []
+
+-- the records of one seat, where they stand
+abbrev pub records_there : List (Bor Record) → List Record
+records_there log = map (λ r. r.now) log
+
+-- the records of each seat, where they stand
+abbrev pub read_in : List (Vec (Bor Record) Global) → List (List Record)
+read_in logs = map (λ log. records_there log.items) logs
 
 -- a run left these words, these records of each seat, and these calls that had begun
 pub record IsOfARun (shape : Shape) (words : List ℕ) (logs : List (List Record)) (begun : List Pending) : Type 0 where

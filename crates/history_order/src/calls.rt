@@ -1,7 +1,8 @@
 //! What stopped seats leave, and what is told of each call.
 
-ghost use Rattle.std.specs.Prelude.{◌≡◌, ◌==◌, find, map, option_map};
+ghost use Rattle.std.specs.Prelude.{◌≡◌, ◌==◌, find, option_map};
 ghost use Rattle.plain_map.specs.History.{id_of, pending};
+ghost use Rattle.history_order.specs.Closing.{read_in};
 ghost use Rattle.history_order.specs.Calls.{call_at, record_at, seen_in};
 
 use closed_words::Starts;
@@ -13,14 +14,14 @@ pub(crate) struct Closed<'a, W> {
     pub starts: &'a Starts,
     pub words: &'a W,
     /// By seat, the answered calls by number.
-    pub logs: &'a [Vec<Record>],
+    pub logs: &'a [Vec<&'a Record>],
     /// The calls that had begun.
     pub begun: &'a [Pending],
 }
 
 // The record at this place of the seat's log.
-fn record_at(logs: &[Vec<Record>], seat: usize, at: usize) -> Option<Record>
-    ensures { result ≡ record_at (map (λ log. log.items) logs.now) seat at }
+fn record_at(logs: &[Vec<&Record>], seat: usize, at: usize) -> Option<Record>
+    ensures { result ≡ record_at (read_in logs.now) seat at }
 {
     if seat >= logs.len() {
         return None;
@@ -28,7 +29,7 @@ fn record_at(logs: &[Vec<Record>], seat: usize, at: usize) -> Option<Record>
     if at >= logs[seat].len() {
         return None;
     }
-    Some(logs[seat][at])
+    Some(*logs[seat][at])
 }
 
 // The call that the seat had begun.
@@ -44,8 +45,8 @@ fn begun_by(begun: &[Pending], seat: usize) -> Option<Pending>
 }
 
 /// The row of the lookup at this place of the seat's log.
-pub(crate) fn place_at(logs: &[Vec<Record>], seat: usize, at: usize) -> Option<u64>
-    ensures { result ≡ option_map (λ r. r.place) (record_at (map (λ log. log.items) logs.now) seat at) }
+pub(crate) fn place_at(logs: &[Vec<&Record>], seat: usize, at: usize) -> Option<u64>
+    ensures { result ≡ option_map (λ r. r.place) (record_at (read_in logs.now) seat at) }
 {
     match record_at(logs, seat, at) {
         Some(record) => Some(record.place),
@@ -69,12 +70,12 @@ fn id_of_begun(begun: &[Pending], seat: usize) -> Option<CallId>
 
 /// The name of the seat's call at this place.
 pub(crate) fn id_at(
-    logs: &[Vec<Record>],
+    logs: &[Vec<&Record>],
     begun: &[Pending],
     seat: usize,
     at: usize,
 ) -> Option<CallId>
-    ensures { result ≡ option_map id_of (call_at (map (λ log. log.items) logs.now) begun.now seat at) }
+    ensures { result ≡ option_map id_of (call_at (read_in logs.now) begun.now seat at) }
 {
     match record_at(logs, seat, at) {
         Some(record) => Some(CallId {
@@ -98,12 +99,12 @@ fn seen_by_begun(begun: &[Pending], seat: usize) -> Option<Seen>
 
 /// What the caller of the seat's call at this place had seen.
 pub(crate) fn seen_at(
-    logs: &[Vec<Record>],
+    logs: &[Vec<&Record>],
     begun: &[Pending],
     seat: usize,
     at: usize,
 ) -> Option<Seen>
-    ensures { result ≡ option_map seen_in (call_at (map (λ log. log.items) logs.now) begun.now seat at) }
+    ensures { result ≡ option_map seen_in (call_at (read_in logs.now) begun.now seat at) }
 {
     match record_at(logs, seat, at) {
         Some(record) => Some(record.seen),

@@ -9,6 +9,7 @@ ghost use Rattle.word_rows.specs.Shape.{count_of};
 ghost use Rattle.word_rows.specs.LayoutView.{shape_of};
 ghost use Rattle.core_model.specs.Order.{new_in_rows};
 ghost use Rattle.core_model.specs.SeatStates.{is_update};
+ghost use Rattle.history_order.specs.Closing.{records_there};
 ghost use Rattle.history_order.specs.Columns.{
   after_all,
   is_caller,
@@ -105,11 +106,11 @@ pub(crate) fn placed(
 pub(crate) fn looks(
     kept: Vec<u64>,
     starts: &Starts,
-    logs: &[Vec<Record>],
+    logs: &[Vec<&Record>],
 ) -> Result<Vec<u64>, AllocError>
     ensures rows { IfOk result (λ looks. length looks.items ≡ count_of (shape_of starts.now.layout) BucketRows) }
     ensures looks { IfOk result (λ looks. (place : ℕ) → place < count_of (shape_of starts.now.layout) BucketRows →
-        slice_index_or looks.items place 0 ≡ looks_in (flat_map (λ log. log.items) logs.now) place) }
+        slice_index_or looks.items place 0 ≡ looks_in (flat_map (λ log. records_there log.items) logs.now) place) }
 {
     let mut looks = column(kept, starts.bucket_row_count(), 0)?;
     for log in logs {
@@ -119,10 +120,11 @@ pub(crate) fn looks(
 }
 
 // With those of one seat.
-fn add_looks(looks: &mut Vec<u64>, log: &[Record]) -> Result<(), AllocError>
+fn add_looks(looks: &mut Vec<u64>, log: &[&Record]) -> Result<(), AllocError>
     ensures len { length looks.new.items ≡ length looks.old.items }
     ensures looks { OnOk result ((place : ℕ) → place < length looks.old.items →
-        slice_index_or looks.new.items place 0 ≡ slice_index_or looks.old.items place 0 + looks_in log.now place) }
+        slice_index_or looks.new.items place 0
+        ≡ slice_index_or looks.old.items place 0 + looks_in (records_there log.now) place) }
 {
     for record in log {
         if is_lookup(record) && (record.place as usize) < looks.len() {

@@ -15,6 +15,30 @@ const KEY: Key = Key {
     k1: 0x0000_0000_0100_5006,
 };
 
+// The insert, as it was answered.
+const INSERT: Record = Record {
+    seat: 0,
+    number: 1,
+    packet: 1,
+    call: Call::Insert(KEY, 1),
+    reply: Reply::New,
+    steps: 9,
+    seen: Seen {
+        counts: [0, 0, 0, 0, 0, 0, 0, 0],
+    },
+    place: 2,
+};
+
+// A lookup of the right bucket's row, as it was answered.
+const LOOKUP: Record = Record {
+    number: 2,
+    packet: 2,
+    call: Call::Lookup(KEY),
+    reply: Reply::Absent,
+    place: 1,
+    ..INSERT
+};
+
 const SMALL_ROWS: SeatRows = SeatRows {
     op_rows: 1,
     bucket_rows: 4,
@@ -51,31 +75,6 @@ fn small_layout(settings: &Settings) -> Layout
     Layout::new(settings, &[SMALL_ROWS])
 }
 
-// The insert, and a lookup of the right bucket's row, as they were answered.
-fn small_log(alloc: Global) -> Result<Vec<Record>, AllocError> {
-    let insert = Record {
-        seat: 0,
-        number: 1,
-        packet: 1,
-        call: Call::Insert(KEY, 1),
-        reply: Reply::New,
-        steps: 9,
-        seen: Seen {
-            counts: [0, 0, 0, 0, 0, 0, 0, 0],
-        },
-        place: 2,
-    };
-    let lookup = Record {
-        number: 2,
-        packet: 2,
-        call: Call::Lookup(KEY),
-        reply: Reply::Absent,
-        place: 1,
-        ..insert
-    };
-    Vec::from_slice(alloc, &[insert, lookup])
-}
-
 // As worked by hand: row 2 was made from row 0 with the insert new in it, and the lookup waits for row 1.
 #[test]
 fn fills_a_small_table(rt: HostRuntime) -> Result<(), Fail> {
@@ -85,7 +84,8 @@ fn fills_a_small_table(rt: HostRuntime) -> Result<(), Fail> {
     let starts = Starts::new(&layout);
     let words = small_words(alloc)?;
     let mut logs = Vec::new(alloc);
-    logs.push(small_log(alloc)?)?;
+    let log = Vec::from_slice(alloc, &[&INSERT, &LOOKUP])?;
+    logs.push(log)?;
     let kept = fill(alloc, Tables::new(alloc), &starts, &words, &logs)?;
     let tables = fill(alloc, kept, &starts, &words, &logs)?;
     let found = &tables.found;

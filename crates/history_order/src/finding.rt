@@ -7,6 +7,7 @@ ghost use Rattle.std.specs.Option.{option_map_or};
 ghost use Rattle.plain_map.specs.declared.records.Pending.{Pending};
 ghost use Rattle.word_rows.specs.LayoutView.{shape_of};
 ghost use Rattle.core_model.specs.Reading.{directory_rows};
+ghost use Rattle.history_order.specs.Closing.{read_in};
 ghost use Rattle.history_order.specs.Filling.{leaves_from};
 ghost use Rattle.history_order.specs.Fills.{IsBegun, IsFound, exchanged_rows};
 ghost use Rattle.history_order.specs.Tables.{HasBases};
@@ -28,15 +29,15 @@ pub(crate) fn fill<W: Words>(
     kept: Tables,
     starts: &Starts,
     words: &W,
-    logs: &[Vec<Record>],
+    logs: &[Vec<&Record>],
 ) -> Result<Tables, AllocError>
     ensures found { IfOk result (λ tables. (begun : List Pending) → AsTold (shape_of starts.now.layout)
-        (W.words words.now) (map (λ log. log.items) logs.now) begun
-        (λ told. Filled (W.words words.now) (map (λ log. log.items) logs.now) begun told tables.found)) }
+        (W.words words.now) (read_in logs.now) begun
+        (λ told. Filled (W.words words.now) (read_in logs.now) begun told tables.found)) }
     ensures bases { IfOk result (λ tables. HasBases (shape_of starts.now.layout) (W.words words.now) tables.found) }
     ensures begun { IfOk result (λ tables. (begun : List Pending) → AsTold (shape_of starts.now.layout)
-        (W.words words.now) (map (λ log. log.items) logs.now) begun
-        (λ told. Begun (W.words words.now) (map (λ log. log.items) logs.now) begun told tables.progress)) }
+        (W.words words.now) (read_in logs.now) begun
+        (λ told. Begun (W.words words.now) (read_in logs.now) begun told tables.progress)) }
 {
     let mut rows = directory_rows(alloc, starts, words)?;
     rows.reverse();
@@ -60,17 +61,17 @@ fn find<W: Words>(
     kept: Found,
     starts: &Starts,
     words: &W,
-    logs: &[Vec<Record>],
+    logs: &[Vec<&Record>],
     rows: &[u64],
     leaves: &[Vec<u64>],
 ) -> Result<(Found, Vec<u64>), AllocError>
     requires rows { rows.now ≡ reverse (directory_rows (shape_of starts.now.layout) (W.words words.now)) }
     requires leaves { map (λ buckets. buckets.items) leaves.now
         ≡ leaves_from (shape_of starts.now.layout) (W.words words.now) [] rows.now }
-    ensures found { IfOk result (λ both. IsFound (shape_of starts.now.layout) (W.words words.now)
-        (map (λ log. log.items) logs.now) both.0) }
+    ensures found { IfOk result (λ both. IsFound (shape_of starts.now.layout) (W.words words.now) (read_in logs.now)
+        both.0) }
     ensures exchanged { IfOk result (λ both. both.1.items ≡ exchanged_rows (shape_of starts.now.layout)
-        (W.words words.now) (map (λ log. log.items) logs.now)) }
+        (W.words words.now) (read_in logs.now)) }
 {
     let mut columns = Columns::new(alloc, kept, starts, logs)?;
     let versions = versions(alloc, starts, words, rows, leaves, &mut columns)?;
@@ -91,15 +92,14 @@ fn begin<W: Words>(
     kept: Progress,
     starts: &Starts,
     words: &W,
-    logs: &[Vec<Record>],
+    logs: &[Vec<&Record>],
     found: &Found,
     exchanged: &[u64],
 ) -> Result<Progress, AllocError>
-    requires found { IsFound (shape_of starts.now.layout) (W.words words.now) (map (λ log. log.items) logs.now)
-        found.now }
+    requires found { IsFound (shape_of starts.now.layout) (W.words words.now) (read_in logs.now) found.now }
     requires exchanged { exchanged.now ≡ exchanged_rows (shape_of starts.now.layout) (W.words words.now)
-        (map (λ log. log.items) logs.now) }
-    ensures { IfOk result (IsBegun (shape_of starts.now.layout) (W.words words.now) (map (λ log. log.items) logs.now)) }
+        (read_in logs.now) }
+    ensures { IfOk result (IsBegun (shape_of starts.now.layout) (W.words words.now) (read_in logs.now)) }
 {
     let placed = placed(kept.placed, starts, opening(&found.versions))?;
     let looks = looks(kept.looks, starts, logs)?;

@@ -2,10 +2,11 @@
 //!
 //! The only error of each is want of memory.
 
-ghost use Rattle.std.specs.Prelude.{◌≡◌, ℕ, ◌+◌, ◌-◌, ◌<◌, ◌++◌, [], if◌then◌else◌, true, false, IfOk, flat_map, length, map, slice_index, slice_index_or, slice_set};
+ghost use Rattle.std.specs.Prelude.{◌≡◌, ℕ, ◌+◌, ◌-◌, ◌<◌, ◌++◌, [], if◌then◌else◌, true, false, IfOk, flat_map, length, slice_index, slice_index_or, slice_set};
 ghost use Rattle.std.specs.List.{range_with_len};
 ghost use Rattle.core_placing.proofs.Lists.{In};
 ghost use Rattle.plain_map.specs.declared.records.TheConstants.{MOST_SEATS};
+ghost use Rattle.history_order.specs.Closing.{read_in};
 ghost use Rattle.history_order.specs.Tables.{
   CanBePlaced,
   IsPlaced,
@@ -108,9 +109,9 @@ pub(crate) fn place<W: Words>(
     at: usize,
     unit: Unit,
 ) -> Result<(), AllocError>
-    requires { CanBePlaced (map (λ log. log.items) closed.now.logs.now) found.now seat at unit progress.old }
-    ensures { IfOk result (λ _. IsPlaced (map (λ log. log.items) closed.now.logs.now) found.now seat at unit
-        progress.old progress.new) }
+    requires { CanBePlaced (read_in closed.now.logs.now) found.now seat at unit progress.old }
+    ensures { IfOk result (λ _. IsPlaced (read_in closed.now.logs.now) found.now seat at unit progress.old
+        progress.new) }
 {
     match unit {
         Unit::Lookup => match place_at(closed.logs, seat, at) {
@@ -136,10 +137,10 @@ fn tell_one<W: Words>(
 ) -> Result<(), AllocError>
     requires other { other < MOST_SEATS }
     requires comes { comes ≡ has_call_in found.now unit seat other }
-    ensures out { IfOk result (λ _. out.new.items ≡ out.old.items ++ told_with (map (λ log. log.items)
-        closed.now.logs.now) closed.now.begun.now found.now seat unit other (slice_index count.old other)) }
-    ensures count { IfOk result (λ _. count.new ≡ slice_set count.old other (count_with (map (λ log. log.items)
-        closed.now.logs.now) closed.now.begun.now found.now seat unit other (slice_index count.old other))) }
+    ensures out { IfOk result (λ _. out.new.items ≡ out.old.items ++ told_with (read_in closed.now.logs.now)
+        closed.now.begun.now found.now seat unit other (slice_index count.old other)) }
+    ensures count { IfOk result (λ _. count.new ≡ slice_set count.old other (count_with (read_in closed.now.logs.now)
+        closed.now.begun.now found.now seat unit other (slice_index count.old other))) }
 {
     if !comes {
         return Ok(());
@@ -165,11 +166,11 @@ pub(crate) fn tell<W: Words>(
     out: &mut Vec<CallId>,
 ) -> Result<(), AllocError>
     requires { seat < MOST_SEATS }
-    ensures out { IfOk result (λ _. out.new.items ≡ out.old.items ++ all_told (map (λ log. log.items)
-        closed.now.logs.now) closed.now.begun.now found.now count.old seat unit 0 MOST_SEATS) }
+    ensures out { IfOk result (λ _. out.new.items ≡ out.old.items ++ all_told (read_in closed.now.logs.now)
+        closed.now.begun.now found.now count.old seat unit 0 MOST_SEATS) }
     ensures count { IfOk result (λ _. (other : ℕ) → other < MOST_SEATS → slice_index count.new other ≡
-        count_with (map (λ log. log.items) closed.now.logs.now) closed.now.begun.now found.now seat unit
-        other (slice_index count.old other)) }
+        count_with (read_in closed.now.logs.now) closed.now.begun.now found.now seat unit other
+        (slice_index count.old other)) }
 {
     if is_alone(found, unit, seat) {
         return tell_one(closed, found, count, true, seat, unit, seat, out);

@@ -1,8 +1,9 @@
 //! Which units may be placed.
 
-ghost use Rattle.std.specs.Prelude.{◌≡◌, ℕ, ◌<◌, ◌==◌, None, true, false, map, slice_index_or};
+ghost use Rattle.std.specs.Prelude.{◌≡◌, ℕ, ◌<◌, ◌==◌, None, true, false, slice_index_or};
 ghost use Rattle.std.specs.List.{list_all};
 ghost use Rattle.std.specs.Option.{option_map_or};
+ghost use Rattle.history_order.specs.Closing.{read_in};
 ghost use Rattle.history_order.specs.Calls.{call_at, seen_in};
 ghost use Rattle.word_rows.specs.LayoutView.{shape_of};
 ghost use Rattle.plain_map.specs.declared.records.TheConstants.{MOST_SEATS};
@@ -263,7 +264,7 @@ fn saw_placed<W: Words>(
     at: usize,
 ) -> bool
     ensures { result ≡ option_map_or (λ call. has_come count.now (seen_in call).counts)
-        (call_at (map (λ log. log.items) closed.now.logs.now) closed.now.begun.now seat at) false }
+        (call_at (read_in closed.now.logs.now) closed.now.begun.now seat at) false }
 {
     match seen_at(closed.logs, closed.begun, seat, at) {
         Some(seen) => has_come(count, &seen),
@@ -281,8 +282,8 @@ fn is_next_in<W: Words>(
     other: usize,
 ) -> bool
     requires { other < MOST_SEATS }
-    ensures { result ≡ is_next_in (map (λ log. log.items) closed.now.logs.now) closed.now.begun.now
-        found.now count.now unit other }
+    ensures { result ≡ is_next_in (read_in closed.now.logs.now) closed.now.begun.now found.now count.now unit
+        other }
 {
     is_of_unit(found, unit, other, count[other] as usize)
         && saw_placed(closed, count, other, count[other] as usize)
@@ -301,8 +302,8 @@ fn is_none_or_next<W: Words>(
 ) -> bool
     requires other { other < MOST_SEATS }
     requires callers { slice_index_or callers.now other false ≡ has_call_in found.now unit seat other }
-    ensures { result ≡ is_none_or_next (map (λ log. log.items) closed.now.logs.now) closed.now.begun.now
-        found.now count.now seat unit other }
+    ensures { result ≡ is_none_or_next (read_in closed.now.logs.now) closed.now.begun.now found.now count.now
+        seat unit other }
 {
     !callers[other] || is_next_in(closed, found, count, unit, other)
 }
@@ -317,8 +318,8 @@ fn are_next_in<W: Words>(
     unit: Unit,
 ) -> bool
     requires { seat < MOST_SEATS }
-    ensures { result ≡ are_next_in (map (λ log. log.items) closed.now.logs.now) closed.now.begun.now
-        found.now count.now seat unit }
+    ensures { result ≡ are_next_in (read_in closed.now.logs.now) closed.now.begun.now found.now count.now seat
+        unit }
 {
     if is_alone(found, unit, seat) {
         return is_next_in(closed, found, count, unit, seat);
@@ -345,7 +346,7 @@ fn has_base_in<W: Words>(
     requires seat { seat < MOST_SEATS }
     requires bases { HasBases (shape_of closed.now.starts.now.layout) (W.words closed.now.words.now) found.now }
     ensures { result ≡ has_base_in (shape_of closed.now.starts.now.layout) (W.words closed.now.words.now)
-        (map (λ log. log.items) closed.now.logs.now) found.now progress.now count.now seat unit }
+        (read_in closed.now.logs.now) found.now progress.now count.now seat unit }
 {
     match unit {
         Unit::Lookup => match place_at(closed.logs, seat, count[seat] as usize) {
@@ -368,7 +369,7 @@ pub(crate) fn is_ready_in<W: Words>(
     requires seat { seat < MOST_SEATS }
     requires bases { HasBases (shape_of closed.now.starts.now.layout) (W.words closed.now.words.now) found.now }
     ensures { result ≡ is_ready_in (shape_of closed.now.starts.now.layout) (W.words closed.now.words.now)
-        (map (λ log. log.items) closed.now.logs.now) closed.now.begun.now found.now progress.now count.now seat }
+        (read_in closed.now.logs.now) closed.now.begun.now found.now progress.now count.now seat }
 {
     match unit_in(found, seat, count[seat] as usize) {
         Some(unit) => {

@@ -4,6 +4,7 @@ ghost use Rattle.std.specs.Prelude.{◌≡◌, ◌≢◌, ℕ, ◌<◌, ◌∷�
 ghost use Rattle.plain_map.specs.declared.records.Record.{Record};
 ghost use Rattle.word_rows.specs.LayoutView.{shape_of};
 ghost use Rattle.core_model.specs.Order.{new_number};
+ghost use Rattle.history_order.specs.Closing.{read_in};
 ghost use Rattle.history_order.specs.Columns.{IsUnitPut, base_in, is_caller, row_place};
 ghost use Rattle.history_order.specs.Fills.{AreUnits, AreWritten};
 ghost use Rattle.history_order.specs.declared.tables.Unit.TheVariants.{Row};
@@ -21,11 +22,11 @@ impl Columns {
         alloc: Global,
         kept: Found,
         starts: &Starts,
-        logs: &[Vec<Record>],
+        logs: &[Vec<&Record>],
     ) -> Result<Columns, AllocError>
         ensures rows { IfOk result (λ columns. columns.rows.items ≡ []) }
         ensures columns { (words : List ℕ) → IfOk result (AreWritten (shape_of starts.now.layout) words
-            (map (λ log. log.items) logs.now)) }
+            (read_in logs.now)) }
     {
         let many = starts.bucket_row_count();
         let bases = column(kept.bases, many, None)?;
@@ -70,10 +71,10 @@ fn lists(
     alloc: Global,
     mut kept: Vec<Vec<Option<Unit>>>,
     starts: &Starts,
-    logs: &[Vec<Record>],
+    logs: &[Vec<&Record>],
 ) -> Result<Vec<Vec<Option<Unit>>>, AllocError>
     ensures { (words : List ℕ) → IfOk result (λ lists. AreUnits (shape_of starts.now.layout) words
-        (map (λ log. log.items) logs.now) [] (map (λ list. list.items) lists.items)) }
+        (read_in logs.now) [] (map (λ list. list.items) lists.items)) }
 {
     let mut lists = Vec::new(alloc);
     for seat in 0..starts.layout.settings().seats {

@@ -1,10 +1,10 @@
 //! The one order of the calls of a closed table.
 
-ghost use Rattle.std.specs.Prelude.{◌≡◌, IfOk, map};
+ghost use Rattle.std.specs.Prelude.{◌≡◌, IfOk};
 ghost use Rattle.word_rows.specs.LayoutView.{shape_of};
 ghost use Rattle.plain_map.specs.History.{ids_of};
 ghost use Rattle.core_model.specs.Order.{order_of};
-ghost use Rattle.history_order.specs.Closing.{IsOfARun, closing_with};
+ghost use Rattle.history_order.specs.Closing.{IsOfARun, closing_with, read_in};
 
 use crate::calls::Closed;
 use crate::finding::fill;
@@ -22,12 +22,12 @@ pub fn order<W: Words>(
     tables: &mut Tables,
     starts: &Starts,
     words: &W,
-    logs: &[Vec<Record>],
+    logs: &[Vec<&Record>],
     begun: &[Pending],
 ) -> Result<Vec<CallId>, AllocError>
-    requires { IsOfARun (shape_of starts.now.layout) (W.words words.now) (map (λ log. log.items) logs.now) begun.now }
+    requires { IsOfARun (shape_of starts.now.layout) (W.words words.now) (read_in logs.now) begun.now }
     ensures { IfOk result (λ order. order.items ≡ ids_of (order_of (shape_of starts.now.layout)
-        (closing_with (W.words words.now) (map (λ log. log.items) logs.now) begun.now))) }
+        (closing_with (W.words words.now) (read_in logs.now) begun.now))) }
 {
     let kept = mem::replace(tables, Tables::new(alloc));
     let Tables {

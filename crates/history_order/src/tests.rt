@@ -53,9 +53,9 @@ const ROWS: SeatRows = SeatRows {
     directory_rows: 1,
 };
 
-fn logs_of(alloc: Global) -> Result<Vec<Vec<Record>>, AllocError> {
+fn logs_of<'a>(alloc: Global, lookup: &'a Record) -> Result<Vec<Vec<&'a Record>>, AllocError> {
     let mut logs = Vec::new(alloc);
-    let own = Vec::from_slice(alloc, &[LOOKUP])?;
+    let own = Vec::from_slice(alloc, &[lookup])?;
     logs.push(own)?;
     logs.push(Vec::new(alloc))?;
     Ok(logs)
@@ -105,7 +105,7 @@ fn progress_of(alloc: Global) -> Result<Progress, AllocError>
 #[test]
 fn calls_by_seat_and_number(rt: HostRuntime) -> Result<(), Fail> {
     let alloc = rt.alloc();
-    let logs = logs_of(alloc)?;
+    let logs = logs_of(alloc, &LOOKUP)?;
     let name = |seat, number, packet| CallId {
         seat,
         number,
@@ -145,7 +145,7 @@ fn a_lookup_waits_for_its_row(rt: HostRuntime) -> Result<(), Fail> {
     let settings = Settings::new(2, 1, 0, 0)?;
     let starts = Starts::new(&Layout::new(&settings, &[ROWS, ROWS]));
     let words = words_of(alloc, &starts)?;
-    let logs = logs_of(alloc)?;
+    let logs = logs_of(alloc, &LOOKUP)?;
     let closed = Closed {
         starts: &starts,
         words: &words,

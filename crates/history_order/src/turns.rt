@@ -2,13 +2,13 @@
 //!
 //! The only error of each is want of memory.
 
-ghost use Rattle.std.specs.Prelude.{◌≡◌, ◌≤◌, ◌++◌, IfOk, find, map};
+ghost use Rattle.std.specs.Prelude.{◌≡◌, ◌≤◌, ◌++◌, IfOk, find};
 ghost use Rattle.std.specs.List.{range_with_len};
 ghost use Rattle.word_rows.specs.LayoutView.{shape_of};
 ghost use Rattle.plain_map.specs.declared.records.TheConstants.{MOST_SEATS};
 ghost use Rattle.plain_map.specs.History.{ids_of};
 ghost use Rattle.core_model.specs.Order.{order_of};
-ghost use Rattle.history_order.specs.Closing.{closing_with};
+ghost use Rattle.history_order.specs.Closing.{closing_with, read_in};
 ghost use Rattle.history_order.specs.Begins.{Begins};
 ghost use Rattle.history_order.specs.Tables.{HasBases, is_ready_in};
 
@@ -37,7 +37,7 @@ fn next_seat<W: Words>(
 ) -> Option<usize>
     requires { HasBases (shape_of closed.now.starts.now.layout) (W.words closed.now.words.now) found.now }
     ensures { result ≡ find (is_ready_in (shape_of closed.now.starts.now.layout) (W.words closed.now.words.now)
-        (map (λ log. log.items) closed.now.logs.now) closed.now.begun.now found.now progress.now count.now)
+        (read_in closed.now.logs.now) closed.now.begun.now found.now progress.now count.now)
         (range_with_len 0 (shape_of closed.now.starts.now.layout).settings.seats) }
 {
     let seats = seat_count(closed.starts);
@@ -58,11 +58,11 @@ pub(crate) fn turns<W: Words>(
     out: &mut Vec<CallId>,
 ) -> Result<(), AllocError>
     requires begins { Begins (shape_of closed.now.starts.now.layout) (W.words closed.now.words.now)
-        (map (λ log. log.items) closed.now.logs.now) closed.now.begun.now found.now progress.old }
+        (read_in closed.now.logs.now) closed.now.begun.now found.now progress.old }
     requires bases { HasBases (shape_of closed.now.starts.now.layout) (W.words closed.now.words.now) found.now }
     ensures { IfOk result (λ _. out.new.items ≡ out.old.items ++ ids_of (order_of
         (shape_of closed.now.starts.now.layout) (closing_with (W.words closed.now.words.now)
-        (map (λ log. log.items) closed.now.logs.now) closed.now.begun.now))) }
+        (read_in closed.now.logs.now) closed.now.begun.now))) }
 {
     let mut count = [0; MOST_SEATS];
     loop {

@@ -2,7 +2,7 @@
 
 ghost use Rattle.std.specs.Prelude.{◌≡◌, ℕ, ◌<◌, [], List, None, Some, length, map, slice_index_or};
 ghost use Rattle.word_rows.specs.LayoutView.{shape_of};
-ghost use Rattle.history_order.specs.Closing.{log_of};
+ghost use Rattle.history_order.specs.Closing.{log_of, read_in, records_there};
 ghost use Rattle.history_order.specs.Columns.{
   after_all,
   look_place,
@@ -23,17 +23,17 @@ pub(crate) fn units<W: Words>(
     starts: &Starts,
     words: &W,
     versions: &[Version],
-    logs: &[Vec<Record>],
+    logs: &[Vec<&Record>],
     units: &mut [Vec<Option<Unit>>],
 )
     requires { length units.old ≡ (shape_of starts.now.layout).settings.seats }
     ensures many { length units.new ≡ length units.old }
     ensures units { (rows : List ℕ) → AreUnits (shape_of starts.now.layout) (W.words words.now)
-        (map (λ log. log.items) logs.now) rows (map (λ list. list.items) units.old) →
+        (read_in logs.now) rows (map (λ list. list.items) units.old) →
         (seat place : ℕ) → seat < (shape_of starts.now.layout).settings.seats →
         slice_index_or (slice_index_or (map (λ list. list.items) units.new) seat []) place None
         ≡ unit_at (shape_of starts.now.layout) (W.words words.now) rows versions.now
-        (log_of (map (λ log. log.items) logs.now) seat) seat place }
+        (log_of (read_in logs.now) seat) seat place }
 {
     for seat in 0..starts.layout.settings().seats {
         let log = log_of(logs, seat);
@@ -49,8 +49,8 @@ pub(crate) fn units<W: Words>(
 }
 
 /// The records of a seat.
-pub(crate) fn log_of(logs: &[Vec<Record>], seat: u32) -> &[Record]
-    ensures { result.now ≡ log_of (map (λ log. log.items) logs.now) seat }
+pub(crate) fn log_of<'a, 'b>(logs: &'a [Vec<&'b Record>], seat: u32) -> &'a [&'b Record]
+    ensures { records_there result.now ≡ log_of (read_in logs.now) seat }
 {
     if (seat as usize) < logs.len() {
         &logs[seat as usize]
@@ -64,13 +64,13 @@ fn write_others<W: Words>(
     starts: &Starts,
     words: &W,
     versions: &[Version],
-    log: &[Record],
+    log: &[&Record],
     seat: u32,
     units: &mut [Option<Unit>],
 )
     ensures len { length units.new ≡ length units.old }
     ensures reads { (place : ℕ) → slice_index_or units.new place None
-        ≡ after_all look_place (λ r. Some Lookup) place (length units.old) log.now
+        ≡ after_all look_place (λ r. Some Lookup) place (length units.old) (records_there log.now)
         (after_all (version_place (shape_of starts.now.layout) (W.words words.now) seat)
         (λ numbered. Some (VersionAt numbered.0)) place (length units.old) (numbered_from 0 versions.now)
         (slice_index_or units.old place None)) }
@@ -100,10 +100,10 @@ fn write_versions<W: Words>(
 }
 
 // The lookups.
-fn write_lookups(log: &[Record], units: &mut [Option<Unit>])
+fn write_lookups(log: &[&Record], units: &mut [Option<Unit>])
     ensures len { length units.new ≡ length units.old }
     ensures reads { (place : ℕ) → slice_index_or units.new place None
-        ≡ after_all look_place (λ r. Some Lookup) place (length units.old) log.now
+        ≡ after_all look_place (λ r. Some Lookup) place (length units.old) (records_there log.now)
         (slice_index_or units.old place None) }
 {
     for record in log {

@@ -11,7 +11,6 @@ use Rattle.plain_map.specs.Keys.{key_cmp}
 use Rattle.plain_map.specs.History.{ids_of}
 use Rattle.trace_share.specs.declared.outcome.Outcome.{Outcome}
 use Rattle.word_rows.specs.Shape.{Shape}
-use Rattle.word_rows.specs.declared.layout.Layout.{Layout}
 use Rattle.word_rows.specs.LayoutView.{shape_of}
 use Rattle.core_model.specs.SeatStates.{SeatState}
 use Rattle.core_model.specs.Worlds.{World}
@@ -38,52 +37,44 @@ joined (state ∷ seats) = ap (λ rest. state.account.records ++ rest) (joined s
 abbrev closing_at : List ℕ → List Record → List Pending → Closing
 closing_at words records begun = record { words = words; records = records; begun = begun }
 
-module _ (core : CoreValue) (left : CoreEnd) (moment : IsMoment core) (is : IsLeft core left) (layout : Layout)
-    (logs : List (Vec Record Global)) (begun : List Pending) (layout_is : layout ≡ left.rows.layout)
-    (logs_are : logs ≡ left.logs.items) (begun_are : begun ≡ left.begun.items) where
+module _ (core : CoreValue) (left : CoreEnd) (moment : IsMoment core) (is : IsLeft core left) where
   -- the records of each seat
   abbrev each : List (List Record)
-  each = map (λ (log : Vec Record Global). log.items) logs
-
-  -- they are those of the world
-  each_is : each ≡ map (λ (s : SeatState). s.account.records) core.world.seats
-  each_is = ap (map (λ (log : Vec Record Global). log.items)) logs_are ∙ is.logs
+  each = map (λ (log : Vec Record Global). log.items) left.logs.items
 
   -- what is left is of a run
-  pub of_a_run : IsOfARun (shape_of layout) left.rows.words.items each begun
+  pub of_a_run : IsOfARun (shape_of left.rows.layout) left.rows.words.items each left.begun.items
   of_a_run = record {
     setup = core.setup;
     events = core.events;
     run = moment.run;
-    shape_is = sym is.shape ∙ ap shape_of (sym layout_is);
+    shape_is = sym is.shape;
     words_are = ap (λ (w : World). w.words) (sym moment.world) ∙ sym is.words;
-    logs_are = ap (λ (w : World). map (λ (s : SeatState). s.account.records) w.seats) (sym moment.world) ∙ sym each_is;
-    begun_are = ap begun_of (sym moment.world) ∙ sym is.begun ∙ sym begun_are;
+    logs_are = ap (λ (w : World). map (λ (s : SeatState). s.account.records) w.seats) (sym moment.world) ∙ sym is.logs;
+    begun_are = ap begun_of (sym moment.world) ∙ sym is.begun;
   }
 
   -- and is the closing of its world
-  closing_is : closing_with left.rows.words.items each begun ≡ closing_of core.world
+  closing_is : closing_with left.rows.words.items each left.begun.items ≡ closing_of core.world
   closing_is =
-      ap (λ (words : List ℕ). closing_with words each begun) is.words
-      ∙ ap (λ (all : List (List Record)). closing_with core.world.words all begun) each_is
-      ∙ ap (closing_with core.world.words (map (λ (s : SeatState). s.account.records) core.world.seats))
-      (begun_are ∙ is.begun)
+      ap (λ (words : List ℕ). closing_with words each left.begun.items) is.words
+      ∙ ap (λ (all : List (List Record)). closing_with core.world.words all left.begun.items) is.logs
+      ∙ ap (closing_with core.world.words (map (λ (s : SeatState). s.account.records) core.world.seats)) is.begun
       ∙ ap (λ (records : List Record). closing_at core.world.words records (begun_of core.world))
       (sym (joined core.world.seats))
 
   -- so its order is that of the world
-  order_is : order_of (shape_of layout) (closing_with left.rows.words.items each begun)
+  order_is : order_of (shape_of left.rows.layout) (closing_with left.rows.words.items each left.begun.items)
       ≡ order_of core.setup.shape (closing_of core.world)
   order_is =
-      ap (λ (shape : Shape). order_of shape (closing_with left.rows.words.items each begun))
-      (ap shape_of layout_is ∙ is.shape)
+      ap (λ (shape : Shape). order_of shape (closing_with left.rows.words.items each left.begun.items)) is.shape
       ∙ ap (order_of core.setup.shape) closing_is
 
   module _ (told : List (ℕ × Outcome)) (played : Played) (told_is : AreTold core told)
       (same : IsPermutation told played.outcomes.items)
       (in_order : IsSortedByKey packet_in nat_cmp played.outcomes.items)
       (order : played.order.items
-      ≡ ids_of (order_of (shape_of layout) (closing_with left.rows.words.items each begun)))
+      ≡ ids_of (order_of (shape_of left.rows.layout) (closing_with left.rows.words.items each left.begun.items)))
       (pending : played.pending.items ≡ left.begun.items)
       (pairs : played.pairs.items ≡ left.pairs.items)
       (leaves : played.leaves ≡ length left.leaves.items)

@@ -11,10 +11,10 @@ use super::slow_order::slow_order;
 use super::tables::Verb::{Insert, Lookup, Remove};
 use super::tables::{Asked, Worked, calls_of, schedule_of};
 use super::two_seats::HELPED;
+use crate::ending::order_left;
 use closed_words::{Starts, effects};
 use core_world::CoreEnd;
 use hash_bits::spread;
-use history_order::{Tables, order};
 use std::alloc::{AllocError, Global};
 use std::process::Abort;
 use std::test::Fail;
@@ -38,15 +38,7 @@ fn compare(
         (map (λ log. log.items) left.now.logs.items) left.now.begun.items }
 {
     let starts = Starts::new(&left.rows.layout);
-    let mut tables = Tables::new(alloc);
-    let fast = order(
-        alloc,
-        &mut tables,
-        &starts,
-        &left.rows,
-        &left.logs,
-        &left.begun,
-    )?;
+    let fast = order_left(alloc, left)?;
     let slow = slow_order(alloc, &left.rows, &left.logs, &left.begun)?;
     assert_eq!(rt; fast, slow, "{name}: stops {stops:?}");
     let taken = effects(alloc, &starts, &left.rows, &left.begun)?;

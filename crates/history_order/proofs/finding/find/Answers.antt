@@ -5,7 +5,7 @@ use Rattle.plain_map.specs.declared.records.Record.{Record}
 use Rattle.plain_map.specs.declared.full.FullKind.TheVariants.{BucketRows}
 use Rattle.word_rows.specs.Shape.{Shape, count_of}
 use Rattle.word_rows.specs.LayoutView.{shape_of}
-use Rattle.history_order.specs.Closing.{log_of}
+use Rattle.history_order.specs.Closing.{log_of, read_in}
 use Rattle.history_order.specs.Filling.{leaves_from, exchanged_in}
 use Rattle.history_order.specs.Columns.{IsMade, after_all, base_in, is_caller, unit_at}
 use Rattle.history_order.specs.Fills.{AreUnits, AreWritten, version_leaves, exchanged_rows}
@@ -25,7 +25,7 @@ pub units-requires : goal.units-requires
 units-requires g c =
     let shape : Shape = shape_of c.args.starts.now.layout in
     let words : List ℕ = g.W.Words.words c.args.words.now in
-    let logs : List (List Record) = map (λ (v : Vec Record Global). v.items) c.args.logs.now in
+    let logs : List (List Record) = read_in c.args.logs.now in
     let item : Vec (Option Unit) Global → List (Option Unit) = λ (v : Vec (Option Unit) Global). v.items in
     let columns : Columns = c.versions.new.columns in
     let w : AreWritten shape words logs columns =
@@ -45,7 +45,7 @@ pub returns-clause-found : goal.returns-clause-found
 returns-clause-found g c =
     let shape : Shape = shape_of c.args.starts.now.layout in
     let words : List ℕ = g.W.Words.words c.args.words.now in
-    let logs : List (List Record) = map (λ (v : Vec Record Global). v.items) c.args.logs.now in
+    let logs : List (List Record) = read_in c.args.logs.now in
     let item : Vec (Option Unit) Global → List (Option Unit) = λ (v : Vec (Option Unit) Global). v.items in
     let leaves : List (List ℕ) = map (λ (v : Vec ℕ Global). v.items) c.args.leaves.now in
     let leaves_are : leaves ≡ version_leaves shape words logs =

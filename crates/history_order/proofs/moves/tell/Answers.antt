@@ -1,6 +1,7 @@
-use Rattle.std.proofs.Common.{ℕ, List, ◌≡◌, ◌+◌, ◌-◌, ◌++◌, ◌∙◌, sym, ap, map, arith, append-nil}
+use Rattle.std.proofs.Common.{ℕ, List, ◌≡◌, ◌+◌, ◌-◌, ◌++◌, ◌∙◌, sym, ap, arith, append-nil}
 use Rattle.std.specs.Prelude.{slice_index}
 use Rattle.plain_map.specs.declared.records.TheConstants.{MOST_SEATS}
+use Rattle.history_order.specs.Closing.{read_in}
 use Rattle.history_order.specs.Tables.{all_told, told_with, count_with}
 use Rattle.history_order.proofs.Ranges.{flat_goes, flat_ends}
 use Rattle.history_order.proofs.Steps.{grows, set_done, set_rest}
@@ -8,7 +9,7 @@ use Rattle.history_order.proofs.moves.tell.Goals as goal
 
 pub loop-other-preserved : goal.loop-other-preserved
 loop-other-preserved g c =
-    let logs = map (λ log. log.items) c.args.closed.now.logs.now in
+    let logs = read_in c.args.closed.now.logs.now in
     let begun = c.args.closed.now.begun.now in
     let found = c.args.found.now in
     let start : List ℕ = c.args.count.now in
@@ -43,7 +44,7 @@ loop-other-preserved g c =
 
 pub returns-clause-out : goal.returns-clause-out
 returns-clause-out g c =
-    let logs = map (λ log. log.items) c.args.closed.now.logs.now in
+    let logs = read_in c.args.closed.now.logs.now in
     let told = λ (other : ℕ). told_with logs c.args.closed.now.begun.now c.args.found.now c.args.seat c.args.unit other
     (slice_index c.args.count.now other) in
     sym (append-nil c.loop-other.out.items)

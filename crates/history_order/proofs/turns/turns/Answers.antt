@@ -1,5 +1,6 @@
-use Rattle.std.proofs.Common.{◌≡◌, [], ◌∷◌, length, map, refl, sym, ap, ◌∙◌, arith, append-nil, length-append}
+use Rattle.std.proofs.Common.{◌≡◌, [], ◌∷◌, length, refl, sym, ap, ◌∙◌, arith, append-nil, length-append}
 use Rattle.word_rows.specs.LayoutView.{shape_of}
+use Rattle.history_order.specs.Closing.{read_in}
 use Rattle.history_order.specs.declared.tables.Progress.{Progress}
 use Rattle.history_order.specs.Tables.{left_of}
 use Rattle.history_order.proofs.Runs.{runs_start, popped_inside, runs_drop, runs_row, runs_same, row_less, version_inside, version_rows, version_less, runs_version, runs_end, seat_few, unit_there, unit_can, call_less, runs_call}
@@ -9,7 +10,7 @@ use Rattle.history_order.proofs.turns.turns.Goals as goal
 
 pub loop-row-init : goal.loop-row-init
 loop-row-init g c = runs_start (shape_of c.args.closed.now.starts.now.layout)
-    (g.W.Words.words c.args.closed.now.words.now) (map (λ log. log.items) c.args.closed.now.logs.now)
+    (g.W.Words.words c.args.closed.now.words.now) (read_in c.args.closed.now.logs.now)
     c.args.closed.now.begun.now c.args.found.now c.args.progress.now (0 ∷ 0 ∷ 0 ∷ 0 ∷ 0 ∷ 0 ∷ 0 ∷ 0 ∷ [])
     c.args.out.now.items c.requires.begins refl eight_zeros
 
@@ -22,7 +23,7 @@ place_row-requires g c =
       aside = c.pop.new.self;
     } in
     popped_inside (shape_of c.args.closed.now.starts.now.layout)
-    (g.W.Words.words c.args.closed.now.words.now) (map (λ log. log.items) c.args.closed.now.logs.now)
+    (g.W.Words.words c.args.closed.now.words.now) (read_in c.args.closed.now.logs.now)
     c.args.closed.now.begun.now c.args.found.now c.loop-row.progress c.loop-row.count c.args.out.now.items
     c.loop-row.out.items c.loop-row.invariant now c.in-Some.row refl c.in-Some.ensures.items
 
@@ -35,7 +36,7 @@ loop-row-smaller-in_ok-place_row g c =
       aside = c.pop.new.self;
     } in
     let less = row_less (shape_of c.args.closed.now.starts.now.layout)
-    (g.W.Words.words c.args.closed.now.words.now) (map (λ log. log.items) c.args.closed.now.logs.now)
+    (g.W.Words.words c.args.closed.now.words.now) (read_in c.args.closed.now.logs.now)
     c.args.closed.now.begun.now c.args.found.now c.loop-row.progress c.loop-row.count c.args.out.now.items
     c.loop-row.out.items c.loop-row.invariant now c.place_row.new.progress c.in-Some.row refl c.in-Some.ensures.items
     (sym c.is_due.ensures ∙ c.if-is_due.true) c.in_ok-place_row.ensures in
@@ -52,7 +53,7 @@ loop-row-preserved-in_ok-place_row g c =
       aside = c.pop.new.self;
     } in
     runs_row (shape_of c.args.closed.now.starts.now.layout)
-    (g.W.Words.words c.args.closed.now.words.now) (map (λ log. log.items) c.args.closed.now.logs.now)
+    (g.W.Words.words c.args.closed.now.words.now) (read_in c.args.closed.now.logs.now)
     c.args.closed.now.begun.now c.args.found.now c.loop-row.progress c.loop-row.count c.args.out.now.items
     c.loop-row.out.items c.loop-row.invariant now c.place_row.new.progress c.in-Some.row refl refl refl
     c.in-Some.ensures.items (sym c.is_due.ensures ∙ c.if-is_due.true) c.in_ok-place_row.ensures
@@ -66,7 +67,7 @@ loop-row-preserved-else-is_due g c =
       aside = c.pop.new.self;
     } in
     runs_drop (shape_of c.args.closed.now.starts.now.layout)
-    (g.W.Words.words c.args.closed.now.words.now) (map (λ log. log.items) c.args.closed.now.logs.now)
+    (g.W.Words.words c.args.closed.now.words.now) (read_in c.args.closed.now.logs.now)
     c.args.closed.now.begun.now c.args.found.now c.loop-row.progress c.loop-row.count c.args.out.now.items
     c.loop-row.out.items c.loop-row.invariant now c.in-Some.row refl refl refl
     c.in-Some.ensures.items (sym c.is_due.ensures ∙ c.if-is_due.false)
@@ -82,11 +83,11 @@ place_version-requires-clause-there g c =
     let none : c.pop.new.self.items ≡ c.loop-row.progress.aside.items =
     sym (c.in_default.ensures.items ∙ append-nil c.pop.new.self.items) in
     let runs = runs_same (shape_of c.args.closed.now.starts.now.layout)
-    (g.W.Words.words c.args.closed.now.words.now) (map (λ log. log.items) c.args.closed.now.logs.now)
+    (g.W.Words.words c.args.closed.now.words.now) (read_in c.args.closed.now.logs.now)
     c.args.closed.now.begun.now c.args.found.now c.loop-row.progress c.loop-row.count c.args.out.now.items
     c.loop-row.out.items c.loop-row.invariant now refl refl refl none in
     version_inside (shape_of c.args.closed.now.starts.now.layout)
-    (g.W.Words.words c.args.closed.now.words.now) (map (λ log. log.items) c.args.closed.now.logs.now)
+    (g.W.Words.words c.args.closed.now.words.now) (read_in c.args.closed.now.logs.now)
     c.args.closed.now.begun.now c.args.found.now now c.loop-row.count c.args.out.now.items c.loop-row.out.items runs
     (sym c.is_version_due.ensures ∙ c.if-is_version_due.true)
 
@@ -101,11 +102,11 @@ place_version-requires-clause-firsts g c =
     let none : c.pop.new.self.items ≡ c.loop-row.progress.aside.items =
     sym (c.in_default.ensures.items ∙ append-nil c.pop.new.self.items) in
     let runs = runs_same (shape_of c.args.closed.now.starts.now.layout)
-    (g.W.Words.words c.args.closed.now.words.now) (map (λ log. log.items) c.args.closed.now.logs.now)
+    (g.W.Words.words c.args.closed.now.words.now) (read_in c.args.closed.now.logs.now)
     c.args.closed.now.begun.now c.args.found.now c.loop-row.progress c.loop-row.count c.args.out.now.items
     c.loop-row.out.items c.loop-row.invariant now refl refl refl none in
     version_rows (shape_of c.args.closed.now.starts.now.layout)
-    (g.W.Words.words c.args.closed.now.words.now) (map (λ log. log.items) c.args.closed.now.logs.now)
+    (g.W.Words.words c.args.closed.now.words.now) (read_in c.args.closed.now.logs.now)
     c.args.closed.now.begun.now c.args.found.now now c.loop-row.count c.args.out.now.items c.loop-row.out.items runs
     (sym c.is_version_due.ensures ∙ c.if-is_version_due.true)
 
@@ -120,11 +121,11 @@ loop-row-smaller-then-is_version_due g c =
     let none : c.pop.new.self.items ≡ c.loop-row.progress.aside.items =
     sym (c.in_default.ensures.items ∙ append-nil c.pop.new.self.items) in
     let runs = runs_same (shape_of c.args.closed.now.starts.now.layout)
-    (g.W.Words.words c.args.closed.now.words.now) (map (λ log. log.items) c.args.closed.now.logs.now)
+    (g.W.Words.words c.args.closed.now.words.now) (read_in c.args.closed.now.logs.now)
     c.args.closed.now.begun.now c.args.found.now c.loop-row.progress c.loop-row.count c.args.out.now.items
     c.loop-row.out.items c.loop-row.invariant now refl refl refl none in
     let less = version_less (shape_of c.args.closed.now.starts.now.layout)
-    (g.W.Words.words c.args.closed.now.words.now) (map (λ log. log.items) c.args.closed.now.logs.now)
+    (g.W.Words.words c.args.closed.now.words.now) (read_in c.args.closed.now.logs.now)
     c.args.closed.now.begun.now c.args.found.now now c.loop-row.count c.args.out.now.items c.loop-row.out.items runs
     c.place_version.new.progress (sym c.is_version_due.ensures ∙ c.if-is_version_due.true)
     c.in_ok-place_version.ensures in
@@ -143,11 +144,11 @@ loop-row-preserved-then-is_version_due g c =
     let none : c.pop.new.self.items ≡ c.loop-row.progress.aside.items =
     sym (c.in_default.ensures.items ∙ append-nil c.pop.new.self.items) in
     let runs = runs_same (shape_of c.args.closed.now.starts.now.layout)
-    (g.W.Words.words c.args.closed.now.words.now) (map (λ log. log.items) c.args.closed.now.logs.now)
+    (g.W.Words.words c.args.closed.now.words.now) (read_in c.args.closed.now.logs.now)
     c.args.closed.now.begun.now c.args.found.now c.loop-row.progress c.loop-row.count c.args.out.now.items
     c.loop-row.out.items c.loop-row.invariant now refl refl refl none in
     runs_version (shape_of c.args.closed.now.starts.now.layout)
-    (g.W.Words.words c.args.closed.now.words.now) (map (λ log. log.items) c.args.closed.now.logs.now)
+    (g.W.Words.words c.args.closed.now.words.now) (read_in c.args.closed.now.logs.now)
     c.args.closed.now.begun.now c.args.found.now now c.loop-row.count c.args.out.now.items c.loop-row.out.items runs
     c.place_version.new.progress (sym c.is_version_due.ensures ∙ c.if-is_version_due.true) c.in_ok-place_version.ensures
 
@@ -162,12 +163,12 @@ returns-in_default-next_seat g c =
     let none : c.pop.new.self.items ≡ c.loop-row.progress.aside.items =
     sym (c.in_default.ensures.items ∙ append-nil c.pop.new.self.items) in
     let runs = runs_same (shape_of c.args.closed.now.starts.now.layout)
-    (g.W.Words.words c.args.closed.now.words.now) (map (λ log. log.items) c.args.closed.now.logs.now)
+    (g.W.Words.words c.args.closed.now.words.now) (read_in c.args.closed.now.logs.now)
     c.args.closed.now.begun.now c.args.found.now c.loop-row.progress c.loop-row.count c.args.out.now.items
     c.loop-row.out.items c.loop-row.invariant now refl refl refl none in
     let empty : c.pop.new.self.items ≡ [] = empty_of c.pop.new.self.items (omega (arith, c.in_default.ensures.cases)) in
     runs_end (shape_of c.args.closed.now.starts.now.layout)
-    (g.W.Words.words c.args.closed.now.words.now) (map (λ log. log.items) c.args.closed.now.logs.now)
+    (g.W.Words.words c.args.closed.now.words.now) (read_in c.args.closed.now.logs.now)
     c.args.closed.now.begun.now c.args.found.now now c.loop-row.count c.args.out.now.items c.loop-row.out.items runs
     empty
     (sym c.is_version_due.ensures ∙ c.if-is_version_due.false) (sym c.next_seat.ensures ∙ c.in_default-next_seat.is)
@@ -183,12 +184,12 @@ bounds-count-seat g c =
     let none : c.pop.new.self.items ≡ c.loop-row.progress.aside.items =
     sym (c.in_default.ensures.items ∙ append-nil c.pop.new.self.items) in
     let runs = runs_same (shape_of c.args.closed.now.starts.now.layout)
-    (g.W.Words.words c.args.closed.now.words.now) (map (λ log. log.items) c.args.closed.now.logs.now)
+    (g.W.Words.words c.args.closed.now.words.now) (read_in c.args.closed.now.logs.now)
     c.args.closed.now.begun.now c.args.found.now c.loop-row.progress c.loop-row.count c.args.out.now.items
     c.loop-row.out.items c.loop-row.invariant now refl refl refl none in
     let empty : c.pop.new.self.items ≡ [] = empty_of c.pop.new.self.items (omega (arith, c.in_default.ensures.cases)) in
     let few = seat_few (shape_of c.args.closed.now.starts.now.layout)
-    (g.W.Words.words c.args.closed.now.words.now) (map (λ log. log.items) c.args.closed.now.logs.now)
+    (g.W.Words.words c.args.closed.now.words.now) (read_in c.args.closed.now.logs.now)
     c.args.closed.now.begun.now c.args.found.now now c.loop-row.count c.args.out.now.items c.loop-row.out.items runs
     empty
     (sym c.is_version_due.ensures ∙ c.if-is_version_due.false) c.in-Some-next_seat.seat (sym c.next_seat.ensures
@@ -206,12 +207,12 @@ offset_bounds-count-seat g c =
     let none : c.pop.new.self.items ≡ c.loop-row.progress.aside.items =
     sym (c.in_default.ensures.items ∙ append-nil c.pop.new.self.items) in
     let runs = runs_same (shape_of c.args.closed.now.starts.now.layout)
-    (g.W.Words.words c.args.closed.now.words.now) (map (λ log. log.items) c.args.closed.now.logs.now)
+    (g.W.Words.words c.args.closed.now.words.now) (read_in c.args.closed.now.logs.now)
     c.args.closed.now.begun.now c.args.found.now c.loop-row.progress c.loop-row.count c.args.out.now.items
     c.loop-row.out.items c.loop-row.invariant now refl refl refl none in
     let empty : c.pop.new.self.items ≡ [] = empty_of c.pop.new.self.items (omega (arith, c.in_default.ensures.cases)) in
     let few = seat_few (shape_of c.args.closed.now.starts.now.layout)
-    (g.W.Words.words c.args.closed.now.words.now) (map (λ log. log.items) c.args.closed.now.logs.now)
+    (g.W.Words.words c.args.closed.now.words.now) (read_in c.args.closed.now.logs.now)
     c.args.closed.now.begun.now c.args.found.now now c.loop-row.count c.args.out.now.items c.loop-row.out.items runs
     empty
     (sym c.is_version_due.ensures ∙ c.if-is_version_due.false) c.in-Some-next_seat.seat (sym c.next_seat.ensures
@@ -229,12 +230,12 @@ returns-in_default-unit_in g c =
     let none : c.pop.new.self.items ≡ c.loop-row.progress.aside.items =
     sym (c.in_default.ensures.items ∙ append-nil c.pop.new.self.items) in
     let runs = runs_same (shape_of c.args.closed.now.starts.now.layout)
-    (g.W.Words.words c.args.closed.now.words.now) (map (λ log. log.items) c.args.closed.now.logs.now)
+    (g.W.Words.words c.args.closed.now.words.now) (read_in c.args.closed.now.logs.now)
     c.args.closed.now.begun.now c.args.found.now c.loop-row.progress c.loop-row.count c.args.out.now.items
     c.loop-row.out.items c.loop-row.invariant now refl refl refl none in
     let empty : c.pop.new.self.items ≡ [] = empty_of c.pop.new.self.items (omega (arith, c.in_default.ensures.cases)) in
     absurd (unit_there (shape_of c.args.closed.now.starts.now.layout)
-    (g.W.Words.words c.args.closed.now.words.now) (map (λ log. log.items) c.args.closed.now.logs.now)
+    (g.W.Words.words c.args.closed.now.words.now) (read_in c.args.closed.now.logs.now)
     c.args.closed.now.begun.now c.args.found.now now c.loop-row.count c.args.out.now.items c.loop-row.out.items runs
     empty
     (sym c.is_version_due.ensures ∙ c.if-is_version_due.false) c.in-Some-next_seat.seat (sym c.next_seat.ensures
@@ -252,12 +253,12 @@ place-requires g c =
     let none : c.pop.new.self.items ≡ c.loop-row.progress.aside.items =
     sym (c.in_default.ensures.items ∙ append-nil c.pop.new.self.items) in
     let runs = runs_same (shape_of c.args.closed.now.starts.now.layout)
-    (g.W.Words.words c.args.closed.now.words.now) (map (λ log. log.items) c.args.closed.now.logs.now)
+    (g.W.Words.words c.args.closed.now.words.now) (read_in c.args.closed.now.logs.now)
     c.args.closed.now.begun.now c.args.found.now c.loop-row.progress c.loop-row.count c.args.out.now.items
     c.loop-row.out.items c.loop-row.invariant now refl refl refl none in
     let empty : c.pop.new.self.items ≡ [] = empty_of c.pop.new.self.items (omega (arith, c.in_default.ensures.cases)) in
     unit_can (shape_of c.args.closed.now.starts.now.layout)
-    (g.W.Words.words c.args.closed.now.words.now) (map (λ log. log.items) c.args.closed.now.logs.now)
+    (g.W.Words.words c.args.closed.now.words.now) (read_in c.args.closed.now.logs.now)
     c.args.closed.now.begun.now c.args.found.now now c.loop-row.count c.args.out.now.items c.loop-row.out.items runs
     empty
     (sym c.is_version_due.ensures ∙ c.if-is_version_due.false) c.in-Some-next_seat.seat (sym c.next_seat.ensures
@@ -275,12 +276,12 @@ loop-row-smaller g c =
     let none : c.pop.new.self.items ≡ c.loop-row.progress.aside.items =
     sym (c.in_default.ensures.items ∙ append-nil c.pop.new.self.items) in
     let runs = runs_same (shape_of c.args.closed.now.starts.now.layout)
-    (g.W.Words.words c.args.closed.now.words.now) (map (λ log. log.items) c.args.closed.now.logs.now)
+    (g.W.Words.words c.args.closed.now.words.now) (read_in c.args.closed.now.logs.now)
     c.args.closed.now.begun.now c.args.found.now c.loop-row.progress c.loop-row.count c.args.out.now.items
     c.loop-row.out.items c.loop-row.invariant now refl refl refl none in
     let empty : c.pop.new.self.items ≡ [] = empty_of c.pop.new.self.items (omega (arith, c.in_default.ensures.cases)) in
     let less = call_less (shape_of c.args.closed.now.starts.now.layout)
-    (g.W.Words.words c.args.closed.now.words.now) (map (λ log. log.items) c.args.closed.now.logs.now)
+    (g.W.Words.words c.args.closed.now.words.now) (read_in c.args.closed.now.logs.now)
     c.args.closed.now.begun.now c.args.found.now now c.loop-row.count c.args.out.now.items c.loop-row.out.items runs
     empty
     (sym c.is_version_due.ensures ∙ c.if-is_version_due.false) c.in-Some-next_seat.seat (sym c.next_seat.ensures
@@ -301,12 +302,12 @@ loop-row-preserved g c =
     let none : c.pop.new.self.items ≡ c.loop-row.progress.aside.items =
     sym (c.in_default.ensures.items ∙ append-nil c.pop.new.self.items) in
     let runs = runs_same (shape_of c.args.closed.now.starts.now.layout)
-    (g.W.Words.words c.args.closed.now.words.now) (map (λ log. log.items) c.args.closed.now.logs.now)
+    (g.W.Words.words c.args.closed.now.words.now) (read_in c.args.closed.now.logs.now)
     c.args.closed.now.begun.now c.args.found.now c.loop-row.progress c.loop-row.count c.args.out.now.items
     c.loop-row.out.items c.loop-row.invariant now refl refl refl none in
     let empty : c.pop.new.self.items ≡ [] = empty_of c.pop.new.self.items (omega (arith, c.in_default.ensures.cases)) in
     runs_call (shape_of c.args.closed.now.starts.now.layout)
-    (g.W.Words.words c.args.closed.now.words.now) (map (λ log. log.items) c.args.closed.now.logs.now)
+    (g.W.Words.words c.args.closed.now.words.now) (read_in c.args.closed.now.logs.now)
     c.args.closed.now.begun.now c.args.found.now now c.loop-row.count c.args.out.now.items c.loop-row.out.items runs
     empty
     (sym c.is_version_due.ensures ∙ c.if-is_version_due.false) c.in-Some-next_seat.seat (sym c.next_seat.ensures
@@ -326,12 +327,12 @@ tell-requires g c =
     let none : c.pop.new.self.items ≡ c.loop-row.progress.aside.items =
     sym (c.in_default.ensures.items ∙ append-nil c.pop.new.self.items) in
     let runs = runs_same (shape_of c.args.closed.now.starts.now.layout)
-    (g.W.Words.words c.args.closed.now.words.now) (map (λ log. log.items) c.args.closed.now.logs.now)
+    (g.W.Words.words c.args.closed.now.words.now) (read_in c.args.closed.now.logs.now)
     c.args.closed.now.begun.now c.args.found.now c.loop-row.progress c.loop-row.count c.args.out.now.items
     c.loop-row.out.items c.loop-row.invariant now refl refl refl none in
     let empty : c.pop.new.self.items ≡ [] = empty_of c.pop.new.self.items (omega (arith, c.in_default.ensures.cases)) in
     let few = seat_few (shape_of c.args.closed.now.starts.now.layout)
-    (g.W.Words.words c.args.closed.now.words.now) (map (λ log. log.items) c.args.closed.now.logs.now)
+    (g.W.Words.words c.args.closed.now.words.now) (read_in c.args.closed.now.logs.now)
     c.args.closed.now.begun.now c.args.found.now now c.loop-row.count c.args.out.now.items c.loop-row.out.items runs
     empty
     (sym c.is_version_due.ensures ∙ c.if-is_version_due.false) c.in-Some-next_seat.seat (sym c.next_seat.ensures

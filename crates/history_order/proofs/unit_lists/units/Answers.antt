@@ -7,7 +7,7 @@ use Rattle.plain_map.specs.declared.records.Record.{Record}
 use Rattle.step_counts.specs.declared.settings.Settings.{Settings}
 use Rattle.word_rows.specs.Shape.{Shape}
 use Rattle.word_rows.specs.LayoutView.{shape_of}
-use Rattle.history_order.specs.Closing.{log_of}
+use Rattle.history_order.specs.Closing.{log_of, read_in}
 use Rattle.history_order.specs.Columns.{after_all, look_place, numbered_from, version_place}
 use Rattle.history_order.specs.declared.tables.Unit.{Unit}
 use Rattle.history_order.specs.declared.tables.Unit.TheVariants.{Lookup, Version as VersionAt}
@@ -19,7 +19,7 @@ pub loop-seat-preserved : goal.loop-seat-preserved
 loop-seat-preserved g c =
     let shape : Shape = shape_of c.args.starts.now.layout in
     let words : List ℕ = g.W.Words.words c.args.words.now in
-    let logs : List (List Record) = map (λ (v : Vec Record Global). v.items) c.args.logs.now in
+    let logs : List (List Record) = read_in c.args.logs.now in
     let versions : List Version = c.args.versions.now in
     let item : Vec (Option Unit) Global → List (Option Unit) = λ (v : Vec (Option Unit) Global). v.items in
     let seat : ℕ = c.loop-seat.seat in
@@ -49,7 +49,7 @@ pub returns-clause-units : goal.returns-clause-units
 returns-clause-units g c rows units seat place less =
     let shape : Shape = shape_of c.args.starts.now.layout in
     let words : List ℕ = g.W.Words.words c.args.words.now in
-    let log : List Record = log_of (map (λ (v : Vec Record Global). v.items) c.args.logs.now) seat in
+    let log : List Record = log_of (read_in c.args.logs.now) seat in
     let old : List (Option Unit) =
     get_or (map (λ (v : Vec (Option Unit) Global). v.items) c.args.units.now) seat [] in
     let told : ℕ → Option Unit → Option Unit = λ many read.

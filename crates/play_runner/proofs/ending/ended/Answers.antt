@@ -3,16 +3,12 @@ use Rattle.std.proofs.Common.{refl, ◌∙◌}
 use Rattle.play_runner.proofs.Ends.{of_a_run, is_played}
 use Rattle.play_runner.proofs.ending.ended.Goals as goal
 
-pub order-requires : goal.order-requires
-order-requires c =
-    of_a_run c.args.core c.in-Ok.left c.moment.ensures c.in-Ok.ensures.left c.new-starts.result.layout
-    c.deref.result.now c.deref-2.result.now c.new-starts.ensures c.deref.ensures.value c.deref-2.ensures.value
+pub order_left-requires : goal.order_left-requires
+order_left-requires c = of_a_run c.args.core c.in-Ok.left c.moment.ensures c.in-Ok.ensures.left
 
 pub returns : goal.returns
 returns c = λ hands unbegun.
-    is_played c.args.core c.in-Ok.left c.moment.ensures c.in-Ok.ensures.left c.new-starts.result.layout
-    c.deref.result.now c.deref-2.result.now c.new-starts.ensures c.deref.ensures.value c.deref-2.ensures.value
-    c.args.outcomes.items
+    is_played c.args.core c.in-Ok.left c.moment.ensures c.in-Ok.ensures.left c.args.outcomes.items
     (record {
       outcomes = c.in_ok-outcomes.outcomes;
       pending = c.in-Ok.left.begun;

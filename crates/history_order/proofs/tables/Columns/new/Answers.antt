@@ -1,9 +1,10 @@
 -- No column has anything written.
-use Rattle.std.proofs.Common.{◌≡◌, ℕ, ◌∷◌, [], List, Some, None, Vec, Global, map, false, sym, ap, ◌∙◌, subst}
+use Rattle.std.proofs.Common.{◌≡◌, ℕ, ◌∷◌, [], List, Some, None, map, false, sym, ap, ◌∙◌, subst}
 use Rattle.plain_map.specs.declared.records.Record.{Record}
 use Rattle.plain_map.specs.declared.full.FullKind.TheVariants.{BucketRows}
 use Rattle.word_rows.specs.Shape.{Shape, count_of}
 use Rattle.word_rows.specs.LayoutView.{shape_of}
+use Rattle.history_order.specs.Closing.{read_in}
 use Rattle.history_order.specs.Columns.{after_all, base_in, is_caller}
 use Rattle.history_order.specs.Fills.{AreUnits}
 use Rattle.history_order.proofs.Writes.{no_flag, read_replicate}
@@ -12,7 +13,7 @@ use Rattle.history_order.proofs.tables.Columns.new.Goals as goal
 pub returns-clause-columns : goal.returns-clause-columns
 returns-clause-columns c words =
     let shape : Shape = shape_of c.args.starts.now.layout in
-    let logs : List (List Record) = map (λ (v : Vec Record Global). v.items) c.args.logs.now in
+    let logs : List (List Record) = read_in c.args.logs.now in
     let many : ℕ = count_of shape BucketRows in
     let none : [] ≡ c.new.result.items = sym c.new.ensures.items in
     record {

@@ -10,5 +10,4 @@ new-requires-clause-playable c =
 
 pub returns-in-Ok : goal.returns-in-Ok
 returns-in-Ok c =
-    of_a_run c.run_rounds.new.self.core c.in-Ok.left c.moment.ensures c.in-Ok.ensures.left c.in-Ok.left.rows.layout
-    c.in-Ok.left.logs.items c.in-Ok.left.begun.items refl refl refl
+    of_a_run c.run_rounds.new.self.core c.in-Ok.left c.moment.ensures c.in-Ok.ensures.left
