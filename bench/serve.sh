@@ -46,28 +46,34 @@ awk '{ if (!($1 in least) || $2 < least[$1]) least[$1] = $2; if ($3 > most[$1]) 
             least["trial1"] / least["softflowd"], least["trial2"] / least["softflowd"]
     }' "$work/times"
 
-# The cost of a packet by the length of the capture, with what a capture of no packet takes and without, in interleaved turns too.
-# The shortest are served many times a turn, since they are over in some milliseconds.
+# The cost of a packet by the length of the capture, with what a capture of no packet takes and without, in interleaved turns too,
+# and how far the lengths differ. The shorter ones are served more often in a turn, since they are over sooner.
 rm "$work/times"
-for many in 0 10000 100000 1000000 "$packets"; do
+lengths="0 10000 100000 1000000 $packets"
+for many in $lengths; do
     "$flowdir" make --number 0 --packets "$many" >"$work/$many.pcap"
 done
 for _ in $(seq "$turns"); do
-    for many in 0 10000 100000 1000000 "$packets"; do
-        times=1
-        [ "$many" -gt 100000 ] || times=20
-        for _ in $(seq "$times"); do
+    for many in $lengths; do
+        runs=20
+        [ "$many" -le 100000 ] || runs=$((1 + 4000000 / many))
+        for _ in $(seq "$runs"); do
+            : >"$work/out"
             start="$EPOCHREALTIME"
-            "$flowdir" serve --seats 2 <"$work/$many.pcap" >"$work/out"
+            "$flowdir" serve --seats 2 <"$work/$many.pcap" >>"$work/out"
             echo "$many ${start/[.,]/} ${EPOCHREALTIME/[.,]/}" >>"$work/times"
         done
     done
 done
-awk '{ took = $3 - $2; if (!($1 in least) || took < least[$1]) least[$1] = took }
+awk -v lengths="$lengths" '{ took = $3 - $2; if (!($1 in least) || took < least[$1]) least[$1] = took }
     END {
-        for (many in least) {
-            if (many == 0) printf "%s packets: %.1f ms in all\n", many, least[many] / 1e3
-            else printf "%s packets: %.0f ns a packet, %.0f beyond the start\n", many, least[many] / many * 1e3,
-                (least[many] - least[0]) / many * 1e3
+        printf "0 packets: %.1f ms in all\n", least[0] / 1e3
+        count = split(lengths, many, " ")
+        for (i = 2; i <= count; i++) {
+            each = (least[many[i]] - least[0]) / many[i] * 1e3
+            printf "%s packets: %.0f ns a packet, %.0f beyond the start\n", many[i], least[many[i]] / many[i] * 1e3, each
+            if (i == 2 || each > dearest) dearest = each
+            if (i == 2 || each < cheapest) cheapest = each
         }
-    }' "$work/times" | sort -n
+        printf "beyond the start the dearest length costs %.2f of the cheapest\n", dearest / cheapest
+    }' "$work/times"

@@ -16,14 +16,21 @@ pub struct Workspace {
 // A block of so many words is larger than any that a batch commonly takes.
 const LARGE_BLOCK: usize = 1 << 20;
 
+// So many words are about those of the table of a full batch at the default settings, and those that it is copied from.
+const TABLE_WORDS: usize = 1 << 17;
+
 impl Workspace {
-    /// None yet.
+    /// Holds none yet, and makes the C library ready to give it. Where that has no memory, nothing is lost.
     ///
-    /// The C library gives a large block back to the system as soon as it is dropped, so that the next one has to be
+    /// The library gives a large block back to the system as soon as it is dropped, so that the next one has to be
     /// mapped and cleared page by page, and learns from the first such block to keep those of its size. So one is taken
-    /// here, left unused and dropped; where there is no memory for it, nothing is lost.
+    /// here, left unused and dropped. Then as much as a table takes is written once and dropped: so these pages are
+    /// there before the first packet is read, and the first batch opens its table as soon as those after it.
     pub fn new(alloc: Global) -> Workspace {
         if let Ok(block) = Vec::with_capacity(alloc, LARGE_BLOCK) {
+            give_back(block);
+        }
+        if let Ok(block) = vec![in alloc; 0; TABLE_WORDS] {
             give_back(block);
         }
         Workspace {
