@@ -110,11 +110,12 @@ splits_alike rules start first inserted others same =
     splits_are rules start first others first (first ++ inserted) (crowded rules start first)
     (crowded rules start (first ++ inserted)) (λ q. refl) (same_behind first inserted others same) refl refl
 
--- the keys of both, each once, are those of the batch
-pub all_keys : (first inserted begun seen found once all : List Key) → begun ≡ first → seen ≡ begun →
-    HaveSameKeys found (seen ++ inserted) → HaveSameKeys once found → all ≡ once → HaveSameKeys all (first ++ inserted)
-all_keys first inserted begun seen found once all first_are seen_is both same all_is q =
-    ap (λ keys. has keys q) all_is ∙ same q ∙ both q ∙ ap (λ keys. has (keys ++ inserted) q) (seen_is ∙ first_are)
+-- the first keys, each once, and the inserted ones together are the keys of the batch
+pub all_keys : (first inserted begun once seen found all : List Key) → begun ≡ first → HaveSameKeys once begun →
+    seen ≡ once → HaveSameKeys found (seen ++ inserted) → all ≡ found → HaveSameKeys all (first ++ inserted)
+all_keys first inserted begun once seen found all first_are same seen_is both all_is q =
+    ap (λ keys. has keys q) all_is ∙ both q ∙ ap (λ keys. has (keys ++ inserted) q) seen_is
+    ∙ same_with once first inserted (λ key. same key ∙ ap (λ keys. has keys key) first_are) q
 
 -- ---- the keys of one call more
 

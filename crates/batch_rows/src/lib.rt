@@ -7,9 +7,11 @@ mod hints;
 mod keys;
 mod rows;
 mod splits;
+mod telling;
 
-pub use demand::{Demand, demand_of};
+pub use demand::Demand;
 pub use rows::{CALL_LIMIT, Sizes, batch_rows, sizes_for, updates_of};
+pub use telling::demand_of;
 
 #[cfg(test)]
 mod tests;

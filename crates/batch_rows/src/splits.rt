@@ -4,6 +4,7 @@ ghost use Rattle.std.specs.Prelude.{◌≡◌, ◌++◌, ◌^◌, ◌<◌, ◌�
 ghost use Rattle.plain_map.specs.PlainObject.{InRange};
 ghost use Rattle.bucket_states.specs.Parts.{keys_of};
 ghost use Rattle.core_model.specs.Needs.{splits_for};
+ghost use Rattle.batch_rows.specs.Counts.{AreInOrder};
 ghost use Rattle.batch_rows.specs.Depths.{depth_for, lesser_rules};
 
 use crate::crowds::crowded;
@@ -26,9 +27,11 @@ pub(crate) struct Splits {
 /// The depth is the starting one and as many more as there are depths of which some prefix gets more keys than a bucket
 /// has room for. The splits are how many prefixes do: of the pairs and the inserts together, less those of the pairs
 /// alone. A part of a prefix gets no more keys than the prefix, so from the depth that is found on there are none, and
-/// the pairs alone are counted by the bits of that depth. It takes memory for the keys, twice, and a word for each
-/// place of the greatest directory. It is quick where pairs and inserted keys are in the order of keys: the sort finds
-/// nothing to move.
+/// the pairs alone are counted by the bits of that depth.
+///
+/// The keys of the pairs are sorted, and the inserted ones, which are in order, are merged with them. It takes memory
+/// for the keys, twice, and a word for each place of the greatest directory. It is quick where the pairs are in the
+/// order of their keys: the sort finds nothing to move.
 pub(crate) fn splits_of(
     alloc: Global,
     rules: &Rules,
@@ -38,6 +41,7 @@ pub(crate) fn splits_of(
 ) -> Result<Splits, AllocError>
     requires range { InRange rules.now }
     requires within { start ≤ rules.now.depth }
+    requires in_order { AreInOrder inserted.now }
     ensures depth { IfOk result (λ found.
         found.depth ≡ depth_for rules.now start (keys_of first.now ++ inserted.now)) }
     ensures within { IfOk result (λ found. (start ≤ found.depth) × (found.depth ≤ rules.now.depth)) }
@@ -46,11 +50,10 @@ pub(crate) fn splits_of(
     ensures few { IfOk result (λ found. found.splits < 2 ^ 32) }
 {
     let mut keys = first_keys(alloc, first)?;
-    let mut all = union_of(alloc, &keys, inserted)?;
-    keep_once(&mut all);
+    keep_once(&mut keys);
+    let all = union_of(alloc, &keys, inserted)?;
     let after = crowded(alloc, rules, start, &all)?;
     let depth = start + after.levels;
-    keep_once(&mut keys);
     let lesser = Rules { depth, ..*rules };
     let before = crowded(alloc, &lesser, start, &keys)?;
     let splits = after.prefixes.saturating_sub(before.prefixes);

@@ -1,5 +1,9 @@
 //! Batches worked by hand, which show that the definitions mean what was meant, and that memory is found.
 
+ghost use Rattle.std.specs.Prelude.{IfOk};
+ghost use Rattle.batch_rows.specs.Counts.{AreInOrder};
+
+use crate::keys::keep_once;
 use crate::splits::{Splits, splits_of};
 use crate::{Demand, batch_rows, demand_of, sizes_for, updates_of};
 use hash_bits::Hashing;
@@ -29,11 +33,15 @@ fn pairs(alloc: Global, ports: &[u64]) -> Result<Vec<Pair>, AllocError> {
     Ok(pairs)
 }
 
-fn keys(alloc: Global, ports: &[u64]) -> Result<Vec<Key>, AllocError> {
+// The keys with these ports, in order and each once.
+fn keys(alloc: Global, ports: &[u64]) -> Result<Vec<Key>, AllocError>
+    ensures { IfOk result (λ keys. AreInOrder keys.items) }
+{
     let mut keys = Vec::new(alloc);
     for port in ports {
         keys.push(key(*port))?;
     }
+    keep_once(&mut keys);
     Ok(keys)
 }
 
@@ -132,7 +140,9 @@ fn keys_count_and_not_hashes(rt: HostRuntime) -> Result<(), Fail> {
         hashing: Hashing::Ports(0),
     };
     let other = Key { k0: 7, ..key(1) };
-    for (inserted, depth, splits) in [([key(1), key(1)], 0, 0), ([key(1), other], 1, 1)] {
+    for (both, depth, splits) in [([key(1), key(1)], 0, 0), ([key(1), other], 1, 1)] {
+        let mut inserted = Vec::from_array(rt.alloc(), both)?;
+        keep_once(&mut inserted);
         let found = splits_of(rt.alloc(), &rules, 0, &[], &inserted)?;
         assert_eq!(rt; found.depth, depth, "{inserted:?}");
         assert_eq!(rt; found.splits, splits, "{inserted:?}");

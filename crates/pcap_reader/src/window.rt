@@ -19,8 +19,8 @@ pub const PIECE: usize = 65_536;
 /// The size of the buffer in bytes: the longest record and a piece behind it have room, and so has
 /// as much again, so that few bytes are moved.
 pub const CAPACITY: usize = 524_288;
-// So much of the buffer is used, in bytes, until a record is met that leaves no room for a piece in it. So the memory of
-// the rest is not touched where records are short.
+// So much of the buffer is used, in bytes, until a record is met that leaves no room for a piece in it. So the memory
+// of the rest is not touched where records are short.
 const FIRST_LENGTH: usize = 2 * PIECE;
 
 /// The bytes that were read and not yet taken, and behind them room for a piece.

@@ -5,8 +5,8 @@ use Rattle.core_model.specs.Needs.{inserted_by}
 use Rattle.core_bounds.proofs.KeyCounts.{has}
 use Rattle.batch_rows.specs.BatchRows.{inserted_in_calls}
 use Rattle.batch_rows.proofs.KeyLemmas.{inserted_more, none_inserted, same_lists, same_told, same_with}
-use Rattle.batch_rows.proofs.demand.inserted_keys.Goals as goal
-use Rattle.batch_rows.proofs.demand.inserted_keys.Goals.{in-Insert+then-not-is_hinted+in_ok-push, in-Insert+else-not-is_hinted, in_default}
+use Rattle.batch_rows.proofs.telling.inserted_keys.Goals as goal
+use Rattle.batch_rows.proofs.telling.inserted_keys.Goals.{in-Insert+then-not-is_hinted+in_ok-push, in-Insert+else-not-is_hinted, in_default}
 
 pub loop-asked-preserved : goal.loop-asked-preserved
 loop-asked-preserved c =
