@@ -1,7 +1,8 @@
 #!/usr/bin/env bash
-# Times `flowdir serve` of a made capture of 4,000,000 packets beside tcpdump printing the same file, and `flowdir trial` beside
-# softflowd reading it, in interleaved turns, and prints the least of each, with ratios; the most memory of each; and the cost of
-# a packet for captures of 10,000 to 4,000,000 packets. Prints the load of the machine before and after.
+# Times `flowdir serve` of a made capture of 4,000,000 packets beside tcpdump printing the same file, and
+# `flowdir trial` beside softflowd reading it, in interleaved turns, and prints the least of each, with ratios; the most
+# memory of each; and the cost of a packet for captures of 10,000 to 4,000,000 packets. Prints the load of the machine
+# before and after.
 # softflowd is given no control socket, since it may wait there for ever.
 # Not part of the gate. Wants tcpdump, softflowd and GNU time (apt-get install tcpdump softflowd time), 1 GB of disk.
 # TURNS=N sets how many turns there are (5), PACKETS=N how many packets the capture has.
@@ -46,8 +47,9 @@ awk '{ if (!($1 in least) || $2 < least[$1]) least[$1] = $2; if ($3 > most[$1]) 
             least["trial1"] / least["softflowd"], least["trial2"] / least["softflowd"]
     }' "$work/times"
 
-# The cost of a packet by the length of the capture, with what a capture of no packet takes and without, in interleaved turns too,
-# and how far the lengths differ. The shorter ones are served more often in a turn, since they are over sooner.
+# The cost of a packet by the length of the capture, with what a capture of no packet takes and without, in
+# interleaved turns too, and how far the lengths differ. The shorter ones are served more often in a turn, since they
+# are over sooner.
 rm "$work/times"
 lengths="0 10000 100000 1000000 $packets"
 for many in $lengths; do
@@ -71,7 +73,8 @@ awk -v lengths="$lengths" '{ took = $3 - $2; if (!($1 in least) || took < least[
         count = split(lengths, many, " ")
         for (i = 2; i <= count; i++) {
             each = (least[many[i]] - least[0]) / many[i] * 1e3
-            printf "%s packets: %.0f ns a packet, %.0f beyond the start\n", many[i], least[many[i]] / many[i] * 1e3, each
+            printf "%s packets: %.0f ns a packet, %.0f beyond the start\n", many[i],
+                least[many[i]] / many[i] * 1e3, each
             if (i == 2 || each > dearest) dearest = each
             if (i == 2 || each < cheapest) cheapest = each
         }
