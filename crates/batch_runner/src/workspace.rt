@@ -16,25 +16,24 @@ pub struct Workspace {
 // A block of so many words is larger than any that a batch commonly takes.
 const LARGE_BLOCK: usize = 1 << 20;
 
-// So many words are about those of the table of a full batch at the default settings, and those that it is copied from.
-const TABLE_WORDS: usize = 1 << 17;
+// So many words are about those of the table of a full batch at the default settings.
+const TABLE_WORDS: usize = 1 << 16;
 
 impl Workspace {
-    /// Holds none yet, and makes the C library ready to give it. Where that has no memory, nothing is lost.
+    /// Makes the C library ready to give large blocks, and the words that the first tables are copied from. Where there
+    /// is no memory for either, nothing is lost.
     ///
     /// The library gives a large block back to the system as soon as it is dropped, so that the next one has to be
     /// mapped and cleared page by page, and learns from the first such block to keep those of its size. So one is taken
-    /// here, left unused and dropped. Then as much as a table takes is written once and dropped: so these pages are
-    /// there before the first packet is read, and the first batch opens its table as soon as those after it.
+    /// here, left unused and dropped.
     pub fn new(alloc: Global) -> Workspace {
         if let Ok(block) = Vec::with_capacity(alloc, LARGE_BLOCK) {
             give_back(block);
         }
-        if let Ok(block) = vec![in alloc; 0; TABLE_WORDS] {
-            give_back(block);
-        }
+        let mut blank = Blank::new(alloc);
+        blank.prepare(TABLE_WORDS);
         Workspace {
-            blank: Blank::new(alloc),
+            blank,
             tables: Tables::new(alloc),
         }
     }

@@ -36,6 +36,12 @@ impl Blank {
         }
     }
 
+    /// Makes so many words ahead, so that an opening of no more has none to make. Where there is no memory for them, an
+    /// opening asks again.
+    pub fn prepare(&mut self, words: usize) {
+        let _ = self.resize(words);
+    }
+
     /// Takes the room of its seats back from a closed table, so that the next one needs to make none. The memory of its
     /// words is given back.
     pub fn keep(&mut self, closed: ClosedTable) {

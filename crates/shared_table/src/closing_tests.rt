@@ -176,3 +176,14 @@ fn a_blank_serves_again(rt: HostRuntime) -> Result<(), Fail> {
     assert!(rt; opens_alike(&rt, &mut blank, &Settings::new(1, 4, 2, 2)?)?);
     Ok(())
 }
+
+// So does one whose words are made ahead, more of them than the table has, or fewer.
+#[test]
+fn words_may_be_made_ahead(rt: HostRuntime) -> Result<(), Fail> {
+    for words in [5_000, 5] {
+        let mut blank = Blank::new(rt.alloc());
+        blank.prepare(words);
+        assert!(rt; opens_alike(&rt, &mut blank, &Settings::new(1, 4, 2, 2)?)?);
+    }
+    Ok(())
+}

@@ -59,7 +59,7 @@ pub(crate) fn serve<R: Threads + Sync, S: Source, K: Sink, G: Gate + Sync>(
     }
 }
 
-/// The same, up to the ending of the input.
+/// The same, up to the ending of the input. What all batches use is made before it is opened.
 fn serve_input<R: Threads + Sync, S: Source, K: Sink, G: Gate + Sync>(
     rt: &R,
     alloc: Global,
@@ -76,6 +76,7 @@ fn serve_input<R: Threads + Sync, S: Source, K: Sink, G: Gate + Sync>(
     ensures counted { (S.faults source.old ≤ S.faults source.new) × (K.faults sink.old ≤ K.faults sink.new) }
 {
     let service = service_of(plan);
+    let mut workspace = Workspace::new(alloc);
     let mut text = Vec::with_capacity(alloc, TEXT_ROOM)?;
     head_text(&mut text, &head_of(plan))?;
     match open(alloc, source) {
@@ -83,6 +84,7 @@ fn serve_input<R: Threads + Sync, S: Source, K: Sink, G: Gate + Sync>(
             rt,
             alloc,
             &service,
+            &mut workspace,
             &mut reader,
             source,
             &mut text,
@@ -90,9 +92,16 @@ fn serve_input<R: Threads + Sync, S: Source, K: Sink, G: Gate + Sync>(
             gate,
         ),
         Err(unopened) => match unopened {
-            Unopened::Ends(ending) => {
-                serve_none(rt, alloc, &service, ending, &mut text, sink, gate)
-            }
+            Unopened::Ends(ending) => serve_none(
+                rt,
+                alloc,
+                &service,
+                &mut workspace,
+                ending,
+                &mut text,
+                sink,
+                gate,
+            ),
             Unopened::Memory => Err(Stop::Memory),
         },
     }
@@ -103,6 +112,7 @@ fn serve_none<R: Threads + Sync, K: Sink, G: Gate + Sync>(
     rt: &R,
     alloc: Global,
     service: &Service,
+    workspace: &mut Workspace,
     ending: Ending,
     text: &mut Vec<u8>,
     sink: &mut K,
@@ -118,7 +128,6 @@ fn serve_none<R: Threads + Sync, K: Sink, G: Gate + Sync>(
     ensures counted { K.faults sink.old ≤ K.faults sink.new }
 {
     let mut progress = Progress::new(alloc);
-    let mut workspace = Workspace::new(alloc);
     let calls = Vec::new(alloc);
     let part = Last {
         before: 0,
@@ -130,7 +139,7 @@ fn serve_none<R: Threads + Sync, K: Sink, G: Gate + Sync>(
         alloc,
         service,
         &mut progress,
-        &mut workspace,
+        workspace,
         part,
         &calls,
         text,
@@ -144,6 +153,7 @@ fn serve_packets<R: Threads + Sync, S: Source, K: Sink, G: Gate + Sync>(
     rt: &R,
     alloc: Global,
     service: &Service,
+    workspace: &mut Workspace,
     reader: &mut Reader,
     source: &mut S,
     text: &mut Vec<u8>,
@@ -162,7 +172,6 @@ fn serve_packets<R: Threads + Sync, S: Source, K: Sink, G: Gate + Sync>(
 {
     serving_laws();
     let mut progress = Progress::new(alloc);
-    let mut workspace = Workspace::new(alloc);
     let mut calls = Vec::with_capacity(alloc, BATCH as usize)?;
     let mut packets = 0;
     'batches: loop {
@@ -180,7 +189,7 @@ fn serve_packets<R: Threads + Sync, S: Source, K: Sink, G: Gate + Sync>(
                     alloc,
                     service,
                     &mut progress,
-                    &mut workspace,
+                    workspace,
                     last,
                     &calls,
                     text,
@@ -194,7 +203,7 @@ fn serve_packets<R: Threads + Sync, S: Source, K: Sink, G: Gate + Sync>(
                     alloc,
                     service,
                     &mut progress,
-                    &mut workspace,
+                    workspace,
                     &calls,
                     gate,
                     text,

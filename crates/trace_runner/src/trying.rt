@@ -70,10 +70,19 @@ fn text_of<R: Threads + Sync, G: Gate + Sync>(
     made_capture_law();
     serving_laws();
     let service = service_of(plan);
+    let mut workspace = Workspace::new(alloc);
     let mut source = MadeSource::new(plan.number, plan.packets);
     match open(alloc, &mut source) {
         Ok(mut reader) => {
-            let tried = try_packets(rt, alloc, &service, &mut reader, &mut source, gate)?;
+            let tried = try_packets(
+                rt,
+                alloc,
+                &service,
+                &mut workspace,
+                &mut reader,
+                &mut source,
+                gate,
+            )?;
             let mut text = Vec::new(alloc);
             trial_text(&mut text, &trial_of(plan, &tried.progress))?;
             Ok(text)
@@ -104,6 +113,7 @@ fn try_packets<R: Threads + Sync, S: Source + Send, G: Gate + Sync>(
     rt: &R,
     alloc: Global,
     service: &Service,
+    workspace: &mut Workspace,
     reader: &mut Reader,
     source: &mut S,
     gate: &G,
@@ -117,7 +127,6 @@ fn try_packets<R: Threads + Sync, S: Source + Send, G: Gate + Sync>(
         Rose (S.faults source.old) (S.faults source.new)) }
 {
     let mut progress = Progress::new(alloc);
-    let mut workspace = Workspace::new(alloc);
     let mut calls = Vec::with_capacity(alloc, BATCH as usize)?;
     let mut next = Vec::with_capacity(alloc, BATCH as usize)?;
     let mut packets = 0;
@@ -131,7 +140,7 @@ fn try_packets<R: Threads + Sync, S: Source + Send, G: Gate + Sync>(
                     alloc,
                     service,
                     progress,
-                    &mut workspace,
+                    workspace,
                     numbers,
                     &calls,
                     read.shares,
@@ -150,7 +159,7 @@ fn try_packets<R: Threads + Sync, S: Source + Send, G: Gate + Sync>(
                     alloc,
                     service,
                     &mut progress,
-                    &mut workspace,
+                    workspace,
                     &calls,
                     read.shares,
                     &read.demand,

@@ -5,8 +5,8 @@ use Rattle.trace_runner.specs.Reading.{HaveCome}
 use Rattle.trace_runner.proofs.TrialLemmas.{IsTrial-tried, none_rose}
 use Rattle.trace_runner.proofs.trying.text_of.Goals as goal
 
-pub returns-in_ok-trial_text-in-Ok : goal.returns-in_ok-trial_text-in-Ok
-returns-in_ok-trial_text-in-Ok g c =
+pub returns-in-Ok : goal.returns-in-Ok
+returns-in-Ok g c =
     let plan = c.args.plan.now in
     let bytes : List ℕ = made_capture plan.number plan.packets in
     let tried = c.in_ok-tried-in-Ok in
