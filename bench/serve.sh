@@ -47,9 +47,9 @@ awk '{ if (!($1 in least) || $2 < least[$1]) least[$1] = $2; if ($3 > most[$1]) 
             least["trial1"] / least["softflowd"], least["trial2"] / least["softflowd"]
     }' "$work/times"
 
-# The cost of a packet by the length of the capture, with what a capture of no packet takes and without, in
-# interleaved turns too, and how far the lengths differ. The shorter ones are served more often in a turn, since they
-# are over sooner.
+# The cost of a packet by the length of the capture, in interleaved turns too: with what a capture of no packet takes,
+# without it, and of the packets by which one capture is longer than the next shorter one; and how far each of these
+# differs. The shorter ones are served more often in a turn, since they are over sooner.
 rm "$work/times"
 lengths="0 10000 100000 1000000 $packets"
 for many in $lengths; do
@@ -67,16 +67,30 @@ for _ in $(seq "$turns"); do
         done
     done
 done
-awk -v lengths="$lengths" '{ took = $3 - $2; if (!($1 in least) || took < least[$1]) least[$1] = took }
+awk -v lengths="$lengths" '
+    # Tells how far a cost differs by length, from one place on: the dearest by the cheapest.
+    function differs(what, cost, from,   i, dearest, cheapest) {
+        dearest = cheapest = cost[from]
+        for (i = from + 1; i <= count; i++) {
+            if (cost[i] > dearest) dearest = cost[i]
+            if (cost[i] < cheapest) cheapest = cost[i]
+        }
+        printf "%s the dearest costs %.2f of the cheapest\n", what, dearest / cheapest
+    }
+    { took = $3 - $2; if (!($1 in least) || took < least[$1]) least[$1] = took }
     END {
         printf "0 packets: %.1f ms in all\n", least[0] / 1e3
         count = split(lengths, many, " ")
         for (i = 2; i <= count; i++) {
-            each = (least[many[i]] - least[0]) / many[i] * 1e3
-            printf "%s packets: %.0f ns a packet, %.0f beyond the start\n", many[i],
-                least[many[i]] / many[i] * 1e3, each
-            if (i == 2 || each > dearest) dearest = each
-            if (i == 2 || each < cheapest) cheapest = each
+            whole[i] = least[many[i]] / many[i] * 1e3
+            beyond[i] = (least[many[i]] - least[0]) / many[i] * 1e3
+            printf "%s packets: %.0f ns a packet, %.0f beyond the start\n", many[i], whole[i], beyond[i]
         }
-        printf "beyond the start the dearest length costs %.2f of the cheapest\n", dearest / cheapest
+        for (i = 3; i <= count; i++) {
+            further[i] = (least[many[i]] - least[many[i - 1]]) / (many[i] - many[i - 1]) * 1e3
+            printf "from %s packets on to %s: %.0f ns a packet\n", many[i - 1], many[i], further[i]
+        }
+        differs("with the start", whole, 2)
+        differs("beyond the start", beyond, 2)
+        differs("from 10000 packets on", further, 3)
     }' "$work/times"
