@@ -92,5 +92,5 @@ awk -v lengths="$lengths" '
         }
         differs("with the start", whole, 2)
         differs("beyond the start", beyond, 2)
-        differs("from 10000 packets on", further, 3)
+        differs("from " many[2] " packets on", further, 3)
     }' "$work/times"
