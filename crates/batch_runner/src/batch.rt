@@ -137,8 +137,9 @@ pub fn serve_batch<R: Threads + Sync, G: Gate + Sync>(
 }
 
 /// The same without lines and order, where the calls are dealt already and it is told what they ask of the table. The
-/// shares are those of the seats, seat 0 first.
-pub fn try_batch<R: Threads + Sync, G: Gate + Sync>(
+/// shares are those of the seats, seat 0 first. Before the caller's thread makes calls it does this once; what this gave
+/// comes beside what the batch came to.
+pub fn try_batch<R: Threads + Sync, G: Gate + Sync, F: FnMut() -> A, A: Drop>(
     rt: &R,
     alloc: Global,
     service: &Service,
@@ -148,23 +149,26 @@ pub fn try_batch<R: Threads + Sync, G: Gate + Sync>(
     shares: Vec<Vec<(u32, Call)>>,
     demand: &Demand,
     gate: &G,
-) -> Result<Batch, AllocError>
+    beside: &mut F,
+) -> Result<(Batch, A), AllocError>
     requires given { ForSome service.now.rows (AreBelow (2 ^ 32)) }
     requires few { length calls.now < CALL_LIMIT }
     requires askable { All (λ call. IsAskable call.1) calls.now }
     requires opens { CanOpen (rules_of service.now) first.now }
     requires shares { map (λ share. share.items) shares.items ≡ shares_of service.now calls.now }
     requires demand { IsDemandOf calls.now (shares_of service.now calls.now) demand.now }
-    ensures served { IfOk result (λ batch. (served : Served) × (served.first ≡ first.now)
-        × (served.calls ≡ calls.now) × IsServed service.now served × IsToldBy service.now served batch) }
-    ensures goes_on { IfOk result (CanGoOn service.now calls.now) }
+    requires beside { F.pre beside.old }
+    ensures served { IfOk result (λ done. (served : Served) × (served.first ≡ first.now)
+        × (served.calls ≡ calls.now) × IsServed service.now served × IsToldBy service.now served done.0) }
+    ensures goes_on { IfOk result (λ done. CanGoOn service.now calls.now done.0) }
+    ensures beside { IfOk result (λ done. F.step beside.old done.1 beside.new) }
 {
-    let (closed, totals) = close_batch::<R, Totals, G>(
-        rt, alloc, service, workspace, first, calls, shares, demand, gate,
+    let (closed, totals, made) = close_batch::<R, Totals, G, F, A>(
+        rt, alloc, service, workspace, first, calls, shares, demand, gate, beside,
     )?;
     let batch = told(alloc, service, first, calls, &closed, &totals)?;
     workspace.blank.keep(closed);
-    Ok(batch)
+    Ok((batch, made))
 }
 
 // Serves a batch to its end, and keeps the log of each seat: the closed table, the logs, and what the batch came to.
@@ -188,8 +192,8 @@ fn logged_batch<R: Threads + Sync, G: Gate + Sync>(
 {
     let shares = deal(alloc, service.share, service.settings.seats, calls)?;
     let demand = demand_of(alloc, calls, &shares)?;
-    let (closed, logs) = close_batch::<R, Vec<Outcome>, G>(
-        rt, alloc, service, workspace, first, calls, shares, &demand, gate,
+    let (closed, logs, ()) = close_batch::<R, Vec<Outcome>, G, _, ()>(
+        rt, alloc, service, workspace, first, calls, shares, &demand, gate, &mut || {},
     )?;
     let totals = totals_in(alloc, &logs)?;
     let batch = told(alloc, service, first, calls, &closed, &totals)?;
@@ -197,8 +201,8 @@ fn logged_batch<R: Threads + Sync, G: Gate + Sync>(
 }
 
 // Opens the table, lets the seats make their shares of the calls, and closes it; with what was kept of each seat's
-// calls, in the order of the seats.
-fn close_batch<R: Threads + Sync, K: Collector + Send, G: Gate + Sync>(
+// calls, in the order of the seats, and what this gave, which the caller's thread does before it makes calls.
+fn close_batch<R: Threads + Sync, K: Collector + Send, G: Gate + Sync, F: FnMut() -> A, A>(
     rt: &R,
     alloc: Global,
     service: &Service,
@@ -208,21 +212,24 @@ fn close_batch<R: Threads + Sync, K: Collector + Send, G: Gate + Sync>(
     shares: Vec<Vec<(u32, Call)>>,
     demand: &Demand,
     gate: &G,
-) -> Result<(ClosedTable, Vec<K>), AllocError>
+    beside: &mut F,
+) -> Result<(ClosedTable, Vec<K>, A), AllocError>
     requires given { ForSome service.now.rows (AreBelow (2 ^ 32)) }
     requires few { length calls.now < CALL_LIMIT }
     requires askable { All (λ call. IsAskable call.1) calls.now }
     requires opens { CanOpen (rules_of service.now) first.now }
     requires shares { map (λ share. share.items) shares.items ≡ shares_of service.now calls.now }
     requires demand { IsDemandOf calls.now (shares_of service.now calls.now) demand.now }
-    ensures { IfOk result (λ done. (logs : List (List AnOutcome)) × AllZip K.holds done.1.items logs
+    requires beside { F.pre beside.old }
+    ensures served { IfOk result (λ done. (logs : List (List AnOutcome)) × AllZip K.holds done.1.items logs
         × IsClosedBatch service.now first.now calls.now done.0 logs) }
+    ensures beside { IfOk result (λ done. F.step beside.old done.2 beside.new) }
 {
     let (directory, seats) = opened(alloc, service, workspace, first, calls, demand)?;
-    let (seats, kept) = serve_shares(rt, alloc, &directory, seats, shares, gate)?;
+    let (seats, kept, made) = serve_shares(rt, alloc, &directory, seats, shares, gate, beside)?;
     let closed = directory.close_in_place(seats);
     order_laws();
-    Ok((closed, kept))
+    Ok((closed, kept, made))
 }
 
 // What a batch came to whose table is closed, of which the totals of each seat's calls are told: there are outcomes of

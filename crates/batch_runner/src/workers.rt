@@ -13,33 +13,36 @@ use plain_map::Call;
 use shared_table::{Caller, Directory, Seat};
 use std::alloc::{AllocError, Global};
 use std::thread::Threads;
-use trace_share::{Collector, Worker, serve_all};
+use trace_share::{Collector, Worker, serve_beside};
 
-/// Each seat makes its share of the calls, in a thread of its own. Then the seats come back, in the order of their
-/// numbers, with what was kept of what each one's calls came to.
-pub(crate) fn serve_shares<R: Threads + Sync, K: Collector + Send, G: Gate + Sync>(
+/// Each seat makes its share of the calls, in a thread of its own; the caller's does this first. Then the seats come
+/// back, in the order of their numbers, with what was kept of what each one's calls came to, and with what this gave.
+pub(crate) fn serve_shares<R: Threads + Sync, K: Collector + Send, G: Gate + Sync, F: FnMut() -> A, A>(
     rt: &R,
     alloc: Global,
     directory: &Directory,
     seats: Vec<Seat>,
     shares: Vec<Vec<(u32, Call)>>,
     gate: &G,
-) -> Result<(Vec<Seat>, Vec<K>), AllocError>
+    beside: &mut F,
+) -> Result<(Vec<Seat>, Vec<K>, A), AllocError>
     requires new { seats.items ≡ new_seats directory.now 0 (vec_len seats) }
     requires as_many { vec_len seats ≡ vec_len shares }
     requires few { vec_len seats ≤ 8 }
     requires askable { All (λ share. All (λ call. IsAskable call.1) share.items) shares.items }
     requires short { All (λ share. vec_len share < 2 ^ 32) shares.items }
-    ensures { IfOk result (λ done. (logs : List (List AnOutcome))
+    requires beside { F.pre beside.old }
+    ensures served { IfOk result (λ done. (logs : List (List AnOutcome))
         × HaveMade directory.now 0 (map (λ share. share.items) shares.items) done.0.items logs
         × AllZip K.holds done.1.items logs) }
+    ensures beside { IfOk result (λ done. F.step beside.old done.2 beside.new) }
 {
     let mut kept = Vec::with_capacity(alloc, seats.len())?;
     let mut back = Vec::with_capacity(alloc, seats.len())?;
     let mut workers = workers_of(alloc, directory, seats, shares)?;
-    serve_all(rt, workers.as_mut_slice(), gate);
+    let made = serve_beside(rt, workers.as_mut_slice(), gate, beside);
     take_apart(directory, workers, &mut back, &mut kept);
-    Ok((back, kept))
+    Ok((back, kept, made))
 }
 
 // A worker for each seat and its share, in the order of the seats.

@@ -1,6 +1,6 @@
 //! What is kept of the batches that were served.
 
-ghost use Rattle.std.specs.Prelude.{◌≡◌, ◌≤◌, ◌<◌, ◌^◌, ◌+◌, List, [], ◌∷◌, ◌++◌, length, map, All, OnOk};
+ghost use Rattle.std.specs.Prelude.{◌≡◌, ◌≤◌, ◌<◌, ◌^◌, ◌+◌, List, [], ◌∷◌, ◌++◌, length, map, All, IfOk, OnOk};
 ghost use Rattle.std.specs.Option.{ForSome};
 ghost use Rattle.plain_map.specs.Serving.{IsAskable};
 ghost use Rattle.word_rows.specs.Shape.{AreBelow};
@@ -90,7 +90,7 @@ impl Progress {
 
     /// Serves the calls of one batch more, which are dealt already, and of which it is told what they ask of the table;
     /// prints nothing.
-    pub fn try_calls<R: Threads + Sync, G: Gate + Sync>(
+    pub fn try_calls<R: Threads + Sync, G: Gate + Sync, F: FnMut() -> A, A: Drop>(
         &mut self,
         rt: &R,
         alloc: Global,
@@ -100,7 +100,8 @@ impl Progress {
         shares: Vec<Vec<(u32, Call)>>,
         demand: &Demand,
         gate: &G,
-    ) -> Result<(), AllocError>
+        beside: &mut F,
+    ) -> Result<A, AllocError>
         requires given { ForSome service.now.rows (AreBelow (2 ^ 32)) }
         requires few { length calls.now ≤ BATCH }
         requires askable { All (λ call. IsAskable call.1) calls.now }
@@ -109,11 +110,13 @@ impl Progress {
         requires all { self.old.totals.calls ≤ PACKET_LIMIT }
         requires shares { map (λ share. share.items) shares.items ≡ shares_of service.now calls.now }
         requires demand { IsDemandOf calls.now (shares_of service.now calls.now) demand.now }
+        requires beside { F.pre beside.old }
         ensures served { OnOk result (IsOneMore service.now self.old self.new calls.now) }
         ensures going { OnOk result (IsGoing service.now self.new) }
         ensures counted { OnOk result (self.new.totals.calls ≡ self.old.totals.calls + length calls.now) }
+        ensures beside { IfOk result (λ made. F.step beside.old made beside.new) }
     {
-        let batch = try_batch(
+        let (batch, made) = try_batch(
             rt,
             alloc,
             service,
@@ -123,9 +126,10 @@ impl Progress {
             shares,
             demand,
             gate,
+            beside,
         )?;
         self.keep(service, calls, batch);
-        Ok(())
+        Ok(made)
     }
 
     /// Keeps what a batch of these calls came to.

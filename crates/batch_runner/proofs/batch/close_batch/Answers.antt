@@ -93,9 +93,9 @@ close_in_place-closed-requires-clause-seats g c =
     let d : TableValue = c.in_ok-directory.directory in
     let item : Vec (ℕ × Call) Global → List (ℕ × Call) = λ (share : Vec (ℕ × Call) Global). share.items in
     let shares : List (List (ℕ × Call)) = map item c.args.shares.items in
-    let logs : List (List Outcome) = c.in_ok-seats.ensures.0 in
+    let logs : List (List Outcome) = c.in_ok-seats.ensures.served.0 in
     let seats : List SeatValue = c.in_ok-seats.seats.items in
-    all_of_table d shares seats logs c.in_ok-seats.ensures.1
+    all_of_table d shares seats logs c.in_ok-seats.ensures.served.1
 
 pub close_in_place-closed-requires-clause-all : goal.close_in_place-closed-requires-clause-all
 close_in_place-closed-requires-clause-all g c =
@@ -105,29 +105,29 @@ close_in_place-closed-requires-clause-all g c =
     let d : TableValue = c.in_ok-directory.directory in
     let item : Vec (ℕ × Call) Global → List (ℕ × Call) = λ (share : Vec (ℕ × Call) Global). share.items in
     let shares : List (List (ℕ × Call)) = map item c.args.shares.items in
-    let logs : List (List Outcome) = c.in_ok-seats.ensures.0 in
+    let logs : List (List Outcome) = c.in_ok-seats.ensures.served.0 in
     let seats : List SeatValue = c.in_ok-seats.seats.items in
     c.in_ok-seats.seats.ok.0 ∙ all_seats service c.args.first.now calls d c.in_ok-directory.ensures.table
-    c.in_ok-directory.ensures.setup shares c.requires.shares seats logs c.in_ok-seats.ensures.1
+    c.in_ok-directory.ensures.setup shares c.requires.shares seats logs c.in_ok-seats.ensures.served.1
 
-pub returns : goal.returns
-returns g c =
+pub returns-clause-served : goal.returns-clause-served
+returns-clause-served g c =
     let service : Service = c.args.service.now in
     let first = c.args.first.now in
     let calls : List (ℕ × Call) = c.args.calls.now in
     let d : TableValue = c.in_ok-directory.directory in
     let item : Vec (ℕ × Call) Global → List (ℕ × Call) = λ (share : Vec (ℕ × Call) Global). share.items in
     let shares : List (List (ℕ × Call)) = map item c.args.shares.items in
-    let logs : List (List Outcome) = c.in_ok-seats.ensures.0 in
+    let logs : List (List Outcome) = c.in_ok-seats.ensures.served.0 in
     let seats : List SeatValue = c.in_ok-seats.seats.items in
     let setup_is = c.in_ok-directory.ensures.setup in
     let shares_are = c.requires.shares in
-    let made = c.in_ok-seats.ensures.1 in
+    let made = c.in_ok-seats.ensures.served.1 in
     let words : List ℕ = c.close_in_place-closed.result.words in
     let ran = c.close_in_place-closed.ensures.ran in
     let table = c.in_ok-directory.ensures.table in (
       logs,
-      c.in_ok-seats.ensures.2,
+      c.in_ok-seats.ensures.served.2,
       subst (λ (s : Shape). IsClosedBatch service first calls (record { shape = s; words = words }) logs)
           (sym c.close_in_place-closed.ensures.shape)
           (closed_batch service first calls d table setup_is shares shares_are seats logs made words ran

@@ -27,13 +27,13 @@ told-requires-clause-closed g c =
       kept_totals c.deref-2.result.now logs c.deref-3.result.now c.in_ok-totals.totals.items c.deref-2.ensures.value
           c.deref-3.ensures.value c.in_ok-totals.ensures,
       kept_closed c.args.service.now c.args.first.now c.args.calls.now c.in_ok-closed.closed logs
-          c.in_ok-closed.ensures,
+          c.in_ok-closed.ensures.served,
     )
 
 pub returns-clause-closed : goal.returns-clause-closed
 returns-clause-closed g c =
     kept_closed c.args.service.now c.args.first.now c.args.calls.now c.in_ok-closed.closed c.in_ok-closed.logs.items
-    c.in_ok-closed.ensures
+    c.in_ok-closed.ensures.served
 
 pub returns-clause-told : goal.returns-clause-told
 returns-clause-told g c =
@@ -42,4 +42,4 @@ returns-clause-told g c =
     (kept_totals c.deref-2.result.now logs c.deref-3.result.now c.in_ok-totals.totals.items c.deref-2.ensures.value
     c.deref-3.ensures.value c.in_ok-totals.ensures)
     (kept_closed c.args.service.now c.args.first.now c.args.calls.now c.in_ok-closed.closed logs
-    c.in_ok-closed.ensures)
+    c.in_ok-closed.ensures.served)

@@ -7,7 +7,7 @@ use Rattle.batch_runner.proofs.batch.try_batch.Goals as goal
 
 pub returns-clause-served : goal.returns-clause-served
 returns-clause-served g c =
-    let closed = c.in_ok-closed.ensures in
+    let closed = c.in_ok-closed.ensures.served in
     let has = c.in_ok-batch.ensures.told closed.0
     (subst (λ (each : List Totals). AllZip IsTotalOf each closed.0) (sym c.deref.ensures.value) closed.1) closed.2 in
     (_, refl, refl, has.served has.some.0 has.some.1, has.told has.some.0 has.some.1)

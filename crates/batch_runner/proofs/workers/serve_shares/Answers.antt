@@ -10,8 +10,8 @@ use Rattle.batch_runner.specs.Seats.{AreThrough, SeatWorker}
 use Rattle.batch_runner.proofs.Working.{all_ready, all_short, all_through, answered, many_fresh, need, rows, spent, stays, whole_slice}
 use Rattle.batch_runner.proofs.workers.serve_shares.Goals as goal
 
-pub serve_all-requires-clause-few : goal.serve_all-requires-clause-few
-serve_all-requires-clause-few g c κs within =
+pub serve_beside-made-requires-clause-few : goal.serve_beside-made-requires-clause-few
+serve_beside-made-requires-clause-few g c κs within =
     let item : Vec (ℕ × Call) Global → List (ℕ × Call) = λ (share : Vec (ℕ × Call) Global). share.items in
     let ws : List (SeatWorker g.row.K.Denot) = c.in_ok-workers.workers.items in
     omega (
@@ -25,8 +25,8 @@ serve_all-requires-clause-few g c κs within =
       c.requires.few,
     )
 
-pub serve_all-requires-clause-ready : goal.serve_all-requires-clause-ready
-serve_all-requires-clause-ready g c κs within =
+pub serve_beside-made-requires-clause-ready : goal.serve_beside-made-requires-clause-ready
+serve_beside-made-requires-clause-ready g c κs within =
     let item : Vec (ℕ × Call) Global → List (ℕ × Call) = λ (share : Vec (ℕ × Call) Global). share.items in
     let ws : List (SeatWorker g.row.K.Denot) = c.in_ok-workers.workers.items in
     subst (All (IsReady answered g.K.Collector.holds g.K.Collector.room)) (sym c.as_mut_slice.ensures.value)
@@ -71,17 +71,17 @@ take_apart-requires-clause-kept g c =
       ),
     )
 
-pub returns : goal.returns
-returns g c =
+pub returns-clause-served : goal.returns-clause-served
+returns-clause-served g c =
     let d : TableValue = c.args.directory.now in
     let item : Vec (ℕ × Call) Global → List (ℕ × Call) = λ (share : Vec (ℕ × Call) Global). share.items in
     let shares : List (List (ℕ × Call)) = map item c.args.shares.items in
     let W : Type 0 = SeatWorker g.row.K.Denot in
     let ws : List W = c.in_ok-workers.workers.items in
-    let vs : List W = c.serve_all.new.workers in
+    let vs : List W = c.serve_beside-made.new.workers in
     let R : W → W → Type 0 = IsDone answered spent rows need stays g.K.Collector.holds in
     let zip : AllZip R ws vs =
-    subst (λ (us : List W). AllZip R us vs) c.as_mut_slice.ensures.value c.serve_all.ensures.done in
+    subst (λ (us : List W). AllZip R us vs) c.as_mut_slice.ensures.value c.serve_beside-made.ensures.done in
     let long : length vs ≡ length ws = sym (length_all_zip R ws vs zip) in
     let through = all_through g.K.Collector.holds g.K.Collector.room d 0 shares ws vs c.in_ok-workers.ensures zip in
     c.take_apart.ensures shares
