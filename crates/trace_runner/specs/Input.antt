@@ -2,6 +2,7 @@
 -- Source: pcap-savefile(5), by the definition of a capture.
 use Rattle.std.specs.Prelude.{◌≡◌, ℕ, ◌<◌, ◌≤◌, ◌+◌, ◌⊎◌, List, [], ◌++◌, length, map, sum_by, take, Option, Some, Result, Ok, Err}
 use Rattle.pcap_reader.specs.declared.fault.CaptureFault.{CaptureFault}
+use Rattle.pcap_reader.specs.declared.fault.CaptureFault.TheVariants.{ShortHeader}
 use Rattle.pcap_reader.specs.Capture.{Saved, Capture, file_head_length, record_head_length}
 use Rattle.pcap_reader.specs.Laws.{BeginsWith}
 use Rattle.pcap_reader.specs.Reading.{buffer_length}
@@ -44,11 +45,16 @@ pub record TakesFew (bytes : List ℕ) (left : Option (List ℕ)) (packets : Lis
   pub rest : left ≡ Some others
   pub few : length taken ≤ served_length packets + buffer_length
 
--- of the bytes some were taken, and these packets are those that are whole in them
+-- a capture that ends so has no fault, where more bytes may come: it ends behind its last record or within one, or
+-- within the file head
+abbrev pub MayGoOn : Result ℕ CaptureFault → Type 0
+MayGoOn ending = ((rest : ℕ) × (ending ≡ Ok rest)) ⊎ ((have : ℕ) × (ending ≡ Err (ShortHeader have)))
+
+-- of the bytes some were taken, in which no fault was met, and these packets are those that are whole in them
 abbrev pub HoldsTaken : (most : ℕ) → List ℕ → Option (List ℕ) → List (List ℕ) → Type 0
 HoldsTaken most bytes left packets =
     (taken : List ℕ) × (others : List ℕ) × (ending : Result ℕ CaptureFault) × (bytes ≡ taken ++ others)
-    × (left ≡ Some others) × HoldsUpTo most taken packets ending
+    × (left ≡ Some others) × MayGoOn ending × HoldsUpTo most taken packets ending
 
 -- the bytes, of which these are left, hold these packets, where no more than so many are taken, and have this ending
 abbrev pub HoldsUntil : (most : ℕ) → List ℕ → Option (List ℕ) → List (List ℕ) → Ending → Type 0
@@ -67,11 +73,12 @@ pub record ServesUpTo (most : ℕ) (bytes : List ℕ) (left : Option (List ℕ))
 abbrev pub Serves : List ℕ → Option (List ℕ) → List (List ℕ) → Ending → Type 0
 Serves bytes left packets ending = ServesUpTo packet_limit bytes left packets ending
 
--- these are the first packets of an input with these bytes
+-- these are the first packets of an input with these bytes, no more than `serve` takes
 abbrev pub IsFirst : List ℕ → List (List ℕ) → Type 0
 IsFirst bytes packets =
-    (packets ≡ []) ⊎ ((records : List Saved) × (more : List ℕ) × BeginsWith bytes records more
-    × (packets ≡ packets_of records))
+    (length packets ≤ packet_limit)
+    × ((packets ≡ []) ⊎ ((records : List Saved) × (more : List ℕ) × BeginsWith bytes records more
+    × (packets ≡ packets_of records)))
 
 -- Of an input with these bytes, of which these are left, these packets have been read; how it ends is not known yet.
 pub record Begins (bytes : List ℕ) (left : Option (List ℕ)) (packets : List (List ℕ)) : Type 0 where
