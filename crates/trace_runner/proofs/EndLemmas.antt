@@ -93,31 +93,36 @@ no_calls many more (call ∷ calls) none between = absurd (omega (arith, between
 
 -- ---- what was read
 
--- the packets that were read are the first of the input
+-- the packets that were read are the first of the input, where they are no more than `serve` takes
 abbrev FirstCalls-read :
     (bytes : List ℕ) (reading : Reading) (left : Option (List ℕ)) (many : ℕ) (calls : List (ℕ × Call)) →
-    HasCalls bytes reading left many calls → FirstCalls bytes many calls
-FirstCalls-read bytes reading left many calls has =
-    let read = has.1 in (
+    many ≤ packet_limit → HasCalls bytes reading left many calls → FirstCalls bytes many calls
+FirstCalls-read bytes reading left many calls few has =
+    let read = has.1 in
+    let count : length (packets_of has.0) ≡ many =
+    length-map has.0 (λ (saved : Saved). saved.packet) ∙ has.3 in (
       packets_of has.0,
-      inr (
-        has.0,
-        read.more,
-        record { order = reading.order; head = read.head; each = read.each; whole = read.whole },
-        refl,
+      (
+        subst (λ (n : ℕ). n ≤ packet_limit) (sym count) few,
+        inr (
+          has.0,
+          read.more,
+          record { order = reading.order; head = read.head; each = read.each; whole = read.whole },
+          refl,
+        ),
       ),
       has.2,
-      length-map has.0 (λ (saved : Saved). saved.packet) ∙ has.3,
+      count,
     )
 
 pub HaveFirst-come : (first now : Option (List ℕ)) (reading : Reading) (many : ℕ) (calls : List (ℕ × Call)) →
-    HaveCome first now reading many calls → HaveFirst first many calls
-HaveFirst-come first now reading many calls come =
+    many ≤ packet_limit → HaveCome first now reading many calls → HaveFirst first many calls
+HaveFirst-come first now reading many calls few come =
     record {
-      told = λ bytes is. FirstCalls-read bytes reading now many calls (come.told bytes is);
+      told = λ bytes is. FirstCalls-read bytes reading now many calls few (come.told bytes is);
       took = (
         now,
-        (come.took.0, come.took.1, FirstCalls-read come.took.0 reading (Some []) many calls come.took.2),
+        (come.took.0, come.took.1, FirstCalls-read come.took.0 reading (Some []) many calls few come.took.2),
       );
     }
 
@@ -125,8 +130,8 @@ HaveFirst-come first now reading many calls come =
 pub HaveFirst-none : (first : Option (List ℕ)) → HaveFirst first 0 []
 HaveFirst-none first =
     record {
-      told = λ bytes is. ([], inl refl, refl, refl);
-      took = (first, ([], Consumes-nil first, ([], inl refl, refl, refl)));
+      told = λ bytes is. ([], (omega arith, inl refl), refl, refl);
+      took = (first, ([], Consumes-nil first, ([], (omega arith, inl refl), refl, refl)));
     }
 
 -- ---- the report
@@ -317,13 +322,13 @@ LeavesBy-before plan service progress first left many calls before after held la
 
 -- these packets have been read, and little more was taken
 Begins-read : (bytes : List ℕ) (reading : Reading) (left : Option (List ℕ)) (many : ℕ) (calls : List (ℕ × Call)) →
-    (has : HasCalls bytes reading left many calls) →
-    Begins bytes left (FirstCalls-read bytes reading left many calls has).0
-Begins-read bytes reading left many calls has =
+    (few : many ≤ packet_limit) (has : HasCalls bytes reading left many calls) →
+    Begins bytes left (FirstCalls-read bytes reading left many calls few has).0
+Begins-read bytes reading left many calls few has =
     let read = has.1 in
     let others = left_is_told reading left read.more read.told in
     record {
-      first = (FirstCalls-read bytes reading left many calls has).1;
+      first = (FirstCalls-read bytes reading left many calls few has).1;
       takes = TakesFew-held bytes reading.order has.0 reading.pending others.0 read.more left read.head.begins.whole
           read.each read.whole others.2 others.1 read.room;
     }
@@ -334,9 +339,11 @@ pub LeavesBy-some :
     (reading : Reading) (many : ℕ) (calls : List (ℕ × Call)) (before after : Option (List ℕ)) →
     ServedArePromised → IsServiceOf plan service → HasServed service progress batches →
     AreOfBatches calls (map (λ (batch : Served). batch.calls) batches) → batch_length * length batches ≡ many →
-    HaveCome first left reading many calls → AppendsFront before after (lines_so_far plan service batches) →
+    many ≤ packet_limit → HaveCome first left reading many calls →
+    AppendsFront before after (lines_so_far plan service batches) →
     LeavesBy plan first left before after (Err NotPut)
-LeavesBy-some plan service progress batches first left reading many calls before after law asks has cut whole come put =
+LeavesBy-some plan service progress batches first left reading many calls before after law asks has cut whole few come
+    put =
     let text : List ℕ = lines_so_far plan service batches in
     let is : IsFrontOf plan many calls text = (
       service,
@@ -348,20 +355,20 @@ LeavesBy-some plan service progress batches first left reading many calls before
     record {
       told = λ bytes told.
           let here = come.told bytes told in
-          let begins = FirstCalls-read bytes reading left many calls here in
+          let begins = FirstCalls-read bytes reading left many calls few here in
           inr (
             begins.0,
-            Begins-read bytes reading left many calls here,
+            Begins-read bytes reading left many calls few here,
             (text, IsFront-done plan bytes many calls text begins is, put),
           );
       took =
           let here = come.took.2 in
-          let begins = FirstCalls-read come.took.0 reading (Some []) many calls here in (
+          let begins = FirstCalls-read come.took.0 reading (Some []) many calls few here in (
             come.took.0,
             come.took.1,
             inr (
               begins.0,
-              Begins-read come.took.0 reading (Some []) many calls here,
+              Begins-read come.took.0 reading (Some []) many calls few here,
               (text, IsFront-done plan come.took.0 many calls text begins is, put),
             ),
           );

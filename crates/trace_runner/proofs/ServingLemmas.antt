@@ -43,7 +43,7 @@ held_at_end bytes old new before after records ending read meets =
     left_is_told new after read.more
     (kept_told (to_come old before) (to_come new after) read.more read.told meets.none.told)
 
--- a read failed: what was taken is a capture that ends in a cut record
+-- a read failed: what was taken is a capture without a fault, which ends behind a record or within one
 taken-capture :
     (most : ℕ) (bytes : List ℕ) (old new : Reading) (before after : Option (List ℕ)) (records : List Saved) →
     HasRead bytes old before records → MeetsEnding old new before after ReadFault →
@@ -67,7 +67,8 @@ taken-capture most bytes old new before after records read meets few =
       old.order,
       record { head = head; each = read.each; rest = new.pending; whole = behind; ends = (meets.ends, refl) },
     ) in
-    (taken, left.0, Ok (length new.pending), whole, left.1, (records, capture, few, refl))
+    let held : ℕ = length new.pending in
+    (taken, left.0, Ok held, whole, left.1, inl (held, refl), (records, capture, few, refl))
 
 -- where the reading of an input ends, these are the packets before it
 holds_ended :
@@ -171,6 +172,7 @@ Serves-none most bytes taken (Some others) fewer lost =
         Err (ShortHeader (length taken)),
         lost,
         refl,
+        inr (length taken, refl),
         (
           [],
           inl (record { none = refl; fault = ShortHeader (length taken); ends = refl; shown = (fewer, refl) }),

@@ -70,11 +70,11 @@ pub fn run<R: Threads + Sync, S: Source, K: Sink, G: Gate + Sync>(
     ensures tried { (plan : APlan) → reads (map string_bytes words.now) ≡ Some plan → plan.mode ≡ Trial →
         LeavesTried plan (K.put sink.old) (K.put sink.new) result × (source.new ≡ source.old) }
 
-    // The words ask for none.
+    // The words ask for no plan, and then nothing is read or put, whatever the answer.
     ensures usage { result ≡ Status.Usage → reads (map string_bytes words.now) ≡ None }
     ensures refused { reads (map string_bytes words.now) ≡ None → (result ≡ Status.Usage) ⊎ (result ≡ Status.Memory) }
-    ensures unread { result ≡ Status.Usage → source.new ≡ source.old }
-    ensures unwritten { result ≡ Status.Usage → sink.new ≡ sink.old }
+    ensures unread { reads (map string_bytes words.now) ≡ None → source.new ≡ source.old }
+    ensures unwritten { reads (map string_bytes words.now) ≡ None → sink.new ≡ sink.old }
 
     // A device failed.
     ensures read_fault { result ≡ Status.ReadFault → Rose (S.faults source.old) (S.faults source.new) }

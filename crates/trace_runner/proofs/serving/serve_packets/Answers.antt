@@ -90,7 +90,8 @@ returns-in-Err-clause-leaves g c = λ plan first before asks put come.
     c.in_ok-part.ensures.few_packets.0 c.in_ok-part.ensures.between) in
     LeavesBy-some plan service c.serve_part.new.progress (stands.batches ++ next.0 ∷ []) first left
     c.read_batch.new.reader many (s.0 ++ calls) before now c.serving_laws.ensures stands.asks next.2 cut
-    (whole-more c.batches.packets c.in_ok-part.part.packets stands.batches next.0 stands.whole goes.2) next_come next.3)
+    (whole-more c.batches.packets c.in_ok-part.part.packets stands.batches next.0 stands.whole goes.2)
+    (omega (arith, goes.3)) next_come next.3)
     (λ same. LeavesBy-before plan service c.batches.progress first left c.batches.packets s.0 before now
     c.batches.text.items c.serving_laws.ensures
     (subst (λ sink. Stands plan service c.batches.progress first c.batches.packets s.0 before (g.K.Sink.put sink)
@@ -142,7 +143,8 @@ batches-preserved g c =
               cut = cut;
               whole = whole-more c.batches.packets c.in_ok-part.part.packets stands.batches next.0 stands.whole goes.2;
               put = next.3;
-              firsts = HaveFirst-come first left c.read_batch.new.reader many (s.0 ++ calls) next_come;
+              firsts = HaveFirst-come first left c.read_batch.new.reader many (s.0 ++ calls)
+                  (omega (arith, goes.3)) next_come;
             },
           );
     }
