@@ -1,3 +1,6 @@
+pub mod Permuted
+pub mod AnsweredLemmas
+pub mod PacketOrder
 pub mod CallLemmas
 pub mod InputLemmas
 pub mod TakenLemmas
@@ -15,4 +18,6 @@ pub mod PlayTexts
 pub mod PlayLemmas
 pub mod RightPlays
 pub mod UnrefusedPlays
+pub mod PlayTurns
+pub mod PlayLines
 pub mod PlayReports
