@@ -1,5 +1,6 @@
 pub mod Permuted
 pub mod AnsweredLemmas
+pub mod ServedLines
 pub mod PacketOrder
 pub mod CallLemmas
 pub mod InputLemmas
