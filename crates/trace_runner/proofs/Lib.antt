@@ -12,6 +12,8 @@ pub mod TextLemmas
 pub mod PrintLemmas
 pub mod EndLemmas
 pub mod ExactLemmas
+pub mod TrialCounts
+pub mod TrialWords
 pub mod TrialLemmas
 pub mod PlayedBySlots
 pub mod DealtLemmas
