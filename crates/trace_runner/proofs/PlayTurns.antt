@@ -112,7 +112,8 @@ module _ (setup : Setup) (seat : ℕ) (h : seat < seats_of setup) (w : World) (w
             Left (cond (is_some full) (begin ∷ tried) (begin ∷ [])) (cond (is_some full) left calls)
         go (Some full) e rest =
             subst (λ (x : World). InTurn (asked_by (seat_in (fold (happens setup) x
-            (map (λ one. record { seat = seat; begin = Some one }) tried)) seat) ++ left)) (sym (now (Some full) e)) rest
+            (map (λ one. record { seat = seat; begin = Some one }) tried)) seat) ++ left))
+            (sym (now (Some full) e)) rest
         go None e rest =
             subst (λ asked. InTurn (asked ++ calls))
             (sym (ap (λ (x : World). asked_by (seat_in x seat)) (now None e)
