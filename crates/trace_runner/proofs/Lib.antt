@@ -1,3 +1,7 @@
+pub mod Permuted
+pub mod AnsweredLemmas
+pub mod ServedLines
+pub mod PacketOrder
 pub mod CallLemmas
 pub mod InputLemmas
 pub mod TakenLemmas
@@ -8,6 +12,8 @@ pub mod TextLemmas
 pub mod PrintLemmas
 pub mod EndLemmas
 pub mod ExactLemmas
+pub mod TrialCounts
+pub mod TrialWords
 pub mod TrialLemmas
 pub mod PlayedBySlots
 pub mod DealtLemmas
@@ -15,4 +21,6 @@ pub mod PlayTexts
 pub mod PlayLemmas
 pub mod RightPlays
 pub mod UnrefusedPlays
+pub mod PlayTurns
+pub mod PlayLines
 pub mod PlayReports

@@ -25,10 +25,12 @@ use Rattle.batch_runner.specs.Served.{shares_of}
 use Rattle.batch_runner.proofs.Deals.{dealt_hold}
 use Rattle.batch_runner.proofs.Shallow.{shallow}
 use Rattle.command_line.specs.declared.plan.Plan.{Plan}
-use Rattle.trace_runner.specs.Reading.{AreBetween, IsBetween}
+use Rattle.trace_runner.specs.Reading.{AreBetween, Ascending, IsBetween}
 use Rattle.trace_runner.specs.Served.{IsServiceOf}
 use Rattle.trace_runner.specs.Playing.{IsPlayOf, IsRightPlay, PlaysAreAnswered, PlaysAreRight, play_head, play_in, play_report, play_setup, play_tail, played_lines, ranges_for, schedule_in}
 use Rattle.trace_runner.proofs.DealtLemmas.{ToldRight, told-dealt}
+use Rattle.trace_runner.proofs.PlayLines.{lines-right}
+use Rattle.trace_runner.proofs.PlayTurns.{ascending-turn, dealt-turn, play_turns}
 use Rattle.trace_runner.proofs.PlayTexts.{CallHasText, texts-ended, texts-pairs, texts-under-way}
 use Rattle.trace_runner.proofs.UnrefusedPlays.{NotRefused}
 
@@ -111,16 +113,21 @@ module _ (plan : Plan) (service : Service) (calls : List (ℕ × Call)) (played 
   -- the text is the report
   pub IsPlayOf-done :
       (packets : ℕ) (ending : Ending) (text : List ℕ) → PlaysAreRight → PlaysAreAnswered → IsServiceOf plan service →
-      CanPlay setup (shares_of service calls) →
+      CanPlay setup (shares_of service calls) → Ascending calls →
       text ≡ report_of (play_report plan service packets (length calls) played ending) →
       IsPlayOf plan packets calls ending text
-  IsPlayOf-done packets ending text right answered asks can is =
+  IsPlayOf-done packets ending text right answered asks can ascend is =
+      let shares : List (List (ℕ × Call)) = shares_of service calls in
+      let play_right : IsRightPlay setup play = right setup shares plan.stops (schedule_in plan) can in
       record {
         service = service;
         played = played;
         asks = asks;
-        right = right setup (shares_of service calls) plan.stops (schedule_in plan) can;
+        right = play_right;
         comes_to = comes;
+        lines = lines-right setup play played play_right comes
+            (play_turns setup shares plan.stops can
+            (dealt-turn service.share service.settings.seats calls (ascending-turn calls ascend)) (schedule_in plan));
         answered = λ none.
             All-permutation NotRefused _ played.outcomes.items comes.outcomes
             (answered setup (shares_of service calls) plan.stops (schedule_in plan) can

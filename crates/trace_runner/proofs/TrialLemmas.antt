@@ -1,5 +1,5 @@
 -- The text of a trial is that of the made capture.
-use Rattle.std.proofs.Common.{◌≡◌, ◌≤◌, ℕ, List, length, map, Option, Some, Result, Ok, Err, sym, ◌∙◌, ap, subst, refl, arith, inl, inr}
+use Rattle.std.proofs.Common.{◌≡◌, ◌≤◌, ℕ, List, length, map, Option, Some, None, Result, Ok, Err, sym, ◌∙◌, ap, subst, refl, arith, inl, inr}
 use Rattle.std.specs.List.{range_with_len}
 use Rattle.std.proofs.lemmas.List.{length-map}
 use Rattle.std.proofs.lemmas.List.FromFn.{length-range_with_len}
@@ -23,6 +23,7 @@ use Rattle.trace_runner.specs.Input.{HoldsPackets, Serves, packet_limit}
 use Rattle.trace_runner.specs.Served.{IsServiceOf, ServedArePromised}
 use Rattle.trace_runner.specs.Headline.{IsTrial, trial_of}
 use Rattle.trace_runner.specs.Progress.{HasTried}
+use Rattle.trace_runner.proofs.TrialCounts.{trial-adds_up}
 
 -- a count that stays at 0 has not risen
 pub none_rose : Rose 0 0 → ⊥
@@ -69,8 +70,9 @@ pub IsTrial-tried :
     HasOneCapture (made_capture plan.number plan.packets) → HoldsMade plan.number plan.packets →
     plan.packets ≤ packet_limit → (ending ≡ ReadFault → ⊥) → ServedArePromised → IsServiceOf plan service →
     HasTried service progress (Some (made_capture plan.number plan.packets)) left ending →
-    text ≡ trial_lines (trial_of plan progress.totals (length progress.pairs.items)) → IsTrial plan text
-IsTrial-tried plan service progress left ending text one law few no_fault promised asks tried is =
+    text ≡ trial_lines (trial_of plan progress.totals (length progress.pairs.items)) → plan.rows ≡ None →
+    IsTrial plan text
+IsTrial-tried plan service progress left ending text one law few no_fault promised asks tried is none =
     let ended = tried.ended.told (made_capture plan.number plan.packets) refl in (
       ended.0,
       tried.calls,
@@ -85,6 +87,8 @@ IsTrial-tried plan service progress left ending text one law few no_fault promis
         promised = promised service tried.batches tried.served.served;
       },
       tried.count ∙ ap batch_count (sym ended.3),
+      trial-adds_up service tried.batches tried.served.served (promised service tried.batches tried.served.served) plan
+          (asks.rows ∙ none),
       is
           ∙ ap (λ (t : Totals). trial_lines (trial_of plan t (length progress.pairs.items))) tried.served.totals
           ∙ ap (λ (pairs : List Pair).

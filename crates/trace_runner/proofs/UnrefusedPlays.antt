@@ -77,7 +77,7 @@ told_unrefused event None (Some r) none = All-cons NotRefused _ [] refl (All-nil
 told_unrefused event None None none = All-nil NotRefused
 
 -- a step answers a call that was begun
-asked_step : (setup : Setup) (me : ℕ) (account : Account) (flight : Flight) (phase : Phase) (word : ℕ) →
+pub asked_step : (setup : Setup) (me : ℕ) (account : Account) (flight : Flight) (phase : Phase) (word : ℕ) →
     asked_by (state_after setup me account flight phase word)
     ≡ map asked_of account.records ++ (flight.packet, flight.call) ∷ []
 asked_step setup me account flight (StoreDone reply place) word =

@@ -1,5 +1,5 @@
 -- What a run prints, and so what its user may rely on.
-use Rattle.std.specs.Prelude.{◌≡◌, ◌*◌, ◌⊎◌, ℕ, List, [], length, Some, nat_lt, if◌then◌else◌, is_ok, Option, Result, Ok}
+use Rattle.std.specs.Prelude.{◌≡◌, ◌+◌, ◌*◌, ◌⊎◌, ℕ, List, [], length, Some, nat_lt, if◌then◌else◌, is_ok, Option, Result, Ok}
 use Rattle.std.specs.Io.KnownBytes.{Appends, Keeps}
 use Rattle.edge_traits.specs.Edge.{AppendsFront}
 use Rattle.hash_bits.specs.declared.hashing.Hashing.{Hashing}
@@ -173,13 +173,26 @@ trial_of plan totals sessions =
       sessions = sessions;
     }
 
+-- of these batches
+abbrev pub tried_of : Plan → List Served → Trial
+tried_of plan batches = trial_of plan (totals_of (outcomes_in batches)) (length (pairs_left [] batches))
+
+-- The counts add up: each call had one of the six replies, since none was refused, and of the sessions that were begun
+-- those are left that were not ended.
+pub record AddsUp (trial : Trial) : Type 0 where
+  pub replies :
+      trial.calls
+      ≡ trial.new + trial.old + trial.noroom + trial.gone + trial.found + trial.absent + trial.full
+  pub none_refused : trial.full ≡ 0
+  pub sessions : trial.new ≡ trial.gone + trial.sessions
+
 -- The text is that of the made capture, whose calls are served as the plan says.
 abbrev pub IsTrial : Plan → List ℕ → Type 0
 IsTrial plan text =
     (packets : List (List ℕ)) × (calls : List (ℕ × Call)) × (service : Service) × (batches : List Served)
     × HoldsPackets (made_capture plan.number plan.packets) packets (Ok 0) × MakeCalls 1 packets calls
     × AreDone plan service calls batches × (length batches ≡ batch_count (length packets))
-    × (text ≡ trial_lines (trial_of plan (totals_of (outcomes_in batches)) (length (pairs_left [] batches))))
+    × AddsUp (tried_of plan batches) × (text ≡ trial_lines (tried_of plan batches))
 
 -- what `trial` leaves
 abbrev pub LeavesTried : Plan → Option (List ℕ) → Option (List ℕ) → Status → Type 0

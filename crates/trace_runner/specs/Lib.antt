@@ -3,6 +3,7 @@ pub mod Input
 pub mod Batches
 pub mod Endings
 pub mod Reading
+pub mod Answered
 pub mod Served
 pub mod Headline
 pub mod Playing

@@ -1,6 +1,6 @@
 -- What `play` prints of a capture: the calls are dealt to seats, which make them by the plan's schedule and stops.
 -- Source: this project's own; the report is that of docs/FORMATS.md.
-use Rattle.std.specs.Prelude.{◌≡◌, ℕ, ◌<◌, ◌-◌, ◌||◌, true, false, List, [], ◌∷◌, length, map, replicate, count_by, is_some, All, IsPermutation, Option, Some, None}
+use Rattle.std.specs.Prelude.{◌≡◌, ℕ, ◌<◌, ◌-◌, ◌||◌, true, false, List, [], ◌∷◌, length, map, filter, replicate, count_by, is_some, All, IsPermutation, Option, Some, None}
 use Rattle.std.specs.Io.KnownBytes.{Appends, Keeps}
 use Rattle.step_counts.specs.declared.rows.SeatRows.{SeatRows}
 use Rattle.step_counts.specs.declared.settings.Settings.{Settings}
@@ -17,7 +17,7 @@ use Rattle.report_text.specs.declared.parts.Tail.{Tail}
 use Rattle.report_text.specs.Report.{Batch, Report, report_of}
 use Rattle.core_model.specs.Setup.{Setup, rules_of, seats_of, settings_of}
 use Rattle.core_model.specs.Worlds.{World, IsRun, world_after, seat_in}
-use Rattle.core_model.specs.Order.{effects_of, order_of}
+use Rattle.core_model.specs.Order.{effects_of, order_of, took_effect}
 use Rattle.core_model.specs.Closed.{Cover, Warranted, closed_depth, closed_leaves, closed_pairs, closing_of, greatest_depth, sessions_with}
 use Rattle.core_model.specs.Promises.{HasSteps}
 use Rattle.core_model.specs.Schedules as S
@@ -33,6 +33,7 @@ use Rattle.command_line.specs.declared.plan.Plan.{Plan}
 use Rattle.command_line.specs.declared.plays.Segment.{Segment}
 use Rattle.trace_runner.specs.declared.status.Status.{Status}
 use Rattle.trace_runner.specs.declared.status.Status.TheVariants as status
+use Rattle.trace_runner.specs.Answered.{AreCountedBySeat, answered_on}
 use Rattle.trace_runner.specs.Input.{ServesUpTo}
 use Rattle.trace_runner.specs.PacketCalls.{MakeCalls}
 use Rattle.trace_runner.specs.Served.{IsServiceOf}
@@ -99,6 +100,18 @@ pub record IsRightPlay (setup : Setup) (play : Play) : Type 0 where
   pub ended : (seat : ℕ) → seat < seats_of setup →
       (is_stopped (hand_of play seat) || has_ended (hand_of play seat) (seat_in play.world seat).stand) ≡ true
   pub right : IsRightWorld setup play.world
+
+-- What is printed of the play is what the order speaks of. The k-th answered line of each seat is that seat's call with
+-- the number k. Each answered call of the lines stands in the order exactly once, and so does each pending call of the
+-- lines that took effect, and nothing else does. Each answered update has no more steps than the bound, and each lookup
+-- exactly its own.
+pub record HasRightLines (setup : Setup) (play : Play) (played : Played) : Type 0 where
+  pub numbered : AreCountedBySeat played.outcomes.items
+  pub whole :
+      Whole (answered_on played.outcomes.items)
+      (filter (took_effect setup.shape play.world.words) played.pending.items)
+      (order_of setup.shape (closing_of play.world))
+  pub steps : All (HasSteps setup play.world.words) (answered_on played.outcomes.items)
 
 -- whatever the calls, the stops and the schedule
 abbrev pub PlaysAreRight : Type 0
@@ -176,6 +189,7 @@ pub record IsPlayOf (plan : Plan) (packets : ℕ) (calls : List (ℕ × Call)) (
   pub asks : IsServiceOf plan service
   pub right : IsRightPlay (play_setup service calls) (play_in plan service calls)
   pub comes_to : IsPlayed (play_setup service calls) (play_in plan service calls) played
+  pub lines : HasRightLines (play_setup service calls) (play_in plan service calls) played
   -- where no rows are given each call that ended was answered
   pub answered : plan.rows ≡ None → AreAnswered played.outcomes.items
   pub text_is : text ≡ report_of (play_report plan service packets (length calls) played ending)

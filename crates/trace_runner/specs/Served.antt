@@ -3,6 +3,7 @@ use Rattle.std.specs.Prelude.{◌≡◌, ℕ, ◌-◌, false, List, [], ◌∷�
 use Rattle.plain_map.specs.declared.calls.Call.{Call}
 use Rattle.step_counts.specs.Made.{IsMadeOf}
 use Rattle.step_counts.specs.StepCounts.{step_bound}
+use Rattle.trace_share.specs.declared.outcome.Outcome.{Outcome}
 use Rattle.report_text.specs.declared.parts.Head.{Head}
 use Rattle.report_text.specs.declared.parts.Tail.{Tail}
 use Rattle.report_text.specs.declared.parts.Ending.{Ending}
@@ -18,6 +19,7 @@ use Rattle.batch_runner.specs.Printed.{all_lines, outcomes_in}
 use Rattle.batch_runner.specs.Promises.{AreRight}
 use Rattle.batch_runner.specs.Totals.{totals_of}
 use Rattle.command_line.specs.declared.plan.Plan.{Plan}
+use Rattle.trace_runner.specs.Answered.{AreCountedBySeat}
 use Rattle.trace_runner.specs.Batches.{AreOfBatches}
 
 -- the plan is served so
@@ -31,6 +33,10 @@ pub record IsServiceOf (plan : Plan) (service : Service) : Type 0 where
 abbrev pub no_counts : List ℕ
 no_counts = replicate 8 0
 
+-- the lines of the calls of all batches, each with its seat
+abbrev pub lines_in : Service → List Served → List (ℕ × Outcome)
+lines_in service batches = flat_map (λ lines. lines.outcomes) (all_lines service no_counts batches)
+
 -- What holds of batches that were served, whatever the interleaving.
 pub record IsPromised (service : Service) (batches : List Served) : Type 0 where
   -- One order of all calls is right: each stands after all that its caller had seen, with the plain map's reply. Steps
@@ -38,6 +44,8 @@ pub record IsPromised (service : Service) (batches : List Served) : Type 0 where
   pub right : AreRight service batches
   -- each answered call stands once in it as it is printed, with the counts of the lines, and nothing else does
   pub once : Whole (printed_in service no_counts batches) [] (all_calls [] (map (history_in service) batches))
+  -- the k-th answered line of each seat, over all batches, is that seat's call with the number k
+  pub numbered : AreCountedBySeat (lines_in service batches)
   -- where no rows are given each call has its answer
   pub answered : HasOwnRows service → map asked_of (all_answers batches) ≡ calls_in batches
   -- Where no two seats share a key and no class has more keys than it has room for, or where there is one seat, replies

@@ -4,6 +4,7 @@ ghost use Rattle.trace_runner.specs.Playing.{PlaysAreAnswered, PlaysAreRight};
 ghost use Rattle.trace_runner.specs.Served.{ServedArePromised};
 
 use batch_answers::answer_laws;
+use batch_orders::batches_laws;
 use batch_runner::served_laws;
 use core_book::cover_laws;
 use core_bounds::{row_laws, step_laws};
@@ -16,6 +17,7 @@ pub fn serving_laws()
 {
     served_laws();
     answer_laws();
+    batches_laws();
 }
 
 /// Every play is a run of its table, in the end of which each seat has made its calls or is stopped, and its one order

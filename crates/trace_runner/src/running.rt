@@ -105,7 +105,7 @@ fn run_plan<R: Threads + Sync, S: Source, K: Sink, G: Gate + Sync>(
         LeavesPlayed plan.now (S.left source.old) (S.left source.new) (K.put sink.old) (K.put sink.new) result }
     ensures made { plan.now.mode ≡ Make →
         LeavesMade plan.now (K.put sink.old) (K.put sink.new) result × (source.new ≡ source.old) }
-    ensures tried { plan.now.mode ≡ Trial →
+    ensures tried { plan.now.mode ≡ Trial → plan.now.rows ≡ None →
         LeavesTried plan.now (K.put sink.old) (K.put sink.new) result × (source.new ≡ source.old) }
     ensures no_usage { result ≡ Status.Usage → ⊥ }
     ensures read_fault { result ≡ Status.ReadFault → Rose (S.faults source.old) (S.faults source.new) }

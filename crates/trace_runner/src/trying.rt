@@ -1,6 +1,6 @@
 //! Mode `trial`: the made capture is served, and its counts are put.
 
-ghost use Rattle.std.specs.Prelude.{◌≡◌, ◌≤◌, ◌<◌, ◌^◌, ◌+◌, ◌*◌, ℕ, List, [], ◌++◌, length, map, All, Option, IfOk, OnOk, false};
+ghost use Rattle.std.specs.Prelude.{◌≡◌, ◌≤◌, ◌<◌, ◌^◌, ◌+◌, ◌*◌, ℕ, List, [], ◌++◌, length, map, All, Option, None, IfOk, OnOk, false};
 ghost use Rattle.std.specs.Option.{ForSome};
 ghost use Rattle.std.specs.Thread.{IsSync};
 ghost use Rattle.edge_traits.specs.Edge.{Rose};
@@ -43,7 +43,9 @@ pub(crate) fn try_plan<R: Threads + Sync, K: Sink, G: Gate + Sync>(
     gate: &G,
 ) -> Status
     requires { IsInRange plan.now }
-    ensures leaves { LeavesTried plan.now (K.put sink.old) (K.put sink.new) result }
+    ensures leaves { plan.now.rows ≡ None → LeavesTried plan.now (K.put sink.old) (K.put sink.new) result }
+    ensures no_usage { result ≡ Status.Usage → ⊥ }
+    ensures no_read { result ≡ Status.ReadFault → ⊥ }
     ensures write_fault { result ≡ Status.WriteFault → Rose (K.faults sink.old) (K.faults sink.new) }
     ensures counted { K.faults sink.old ≤ K.faults sink.new }
 {
@@ -64,7 +66,7 @@ fn text_of<R: Threads + Sync, G: Gate + Sync>(
     gate: &G,
 ) -> Result<Vec<u8>, AllocError>
     requires { IsInRange plan.now }
-    ensures { IfOk result (λ text. IsTrial plan.now text.items) }
+    ensures { IfOk result (λ text. plan.now.rows ≡ None → IsTrial plan.now text.items) }
 {
     one_capture();
     made_capture_law();

@@ -2,6 +2,7 @@ use Rattle.std.proofs.Common.{◌≡◌, refl, arith}
 use Rattle.std.proofs.lemmas.List.Elements.{All-replicate}
 use Rattle.batch_answers.specs.Answers.{AreNone}
 use Rattle.trace_runner.specs.Served.{no_counts}
+use Rattle.trace_runner.proofs.ServedLines.{lines_counted}
 use Rattle.trace_runner.proofs.laws.serving_laws.Goals as goal
 
 -- the printed counts begin with none
@@ -13,6 +14,7 @@ returns c = λ service batches served.
     record {
       right = c.served_laws.ensures.right service batches served;
       once = c.answer_laws.ensures.once service no_counts batches counts_none served;
+      numbered = lines_counted c.batches_laws.ensures.numbered counts_none service batches served;
       answered = λ own. c.answer_laws.ensures.all service batches own served;
       one_thread = c.answer_laws.ensures.one_thread service batches served;
     }

@@ -83,7 +83,7 @@ returns c =
     c.in_ok-played.ensures.can in
     IsPlayOf-done c.args.plan.now service calls played comes c.args.input.now.packets c.args.input.now.ending
     c.tail_text.new.out.items c.playing_laws.ensures.right c.playing_laws.ensures.answered
-    c.service_of-service.ensures.asks can
+    c.service_of-service.ensures.asks can c.requires.between.ascend
     (report-played c.args.plan.now service c.args.input.now.packets (length calls) played c.args.input.now.ending
     c.new-text.result.items c.head_text.new.out.items c.put_played.new.text.items c.put_sessions.new.text.items
     c.tail_text.new.out.items c.new-text.ensures.items

@@ -1,10 +1,11 @@
-use Rattle.std.proofs.Common.{◌≡◌, Some, ap, sym, subst, ◌∙◌}
+use Rattle.std.proofs.Common.{◌≡◌, Some, None, ap, sym, subst, ◌∙◌}
 use Rattle.command_line.specs.declared.plan.Plan.{Plan}
 use Rattle.trace_runner.specs.Headline.{LeavesAll, LeavesMade, LeavesTried}
 use Rattle.trace_runner.specs.Playing.{LeavesPlayed}
 use Rattle.trace_runner.proofs.EndLemmas.{Keeps-same, LeavesBy-nothing}
 use Rattle.trace_runner.proofs.ExactLemmas.{Leaves-exact}
 use Rattle.trace_runner.proofs.PlayLemmas.{LeavesPlay-exact, LeavesPlayed-nothing}
+use Rattle.trace_runner.proofs.TrialWords.{no_rows}
 use Rattle.trace_runner.proofs.running.run.Goals as goal
 
 -- the words ask for one plan
@@ -61,7 +62,8 @@ returns-in-Err-Memory-clause-headline g c = λ plan asked serves.
 pub returns-in-Ok-clause-tried : goal.returns-in-Ok-clause-tried
 returns-in-Ok-clause-tried g c = λ plan asked tries.
     let same : c.in-Ok.plan ≡ plan = same_plan (sym c.in-Ok.ensures.answers ∙ asked) in
-    let tried = c.run_plan.ensures.tried (ap (λ (p : Plan). p.mode) same ∙ tries) in (
+    let none : c.in-Ok.plan.rows ≡ None = ap (λ (p : Plan). p.rows) same ∙ no_rows _ plan asked tries in
+    let tried = c.run_plan.ensures.tried (ap (λ (p : Plan). p.mode) same ∙ tries) none in (
       subst (λ (p : Plan). LeavesTried p (g.K.Sink.put c.args.sink.now) (g.K.Sink.put c.run_plan.new.sink)
           c.run_plan.result) same tried.0,
       tried.1,

@@ -6,7 +6,7 @@ use Rattle.trace_runner.proofs.TrialLemmas.{IsTrial-tried, none_rose}
 use Rattle.trace_runner.proofs.trying.text_of.Goals as goal
 
 pub returns-in-Ok : goal.returns-in-Ok
-returns-in-Ok g c =
+returns-in-Ok g c = λ none.
     let plan = c.args.plan.now in
     let bytes : List ℕ = made_capture plan.number plan.packets in
     let tried = c.in_ok-tried-in-Ok in
@@ -20,4 +20,4 @@ returns-in-Ok g c =
     (λ is. none_rose (tried.ensures.read_fault is)) c.serving_laws.ensures c.service_of-service.ensures.asks
     (tried.ensures.tried (Some bytes) come)
     (c.in_ok-trial_text-in-Ok.ensures.appended ∙ ap (λ t. t ++ trial_lines c.trial_of.result) c.new-text.ensures.items
-    ∙ ap trial_lines c.trial_of.ensures)
+    ∙ ap trial_lines c.trial_of.ensures) none
