@@ -193,7 +193,16 @@ fn logged_batch<R: Threads + Sync, G: Gate + Sync>(
     let shares = deal(alloc, service.share, service.settings.seats, calls)?;
     let demand = demand_of(alloc, calls, &shares)?;
     let (closed, logs, ()) = close_batch::<R, Vec<Outcome>, G, _, ()>(
-        rt, alloc, service, workspace, first, calls, shares, &demand, gate, &mut || {},
+        rt,
+        alloc,
+        service,
+        workspace,
+        first,
+        calls,
+        shares,
+        &demand,
+        gate,
+        &mut || {},
     )?;
     let totals = totals_in(alloc, &logs)?;
     let batch = told(alloc, service, first, calls, &closed, &totals)?;

@@ -17,7 +17,13 @@ use trace_share::{Collector, Worker, serve_beside};
 
 /// Each seat makes its share of the calls, in a thread of its own; the caller's does this first. Then the seats come
 /// back, in the order of their numbers, with what was kept of what each one's calls came to, and with what this gave.
-pub(crate) fn serve_shares<R: Threads + Sync, K: Collector + Send, G: Gate + Sync, F: FnMut() -> A, A>(
+pub(crate) fn serve_shares<
+    R: Threads + Sync,
+    K: Collector + Send,
+    G: Gate + Sync,
+    F: FnMut() -> A,
+    A,
+>(
     rt: &R,
     alloc: Global,
     directory: &Directory,

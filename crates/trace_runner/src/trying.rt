@@ -248,91 +248,29 @@ fn try_and_read<R: Threads + Sync, S: Source + Send, G: Gate + Sync>(
         ≡ shares_of service.now next.new.items) }
     ensures asked { IfOk result (λ read.
         IsDemandOf next.new.items (shares_of service.now next.new.items) read.demand) }
-    ensures counted { S.faults source.old ≤ S.faults source.new }
-{
-    if service.settings.seats == 1 {
-        return try_while_read(
-            rt, alloc, service, progress, workspace, calls, shares, demand, gate, reader, source, before, next,
-        );
-    }
-    progress.try_calls(
-        rt,
-        alloc,
-        service,
-        workspace,
-        calls,
-        shares,
-        demand,
-        gate,
-        &mut || -> Result<Read, AllocError>
-            requires { (reader.now.ended ≡ false) × (reader.now.given ≡ before) × (before < PACKET_LIMIT)
-                × (next.now.items ≡ []) }
-            ensures read { IfOk result (λ read. IsBatchRead PACKET_LIMIT (S.left source.entry.now)
-                (S.left source.exit.now) (S.faults source.entry.now) (S.faults source.exit.now) reader.entry.now
-                reader.exit.now before next.exit.now.items read.part) }
-            ensures dealt { IfOk result (λ read. map (λ share. share.items) read.shares.items
-                ≡ shares_of service.entry.now next.exit.now.items) }
-            ensures asked { IfOk result (λ read. IsDemandOf next.exit.now.items
-                (shares_of service.entry.now next.exit.now.items) read.demand) }
-            ensures counted { S.faults source.entry.now ≤ S.faults source.exit.now }
-        { read_and_deal(alloc, service, reader, source, before, next) },
-    )?
-}
-
-/// The same, and a thread of its own reads. Where none can be made, this one does both.
-fn try_while_read<R: Threads + Sync, S: Source + Send, G: Gate + Sync>(
-    rt: &R,
-    alloc: Global,
-    service: &Service,
-    progress: &mut Progress,
-    workspace: &mut Workspace,
-    calls: &[(u32, Call)],
-    shares: Vec<Vec<(u32, Call)>>,
-    demand: &Demand,
-    gate: &G,
-    reader: &mut Reader,
-    source: &mut S,
-    before: u32,
-    next: &mut Vec<(u32, Call)>,
-) -> Result<Read, AllocError>
-    requires given { ForSome service.now.rows (AreBelow (2 ^ 32)) }
-    requires few { length calls.now ≤ BATCH }
-    requires askable { All (λ call. IsAskable call.1) calls.now }
-    requires texts { HasTexts calls.now }
-    requires going { IsGoing service.now progress.old }
-    requires all { progress.old.totals.calls ≤ PACKET_LIMIT }
-    requires shares { map (λ share. share.items) shares.items ≡ shares_of service.now calls.now }
-    requires demand { IsDemandOf calls.now (shares_of service.now calls.now) demand.now }
-    requires reads { reader.old.ended ≡ false }
-    requires stands { reader.old.given ≡ before }
-    requires room { before < PACKET_LIMIT }
-    requires none { next.old.items ≡ [] }
-    ensures served { OnOk result (IsOneMore service.now progress.old progress.new calls.now) }
-    ensures going { OnOk result (IsGoing service.now progress.new) }
-    ensures tallied { OnOk result (progress.new.totals.calls ≡ progress.old.totals.calls + length calls.now) }
-    ensures read { IfOk result (λ read. IsBatchRead PACKET_LIMIT (S.left source.old) (S.left source.new)
-        (S.faults source.old) (S.faults source.new) reader.old reader.new before next.new.items read.part) }
-    ensures dealt { IfOk result (λ read. map (λ share. share.items) read.shares.items
-        ≡ shares_of service.now next.new.items) }
-    ensures asked { IfOk result (λ read.
-        IsDemandOf next.new.items (shares_of service.now next.new.items) read.demand) }
-    ensures counted { S.faults source.old ≤ S.faults source.new }
+    ensures counted { OnOk result (S.faults source.old ≤ S.faults source.new) }
 {
     let mut shares = shares;
+    let mut ahead = || -> Result<Read, AllocError>
+        requires { (reader.now.ended ≡ false) × (reader.now.given ≡ before) × (before < PACKET_LIMIT)
+            × (next.now.items ≡ []) }
+        ensures read { IfOk result (λ read. IsBatchRead PACKET_LIMIT (S.left source.entry.now)
+            (S.left source.exit.now) (S.faults source.entry.now) (S.faults source.exit.now) reader.entry.now
+            reader.exit.now before next.exit.now.items read.part) }
+        ensures dealt { IfOk result (λ read. map (λ share. share.items) read.shares.items
+            ≡ shares_of service.entry.now next.exit.now.items) }
+        ensures asked { IfOk result (λ read. IsDemandOf next.exit.now.items
+            (shares_of service.entry.now next.exit.now.items) read.demand) }
+        ensures counted { S.faults source.entry.now ≤ S.faults source.exit.now }
+    { read_and_deal(alloc, service, reader, source, before, next) };
+    if service.settings.seats > 1 {
+        return progress.try_calls(
+            rt, alloc, service, workspace, calls, shares, demand, gate, &mut ahead,
+        )?;
+    }
     let (read, tried) = join_mut(
         rt,
-        &mut || -> Result<Read, AllocError>
-            requires { (reader.now.ended ≡ false) × (reader.now.given ≡ before) × (before < PACKET_LIMIT)
-                × (next.now.items ≡ []) }
-            ensures read { IfOk result (λ read. IsBatchRead PACKET_LIMIT (S.left source.entry.now)
-                (S.left source.exit.now) (S.faults source.entry.now) (S.faults source.exit.now) reader.entry.now
-                reader.exit.now before next.exit.now.items read.part) }
-            ensures dealt { IfOk result (λ read. map (λ share. share.items) read.shares.items
-                ≡ shares_of service.entry.now next.exit.now.items) }
-            ensures asked { IfOk result (λ read. IsDemandOf next.exit.now.items
-                (shares_of service.entry.now next.exit.now.items) read.demand) }
-            ensures counted { S.faults source.entry.now ≤ S.faults source.exit.now }
-        { read_and_deal(alloc, service, reader, source, before, next) },
+        &mut ahead,
         &mut || -> Result<(), AllocError>
             requires { IsSync R.row × IsSync G.row × ForSome service.now.rows (AreBelow (2 ^ 32))
                 × (length calls.now ≤ BATCH) × All (λ call. IsAskable call.1) calls.now × HasTexts calls.now
@@ -347,7 +285,17 @@ fn try_while_read<R: Threads + Sync, S: Source + Send, G: Gate + Sync>(
         {
             // A closure that may be called again can only take out what it gives away.
             let shares = mem::replace(&mut shares, Vec::new(alloc));
-            progress.try_calls(rt, alloc, service, workspace, calls, shares, demand, gate, &mut || {})
+            progress.try_calls(
+                rt,
+                alloc,
+                service,
+                workspace,
+                calls,
+                shares,
+                demand,
+                gate,
+                &mut || {},
+            )
         },
     );
     tried?;
@@ -385,7 +333,17 @@ fn try_last<R: Threads + Sync, G: Gate + Sync>(
     if numbers.1 == 0 && numbers.0 > 0 {
         return Ok(progress);
     }
-    match progress.try_calls(rt, alloc, service, workspace, calls, shares, demand, gate, &mut || {}) {
+    match progress.try_calls(
+        rt,
+        alloc,
+        service,
+        workspace,
+        calls,
+        shares,
+        demand,
+        gate,
+        &mut || {},
+    ) {
         Ok(()) => Ok(progress),
         Err(memory) => Err(memory),
     }

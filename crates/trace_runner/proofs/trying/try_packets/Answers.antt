@@ -82,7 +82,7 @@ batches-preserved g c =
     record {
       going = told.ensures.going;
       calls = omega (arith, told.ensures.tallied, old.calls, old.between.few, ap length c.deref-in-None.ensures.value);
-      counted = omega (arith, old.counted, c.try_and_read.ensures.counted);
+      counted = omega (arith, old.counted, told.ensures.counted);
       between = subst (λ (v : Vec (ℕ × Call) Global). AreBetween many (many + next_part.packets) v.items) swapped
           read.between;
       dealt = subst (λ (v : Vec (ℕ × Call) Global). map item told.read.shares.items
