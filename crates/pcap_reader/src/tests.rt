@@ -166,6 +166,20 @@ fn bytes_of_a_file_are_others(rt: HostRuntime) -> Result<(), Fail> {
     Ok(())
 }
 
+// 24 bytes that begin as a gzip file does are no head.
+#[test]
+fn a_gzip_file_is_not_opened(rt: HostRuntime) -> Result<(), Fail> {
+    let bytes = [0x1f, 0x8b, 0x08, 0x00];
+    let mut file = [0; 24];
+    file[..4].copy_from_slice(&bytes);
+    let mut source = MemorySource::new(rt.alloc(), &file, 24, &[])?;
+    match Reader::open(rt.alloc(), &mut source) {
+        Err(fault) => assert_eq!(rt; fault, CaptureFault::Magic { bytes }),
+        Ok(_) => assert!(rt; false, "a capture was opened"),
+    }
+    Ok(())
+}
+
 fn magic(bytes: [u8; 4]) -> Result<Item, CaptureFault> {
     Err(CaptureFault::Magic { bytes })
 }

@@ -2,6 +2,8 @@
 
 mod captures;
 mod certified;
+mod checker;
+mod cuts;
 mod devices;
 mod endings;
 mod gates;
@@ -10,6 +12,7 @@ mod made;
 mod plays;
 mod served;
 mod splits;
+mod stops;
 
 use crate::{Status, run};
 use captures::{Part, file_of};
@@ -64,8 +67,9 @@ fn expect_rows<R: Threads + Abort + Sync>(rt: &R, alloc: Global, rows: &[Row]) -
     Ok(())
 }
 
-/// Status codes are the program's exit statuses, and the complaints are the lines of standard error.
-/// No clause speaks of either.
+/// Status codes are the program's exit statuses, and the complaints are the lines of standard error. The code's clause
+/// names the definition `code_of`; that its numbers are the ones that are meant is shown here. No clause speaks of the
+/// complaints.
 #[test]
 fn statuses_as_codes_and_complaints(rt: HostRuntime) {
     let rows = [

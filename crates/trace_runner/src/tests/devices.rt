@@ -1,4 +1,4 @@
-//! Sources whose reads fail, sinks whose writes fail, and words that reach neither.
+//! Writes that fail, and words that reach neither source nor sink.
 
 use super::captures::{HEAD, ONE_FLOW, Part, file_of};
 use super::run_line;
@@ -7,37 +7,6 @@ use edge_traits::{Failed, MemorySink, MemorySource, OpenGate, Sink, Source};
 use std::test::Fail;
 
 const WORDS: &str = "serve --seats 1 --items 2 --depth 1 --start 1 --hash ports";
-
-/// The report of no packet whose reading failed.
-const NOTHING_READ: &str = "\
-    flowdir serve seats 1 items 2 depth 1 start 1 hash ports seed 0 share round\n\
-    leaves 2 depth 1\n\
-    input read-fault\n\
-    count packets 0 calls 0 passed 0 full 0 pending 0 unbegun 0\n\
-    steps update 0 bound 423 lookup 0\n";
-
-/// The report of the first SYN behind which reading failed.
-const ONE_READ: &str = "\
-    flowdir serve seats 1 items 2 depth 1 start 1 hash ports seed 0 share round\n\
-    call 1 seat 0 insert 10.0.0.1:1-10.0.0.2:80/tcp new 1 steps 45 after 0\n\
-    order 1\n\
-    session 10.0.0.1:1-10.0.0.2:80/tcp 1\n\
-    leaves 2 depth 1\n\
-    input read-fault\n\
-    count packets 1 calls 1 passed 0 full 0 pending 0 unbegun 0\n\
-    steps update 45 bound 423 lookup 0\n";
-
-/// The report of both where only the end of input could not be read.
-const BOTH_READ: &str = "\
-    flowdir serve seats 1 items 2 depth 1 start 1 hash ports seed 0 share round\n\
-    call 1 seat 0 insert 10.0.0.1:1-10.0.0.2:80/tcp new 1 steps 45 after 0\n\
-    call 2 seat 0 insert 10.0.0.1:1-10.0.0.2:80/tcp old 1 steps 45 after 1\n\
-    order 1 2\n\
-    session 10.0.0.1:1-10.0.0.2:80/tcp 1\n\
-    leaves 2 depth 1\n\
-    input read-fault\n\
-    count packets 2 calls 2 passed 0 full 0 pending 0 unbegun 0\n\
-    steps update 45 bound 423 lookup 0\n";
 
 /// The report of two SYNs of one flow.
 const TWO_SYNS: &str = "\
@@ -52,54 +21,6 @@ const TWO_SYNS: &str = "\
     steps update 45 bound 423 lookup 0\n";
 
 const TWO_SYNS_PARTS: [Part; 3] = [Part::Bytes(&HEAD), Part::Syn(1), Part::Syn(1)];
-
-/// A file of 164 bytes by reads of 24, each failing in turn. The head ends at 24, the first record at
-/// 94 and the second at 164: the fourth read begins at 72, the fifth at 96, and the eighth meets the
-/// end. No clause compares a read's number with what is served.
-#[test]
-fn each_read_fails_in_turn(rt: HostRuntime) -> Result<(), Fail> {
-    let rows = [
-        (1, Status::ReadFault, NOTHING_READ),
-        (2, Status::ReadFault, NOTHING_READ),
-        (4, Status::ReadFault, NOTHING_READ),
-        (5, Status::ReadFault, ONE_READ),
-        (7, Status::ReadFault, ONE_READ),
-        (8, Status::ReadFault, BOTH_READ),
-        (9, Status::Done, TWO_SYNS),
-    ];
-    let file = file_of(rt.alloc(), &TWO_SYNS_PARTS)?;
-    for (number, status, text) in rows {
-        let mut source = MemorySource::new(rt.alloc(), &file, 24, &[number])?;
-        let mut sink = MemorySink::new(rt.alloc(), 2000, &[])?;
-        let found = run_line(&rt, rt.alloc(), WORDS, &mut source, &mut sink)?;
-        assert_eq!(rt; found, status, "read {number}");
-        assert_eq!(rt; sink.bytes(), text.as_bytes(), "read {number}");
-    }
-    Ok(())
-}
-
-/// A sink with room for less than the report takes the front that it has room for, and one with room
-/// for all of it takes all. That the run says so with a status, and that no byte is lost on the way to
-/// a full sink, is shown for every twentieth length.
-#[test]
-fn full_sink_holds_a_front(rt: HostRuntime) -> Result<(), Fail> {
-    let text = TWO_SYNS.as_bytes();
-    let file = file_of(rt.alloc(), &TWO_SYNS_PARTS)?;
-    for part in 0..32_usize {
-        let room = (part * 20).min(text.len());
-        let mut source = MemorySource::new(rt.alloc(), &file, 1000, &[])?;
-        let mut sink = MemorySink::new(rt.alloc(), room, &[])?;
-        let status = run_line(&rt, rt.alloc(), WORDS, &mut source, &mut sink)?;
-        let whole = if room == text.len() {
-            Status::Done
-        } else {
-            Status::WriteFault
-        };
-        assert_eq!(rt; status, whole, "room {room}");
-        assert_eq!(rt; sink.bytes(), &text[..room], "room {room}");
-    }
-    Ok(())
-}
 
 /// The lines of the head and of the one batch, which are put before the rest.
 const BATCH_FRONT: &str = "\
@@ -140,6 +61,7 @@ fn failing_write_ends_the_run(rt: HostRuntime) -> Result<(), Fail> {
 fn wrong_words_touch_nothing(rt: HostRuntime) -> Result<(), Fail> {
     let lines = [
         "serve --seats 9",
+        "serve --depth 13",
         "serve --depth 4 --start 5",
         "serve --rows 1,2,3",
         "replay",

@@ -52,6 +52,28 @@ const CUT: [u8; 69] = [
 fn heads_with_faults(rt: HostRuntime) -> Result<(), Fail> {
     let rows = [
         Row {
+            line: "serve --seats 1 --items 2 --depth 2 --hash ports",
+            capture: &[Part::Bytes(&SHORT_HEAD)],
+            status: Status::BadCapture,
+            text: "\
+                flowdir serve seats 1 items 2 depth 2 start 0 hash ports seed 0 share round\n\
+                leaves 1 depth 0\n\
+                input fault short-header at 0 found 23\n\
+                count packets 0 calls 0 passed 0 full 0 pending 0 unbegun 0\n\
+                steps update 0 bound 495 lookup 0\n",
+        },
+        Row {
+            line: "serve --seats 1 --items 2 --depth 2 --hash ports",
+            capture: &[],
+            status: Status::BadCapture,
+            text: "\
+                flowdir serve seats 1 items 2 depth 2 start 0 hash ports seed 0 share round\n\
+                leaves 1 depth 0\n\
+                input fault short-header at 0 found 0\n\
+                count packets 0 calls 0 passed 0 full 0 pending 0 unbegun 0\n\
+                steps update 0 bound 495 lookup 0\n",
+        },
+        Row {
             line: "serve --seats 1 --depth 0",
             capture: &[],
             status: Status::BadCapture,

@@ -59,12 +59,21 @@ fn gate_sees_each_call_and_its_answer(rt: HostRuntime) -> Result<(), Fail> {
 /// How often a call looks for what it waits for.
 const TURNS: u32 = 200_000_000;
 
-/// A flag for each of two seats. At its first call each raises its own and looks for the other's.
+/// What one of two seats shows the other.
+#[derive(Drop)]
+struct Flag {
+    /// How many batches the seat has begun.
+    begun: AtomicU64,
+    /// In how many it saw the other one there.
+    saw: AtomicU64,
+}
+
+/// A flag for each of two seats. At its first call of a batch each raises its own, and looks for the other's to be as
+/// high.
 #[derive(Drop)]
 struct Meeting {
-    first: AtomicU64,
-    second: AtomicU64,
-    met: AtomicU64,
+    first: Flag,
+    second: Flag,
 }
 
 impl Gate for Meeting {
@@ -77,10 +86,10 @@ impl Gate for Meeting {
         } else {
             (&self.second, &self.first)
         };
-        own.store(1, Ordering::SeqCst);
+        let before = own.begun.fetch_add(1, Ordering::SeqCst);
         for _ in 0..TURNS {
-            if other.load(Ordering::SeqCst) == 1 {
-                self.met.fetch_add(1, Ordering::SeqCst);
+            if other.begun.load(Ordering::SeqCst) > before {
+                own.saw.fetch_add(1, Ordering::SeqCst);
                 return;
             }
         }
@@ -89,26 +98,43 @@ impl Gate for Meeting {
     fn told(&self, _seat: u32, _number: u32, _answer: u64) {}
 }
 
-/// Two callers are in their first calls at once, where a capture is served and where one is tried. A body that makes
-/// one call after the other reaches its limit of turns. No clause says that callers run in threads.
+/// A flag that is down.
+fn new_flag() -> Flag {
+    Flag {
+        begun: AtomicU64::new(0),
+        saw: AtomicU64::new(0),
+    }
+}
+
+/// Two callers are in their first calls of a batch at once, where a capture is served and where one of 5,000 packets is
+/// tried, which are three batches. A body that makes one call after the other reaches its limit of turns. No clause
+/// says that callers run in threads.
 #[test]
 fn two_callers_meet(rt: HostRuntime) -> Result<(), Fail> {
     let file = file_of(
         rt.alloc(),
         &[Part::Bytes(&HEAD), Part::Syn(1), Part::Syn(2)],
     )?;
-    for line in ["serve --seats 2", "trial --packets 100 --seats 2"] {
+    let rows = [
+        ("serve --seats 2 --share round", 1),
+        ("trial --number 7 --packets 5000", 3),
+    ];
+    for (line, batches) in rows {
         let meeting = Meeting {
-            first: AtomicU64::new(0),
-            second: AtomicU64::new(0),
-            met: AtomicU64::new(0),
+            first: new_flag(),
+            second: new_flag(),
         };
         let mut source = MemorySource::new(rt.alloc(), &file, 1000, &[])?;
         let mut sink = MemorySink::new(rt.alloc(), 2000, &[])?;
         let words = words_of(rt.alloc(), line)?;
         let status = run(&rt, rt.alloc(), &words, &mut source, &mut sink, &meeting);
         assert_eq!(rt; status, Status::Done, "{line}");
-        assert_eq!(rt; meeting.met.load(Ordering::SeqCst), 2, "{line}");
+        assert_eq!(rt; meeting.first.saw.load(Ordering::SeqCst), batches, "{line}");
+        assert_eq!(rt;
+            meeting.second.saw.load(Ordering::SeqCst),
+            batches,
+            "{line}"
+        );
     }
     Ok(())
 }
@@ -151,89 +177,39 @@ impl Gate for Follower {
     }
 }
 
-/// What a line of the report begins and ends with, around its steps.
-type Around = (&'static str, &'static str);
-
-/// Every line that is wanted stands in the text.
-fn expect_lines<R: Threads + Abort + Sync>(
-    rt: &R,
-    text: &[u8],
-    wanted: &[Around],
-) -> Result<(), Fail> {
-    let Ok(text) = str::from_utf8(text) else {
-        return Err(Fail::from("no text"));
-    };
-    for (front, back) in wanted {
-        let mut found = false;
-        for line in text.lines() {
-            if line.starts_with(*front) && line.ends_with(*back) {
-                found = true;
-            }
-        }
-        assert!(rt; found, "{front} .. {back}");
-    }
-    Ok(())
-}
-
-/// What is printed where the seats go in this order of their packets: 2 1 4 3 6 5.
-const ONE_WAY: [Around; 8] = [
-    (
-        "call 1 seat 0 lookup 10.0.0.1:1-10.0.0.2:80/tcp found 2 steps ",
-        " after 0,1",
-    ),
-    (
-        "call 2 seat 1 insert 10.0.0.1:1-10.0.0.2:80/tcp new 2 steps ",
-        " after 0,0",
-    ),
-    (
-        "call 3 seat 0 remove 10.0.0.1:1-10.0.0.2:80/tcp gone 2 steps ",
-        " after 1,2",
-    ),
-    (
-        "call 4 seat 1 lookup 10.0.0.1:1-10.0.0.2:80/tcp found 2 steps ",
-        " after 1,1",
-    ),
-    (
-        "call 5 seat 0 insert 10.0.0.1:1-10.0.0.2:80/tcp new 5 steps ",
-        " after 2,3",
-    ),
-    (
-        "call 6 seat 1 lookup 10.0.0.1:1-10.0.0.2:80/tcp absent steps ",
-        " after 2,2",
-    ),
-    ("order 2 1 4 3 6 5", ""),
-    ("session 10.0.0.1:1-10.0.0.2:80/tcp 5", ""),
-];
+/// What is printed where the seats go in this order of their packets: 2 1 4 3 6 5. No call runs beside another, so that
+/// the steps are those of the program of a seat, worked by hand: an update takes 51 where the other seat has announced
+/// nothing and 56 where it has, and a lookup 8, and 3 more where the session is there.
+const ONE_WAY: &str = "\
+    flowdir serve seats 2 items 2 depth 1 start 1 hash ports seed 0 share round\n\
+    call 1 seat 0 lookup 10.0.0.1:1-10.0.0.2:80/tcp found 2 steps 11 after 0,1\n\
+    call 2 seat 1 insert 10.0.0.1:1-10.0.0.2:80/tcp new 2 steps 51 after 0,0\n\
+    call 3 seat 0 remove 10.0.0.1:1-10.0.0.2:80/tcp gone 2 steps 56 after 1,2\n\
+    call 4 seat 1 lookup 10.0.0.1:1-10.0.0.2:80/tcp found 2 steps 11 after 1,1\n\
+    call 5 seat 0 insert 10.0.0.1:1-10.0.0.2:80/tcp new 5 steps 56 after 2,3\n\
+    call 6 seat 1 lookup 10.0.0.1:1-10.0.0.2:80/tcp absent steps 8 after 2,2\n\
+    order 2 1 4 3 6 5\n\
+    session 10.0.0.1:1-10.0.0.2:80/tcp 5\n\
+    leaves 2 depth 1\n\
+    input done rest 0\n\
+    count packets 6 calls 6 passed 0 full 0 pending 0 unbegun 0\n\
+    steps update 56 bound 710 lookup 11\n";
 
 /// And in this: 1 2 3 4 5 6.
-const OTHER_WAY: [Around; 8] = [
-    (
-        "call 1 seat 0 lookup 10.0.0.1:1-10.0.0.2:80/tcp absent steps ",
-        " after 0,0",
-    ),
-    (
-        "call 2 seat 1 insert 10.0.0.1:1-10.0.0.2:80/tcp new 2 steps ",
-        " after 1,0",
-    ),
-    (
-        "call 3 seat 0 remove 10.0.0.1:1-10.0.0.2:80/tcp gone 2 steps ",
-        " after 1,1",
-    ),
-    (
-        "call 4 seat 1 lookup 10.0.0.1:1-10.0.0.2:80/tcp absent steps ",
-        " after 2,1",
-    ),
-    (
-        "call 5 seat 0 insert 10.0.0.1:1-10.0.0.2:80/tcp new 5 steps ",
-        " after 2,2",
-    ),
-    (
-        "call 6 seat 1 lookup 10.0.0.1:1-10.0.0.2:80/tcp found 5 steps ",
-        " after 3,2",
-    ),
-    ("order 1 2 3 4 5 6", ""),
-    ("session 10.0.0.1:1-10.0.0.2:80/tcp 5", ""),
-];
+const OTHER_WAY: &str = "\
+    flowdir serve seats 2 items 2 depth 1 start 1 hash ports seed 0 share round\n\
+    call 1 seat 0 lookup 10.0.0.1:1-10.0.0.2:80/tcp absent steps 8 after 0,0\n\
+    call 2 seat 1 insert 10.0.0.1:1-10.0.0.2:80/tcp new 2 steps 51 after 1,0\n\
+    call 3 seat 0 remove 10.0.0.1:1-10.0.0.2:80/tcp gone 2 steps 56 after 1,1\n\
+    call 4 seat 1 lookup 10.0.0.1:1-10.0.0.2:80/tcp absent steps 8 after 2,1\n\
+    call 5 seat 0 insert 10.0.0.1:1-10.0.0.2:80/tcp new 5 steps 56 after 2,2\n\
+    call 6 seat 1 lookup 10.0.0.1:1-10.0.0.2:80/tcp found 5 steps 11 after 3,2\n\
+    order 1 2 3 4 5 6\n\
+    session 10.0.0.1:1-10.0.0.2:80/tcp 5\n\
+    leaves 2 depth 1\n\
+    input done rest 0\n\
+    count packets 6 calls 6 passed 0 full 0 pending 0 unbegun 0\n\
+    steps update 56 bound 710 lookup 11\n";
 
 /// Runs two callers whose six calls the gate holds to an order. No call waits in vain, and the answers are these. What
 /// was put is in the sink.
@@ -273,16 +249,17 @@ const SIX_PACKETS: [Part; 7] = [
 ];
 
 /// Two callers make six calls in an order that the gate holds them to, each told before the next begins. That order is
-/// printed, with the replies of one caller who makes them so.
+/// printed, with the replies of one caller who makes them so, and nothing else.
 #[test]
 fn callers_follow_gate(rt: HostRuntime) -> Result<(), Fail> {
-    let line = "serve --seats 2 --hash ports";
+    let line = "serve --seats 2 --items 2 --depth 1 --start 1 --hash ports --share round";
     let crossed = [(1, 1), (0, 1), (1, 2), (0, 2), (1, 3), (0, 3)];
-    let sink = follow(&rt, rt.alloc(), line, crossed, 22_200)?;
-    expect_lines(&rt, sink.bytes(), &ONE_WAY)?;
     let straight = [(0, 1), (1, 1), (0, 2), (1, 2), (0, 3), (1, 3)];
-    let sink = follow(&rt, rt.alloc(), line, straight, 2_005)?;
-    expect_lines(&rt, sink.bytes(), &OTHER_WAY)
+    for (order, digits, text) in [(crossed, 22_200, ONE_WAY), (straight, 2_005, OTHER_WAY)] {
+        let sink = follow(&rt, rt.alloc(), line, order, digits)?;
+        assert_eq!(rt; sink.bytes(), text.as_bytes(), "{digits}");
+    }
+    Ok(())
 }
 
 /// The trial of six packets, worked from the definition of the made capture by a program apart: the calls insert a flow

@@ -133,12 +133,25 @@ fn one_flow_in_odd_files(rt: HostRuntime) -> Result<(), Fail> {
     expect_rows(&rt, rt.alloc(), &rows)
 }
 
-/// A flow that is there already, a class that is full, packets that make no call, and a tagged
+/// A flow that is not there, one that is there already, a class that is full, packets that make no call, and a tagged
 /// datagram with its answer, which are one flow. Whether the definitions of heads, flows and the
 /// plain map mean what was meant is no clause's to say.
 #[test]
 fn flows_by_their_packets(rt: HostRuntime) -> Result<(), Fail> {
     let rows = [
+        Row {
+            line: "serve --seats 1 --items 2 --depth 1 --start 1 --hash ports",
+            capture: &[Part::Bytes(&HEAD), Part::Ack(1)],
+            status: Status::Done,
+            text: "\
+                flowdir serve seats 1 items 2 depth 1 start 1 hash ports seed 0 share round\n\
+                call 1 seat 0 lookup 10.0.0.1:1-10.0.0.2:80/tcp absent steps 7 after 0\n\
+                order 1\n\
+                leaves 2 depth 1\n\
+                input done rest 0\n\
+                count packets 1 calls 1 passed 0 full 0 pending 0 unbegun 0\n\
+                steps update 0 bound 423 lookup 7\n",
+        },
         Row {
             line: "serve --seats 1 --items 2 --depth 1 --start 1 --hash ports",
             capture: &[Part::Bytes(&HEAD), Part::Syn(1), Part::Syn(1)],
@@ -250,30 +263,33 @@ fn ninth_flow_finds_no_room(rt: HostRuntime) -> Result<(), Fail> {
     expect_rows(&rt, rt.alloc(), &[row])
 }
 
-/// A name is looked up, and a page is fetched, with the settings as by default.
+/// The report of a name and a page, with the settings as by default.
+pub(super) const NAME_AND_PAGE: &str = "\
+    flowdir serve seats 1 items 8 depth 10 start 0 hash mix seed 0 share round\n\
+    call 1 seat 0 insert 192.168.1.1:53-192.168.1.10:53211/udp new 1 steps 81 after 0\n\
+    call 2 seat 0 insert 192.168.1.1:53-192.168.1.10:53211/udp old 1 steps 81 after 1\n\
+    call 3 seat 0 insert 93.184.216.34:443-192.168.1.10:50412/tcp new 3 steps 81 after 2\n\
+    call 4 seat 0 lookup 93.184.216.34:443-192.168.1.10:50412/tcp found 3 steps 13 after 3\n\
+    call 5 seat 0 lookup 93.184.216.34:443-192.168.1.10:50412/tcp found 3 steps 13 after 4\n\
+    call 6 seat 0 lookup 93.184.216.34:443-192.168.1.10:50412/tcp found 3 steps 13 after 5\n\
+    call 7 seat 0 remove 93.184.216.34:443-192.168.1.10:50412/tcp gone 3 steps 81 after 6\n\
+    call 8 seat 0 remove 93.184.216.34:443-192.168.1.10:50412/tcp absent steps 81 after 7\n\
+    call 9 seat 0 lookup 93.184.216.34:443-192.168.1.10:50412/tcp absent steps 10 after 8\n\
+    order 1 2 3 4 5 6 7 8 9\n\
+    session 192.168.1.1:53-192.168.1.10:53211/udp 1\n\
+    leaves 1 depth 0\n\
+    input done rest 0\n\
+    count packets 9 calls 9 passed 0 full 0 pending 0 unbegun 0\n\
+    steps update 81 bound 10165 lookup 13\n";
+
+/// A name is looked up, and a page is fetched.
 #[test]
 fn name_and_page(rt: HostRuntime) -> Result<(), Fail> {
     let row = Row {
         line: "serve --seats 1",
         capture: &DNS_AND_WEB,
         status: Status::Done,
-        text: "\
-            flowdir serve seats 1 items 8 depth 10 start 0 hash mix seed 0 share round\n\
-            call 1 seat 0 insert 192.168.1.1:53-192.168.1.10:53211/udp new 1 steps 81 after 0\n\
-            call 2 seat 0 insert 192.168.1.1:53-192.168.1.10:53211/udp old 1 steps 81 after 1\n\
-            call 3 seat 0 insert 93.184.216.34:443-192.168.1.10:50412/tcp new 3 steps 81 after 2\n\
-            call 4 seat 0 lookup 93.184.216.34:443-192.168.1.10:50412/tcp found 3 steps 13 after 3\n\
-            call 5 seat 0 lookup 93.184.216.34:443-192.168.1.10:50412/tcp found 3 steps 13 after 4\n\
-            call 6 seat 0 lookup 93.184.216.34:443-192.168.1.10:50412/tcp found 3 steps 13 after 5\n\
-            call 7 seat 0 remove 93.184.216.34:443-192.168.1.10:50412/tcp gone 3 steps 81 after 6\n\
-            call 8 seat 0 remove 93.184.216.34:443-192.168.1.10:50412/tcp absent steps 81 after 7\n\
-            call 9 seat 0 lookup 93.184.216.34:443-192.168.1.10:50412/tcp absent steps 10 after 8\n\
-            order 1 2 3 4 5 6 7 8 9\n\
-            session 192.168.1.1:53-192.168.1.10:53211/udp 1\n\
-            leaves 1 depth 0\n\
-            input done rest 0\n\
-            count packets 9 calls 9 passed 0 full 0 pending 0 unbegun 0\n\
-            steps update 81 bound 10165 lookup 13\n",
+        text: NAME_AND_PAGE,
     };
     expect_rows(&rt, rt.alloc(), &[row])
 }

@@ -46,6 +46,23 @@ fn third_flow_splits_the_bucket(rt: HostRuntime) -> Result<(), Fail> {
         },
         Row {
             line: "serve --seats 1 --items 2 --depth 2 --hash ports",
+            capture: &[Part::Bytes(&HEAD), Part::Syn(1), Part::Syn(2), Part::Syn(3)],
+            status: Status::Done,
+            text: "\
+                flowdir serve seats 1 items 2 depth 2 start 0 hash ports seed 0 share round\n\
+                call 1 seat 0 insert 10.0.0.1:1-10.0.0.2:80/tcp new 1 steps 45 after 0\n\
+                call 2 seat 0 insert 10.0.0.1:2-10.0.0.2:80/tcp new 2 steps 45 after 1\n\
+                call 3 seat 0 insert 10.0.0.1:3-10.0.0.2:80/tcp noroom steps 117 after 2\n\
+                order 1 2 3\n\
+                session 10.0.0.1:1-10.0.0.2:80/tcp 1\n\
+                session 10.0.0.1:2-10.0.0.2:80/tcp 2\n\
+                leaves 3 depth 2\n\
+                input done rest 0\n\
+                count packets 3 calls 3 passed 0 full 0 pending 0 unbegun 0\n\
+                steps update 117 bound 495 lookup 0\n",
+        },
+        Row {
+            line: "serve --seats 1 --items 2 --depth 2 --hash ports",
             capture: &[
                 Part::Bytes(&HEAD),
                 Part::Syn(1),
@@ -146,6 +163,62 @@ fn rows_that_are_too_few(rt: HostRuntime) -> Result<(), Fail> {
                 input done rest 0\n\
                 count packets 1 calls 1 passed 0 full 0 pending 0 unbegun 0\n\
                 steps update 0 bound 423 lookup 7\n",
+        },
+    ];
+    expect_rows(&rt, rt.alloc(), &rows)
+}
+
+/// The first insert spends one op row and one bucket row, and no bucket word or directory row: of 1, 4, 2 and 1 there
+/// are 0, 3, 2 and 1 left. The second is refused for want of an op row; with one more for want of a bucket row; and
+/// with one more of each it finds the bucket words and the directory row that it needs.
+#[test]
+fn rows_that_one_insert_leaves(rt: HostRuntime) -> Result<(), Fail> {
+    let rows = [
+        Row {
+            line: "serve --seats 1 --items 2 --depth 1 --start 1 --hash ports --rows 1,4,2,1",
+            capture: &[Part::Bytes(&HEAD), Part::Syn(1), Part::Syn(2)],
+            status: Status::Done,
+            text: "\
+                flowdir serve seats 1 items 2 depth 1 start 1 hash ports seed 0 share round\n\
+                call 1 seat 0 insert 10.0.0.1:1-10.0.0.2:80/tcp new 1 steps 45 after 0\n\
+                call 2 seat 0 insert 10.0.0.1:2-10.0.0.2:80/tcp full oprows 0 1\n\
+                order 1\n\
+                session 10.0.0.1:1-10.0.0.2:80/tcp 1\n\
+                leaves 2 depth 1\n\
+                input done rest 0\n\
+                count packets 2 calls 2 passed 0 full 1 pending 0 unbegun 0\n\
+                steps update 45 bound 423 lookup 0\n",
+        },
+        Row {
+            line: "serve --seats 1 --items 2 --depth 1 --start 1 --hash ports --rows 2,4,2,1",
+            capture: &[Part::Bytes(&HEAD), Part::Syn(1), Part::Syn(2)],
+            status: Status::Done,
+            text: "\
+                flowdir serve seats 1 items 2 depth 1 start 1 hash ports seed 0 share round\n\
+                call 1 seat 0 insert 10.0.0.1:1-10.0.0.2:80/tcp new 1 steps 45 after 0\n\
+                call 2 seat 0 insert 10.0.0.1:2-10.0.0.2:80/tcp full bucketrows 3 4\n\
+                order 1\n\
+                session 10.0.0.1:1-10.0.0.2:80/tcp 1\n\
+                leaves 2 depth 1\n\
+                input done rest 0\n\
+                count packets 2 calls 2 passed 0 full 1 pending 0 unbegun 0\n\
+                steps update 45 bound 423 lookup 0\n",
+        },
+        Row {
+            line: "serve --seats 1 --items 2 --depth 1 --start 1 --hash ports --rows 2,5,2,1",
+            capture: &[Part::Bytes(&HEAD), Part::Syn(1), Part::Syn(2)],
+            status: Status::Done,
+            text: "\
+                flowdir serve seats 1 items 2 depth 1 start 1 hash ports seed 0 share round\n\
+                call 1 seat 0 insert 10.0.0.1:1-10.0.0.2:80/tcp new 1 steps 45 after 0\n\
+                call 2 seat 0 insert 10.0.0.1:2-10.0.0.2:80/tcp new 2 steps 45 after 1\n\
+                order 1 2\n\
+                session 10.0.0.1:1-10.0.0.2:80/tcp 1\n\
+                session 10.0.0.1:2-10.0.0.2:80/tcp 2\n\
+                leaves 2 depth 1\n\
+                input done rest 0\n\
+                count packets 2 calls 2 passed 0 full 0 pending 0 unbegun 0\n\
+                steps update 45 bound 423 lookup 0\n",
         },
     ];
     expect_rows(&rt, rt.alloc(), &rows)
