@@ -33,7 +33,8 @@ pub struct Sizes {
 ///
 /// `given` has the rows of every seat, and then the settings stay. With `None` the greatest depth is what the keys of
 /// the batch can need, and each seat gets the rows that suffice for its share, so that no call is refused: these are at
-/// most the automatic ones, and far fewer where the keys of the batch can split few buckets.
+/// most the automatic ones, and far fewer where the keys of the batch can split few buckets. The only error is want of
+/// memory.
 pub fn sizes_for(
     alloc: Global,
     settings: &Settings,

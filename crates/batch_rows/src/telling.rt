@@ -18,7 +18,8 @@ const FIRST_ROOM: usize = 256;
 
 /// What a batch of these calls asks of its table, of which each seat makes its share, seat 0 first.
 ///
-/// Whoever reads the calls tells this once, while they are at hand: it is far less than the calls.
+/// Whoever reads the calls tells this once, while they are at hand: it is far less than the calls. The only error is
+/// want of memory.
 pub fn demand_of(
     alloc: Global,
     calls: &[(u32, Call)],

@@ -9,7 +9,7 @@ use plain_map::{Call, Reply};
 use std::alloc::{AllocError, Global};
 use trace_share::{Collector, Outcome};
 
-/// How many calls had each reply.
+/// How many calls had each reply, a number for each kind of reply.
 #[derive(Clone, Copy, Debug, PartialEq, Eq)]
 pub struct Replies {
     pub new: u64,
@@ -23,6 +23,7 @@ pub struct Replies {
 /// What calls came to.
 #[derive(Clone, Copy, Debug, PartialEq, Eq)]
 pub struct Totals {
+    /// All of them, those that were refused too.
     pub calls: u64,
     /// Those that were refused.
     pub refused: u64,

@@ -127,7 +127,7 @@ impl Directory {
     /// Opens a table with these pairs, which are held then, and gives its seats in order.
     ///
     /// `NoRoom` comes exactly where a pair finds as many earlier ones of its class as a bucket has room for, and tells
-    /// the first such pair.
+    /// the first such pair; `Memory` where there is too little memory.
     pub fn open(
         alloc: Global,
         settings: &Settings,

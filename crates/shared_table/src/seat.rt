@@ -67,7 +67,7 @@ impl Seat {
     ///
     /// `Full` comes exactly where fewer of a range are left than an update may need; then nothing happened.
     ///
-    /// **Steps:** at most `step_bound`; it waits for nobody and takes no memory.
+    /// **Steps:** at most `step_counts::bound` of the table's settings; it waits for nobody and takes no memory.
     pub fn insert(
         &mut self,
         directory: &Directory,
@@ -91,7 +91,7 @@ impl Seat {
     ///
     /// `Full` comes exactly where fewer of a range are left than an update may need; then nothing happened.
     ///
-    /// **Steps:** at most `step_bound`; it waits for nobody and takes no memory.
+    /// **Steps:** at most `step_counts::bound` of the table's settings; it waits for nobody and takes no memory.
     pub fn remove(&mut self, directory: &Directory, packet: u32, key: Key) -> Result<Record, Full>
         requires seat { IsOf directory.now self.old }
         requires countable { CanCount (account_of self.old).records }

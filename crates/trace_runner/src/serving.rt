@@ -59,7 +59,8 @@ pub(crate) fn serve<R: Threads + Sync, S: Source, K: Sink, G: Gate + Sync>(
     }
 }
 
-/// The same, up to the ending of the input. What all batches use is made before it is opened.
+/// The same, up to the ending of the input. The workspace and the text, which all batches use, are made before it is
+/// opened.
 fn serve_input<R: Threads + Sync, S: Source, K: Sink, G: Gate + Sync>(
     rt: &R,
     alloc: Global,
