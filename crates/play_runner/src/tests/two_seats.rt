@@ -4,6 +4,7 @@ use super::checks::check;
 use super::tables::Verb::{Insert, Lookup};
 use super::tables::{END, NEVER, Worked, play_of};
 use crate::most_steps;
+use plain_map::CallId;
 use plain_map::Reply::{Absent, Found, New};
 use std::test::Fail;
 
@@ -52,6 +53,35 @@ const IN_TURN: Worked = Worked {
     ..HELPED
 };
 
+/// A lookup of seat 0 comes after an insert of seat 1, whose packet is the later one.
+const FOUND: Worked = Worked {
+    name: "a lookup after a later seat's insert",
+    calls: &[(1, 0, Lookup, 1), (2, 1, Insert, 1)],
+    schedule: &[(1, END)],
+    told: &[(1, Found(2), 11, Some([0, 1])), (2, New, 51, Some([0, 0]))],
+    order: &[2, 1],
+    sessions: &[(1, 2)],
+    ..HELPED
+};
+
+// Each call of the order by its seat, its number and its packet.
+#[test]
+fn the_order_names_seats_and_numbers(rt: HostRuntime) -> Result<(), Fail> {
+    let played = play_of(rt.alloc(), &FOUND)?;
+    let insert = CallId {
+        seat: 1,
+        number: 1,
+        packet: 2,
+    };
+    let lookup = CallId {
+        seat: 0,
+        number: 1,
+        packet: 1,
+    };
+    assert_eq!(rt; played.order.as_slice(), [insert, lookup].as_slice());
+    Ok(())
+}
+
 // The steps of the longest update, and those of the longest lookup.
 #[test]
 fn the_longest_calls(rt: HostRuntime) -> Result<(), Fail> {
@@ -76,15 +106,7 @@ fn two_seats(rt: HostRuntime) -> Result<(), Fail> {
         HELPED,
         IN_TURN,
         SPLIT_UNDER_A_LOOKUP,
-        Worked {
-            name: "a lookup after a later seat's insert",
-            calls: &[(1, 0, Lookup, 1), (2, 1, Insert, 1)],
-            schedule: &[(1, END)],
-            told: &[(1, Found(2), 11, Some([0, 1])), (2, New, 51, Some([0, 0]))],
-            order: &[2, 1],
-            sessions: &[(1, 2)],
-            ..HELPED
-        },
+        FOUND,
         Worked {
             name: "a lost exchange",
             schedule: &[(0, Some(49)), (1, END), (0, END)],
