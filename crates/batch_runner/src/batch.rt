@@ -137,8 +137,8 @@ pub fn serve_batch<R: Threads + Sync, G: Gate + Sync>(
 }
 
 /// The same without lines and order, where the calls are dealt already and it is told what they ask of the table. The
-/// shares are those of the seats, seat 0 first. Before the caller's thread makes calls it does this once; what this gave
-/// comes beside what the batch came to.
+/// shares are those of the seats, seat 0 first. Before the caller's thread makes calls it does this once; what this
+/// gave comes beside what the batch came to.
 pub fn try_batch<R: Threads + Sync, G: Gate + Sync, F: FnMut() -> A, A: Drop>(
     rt: &R,
     alloc: Global,

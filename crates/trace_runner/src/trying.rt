@@ -210,8 +210,8 @@ fn read_and_deal<S: Source>(
 }
 
 /// Serves the calls of a batch, and meanwhile reads the next batch, behind so many packets, into a list that is empty,
-/// and deals its calls. Where there are several seats, the thread that makes the last ones' calls does it first, so that
-/// the others are ahead; for one seat a thread of its own does it.
+/// and deals its calls. Where there are several seats, the thread that makes the last one's calls does it first, so
+/// that the others are ahead; for one seat a thread of its own does it, or this one where none can be made.
 fn try_and_read<R: Threads + Sync, S: Source + Send, G: Gate + Sync>(
     rt: &R,
     alloc: Global,
