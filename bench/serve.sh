@@ -47,9 +47,10 @@ awk '{ if (!($1 in least) || $2 < least[$1]) least[$1] = $2; if ($3 > most[$1]) 
             least["trial1"] / least["softflowd"], least["trial2"] / least["softflowd"]
     }' "$work/times"
 
-# The cost of a packet by the length of the capture, in interleaved turns too: with what a capture of no packet takes,
-# without it, and of the packets by which one capture is longer than the next shorter one; and how far each of these
-# differs. The shorter ones are served more often in a turn, since they are over sooner.
+# The cost of a packet by the length of the capture, for 1 and for 2 callers, in interleaved turns too: with what a
+# capture of no packet takes, without it, and of the packets by which one capture is longer than the next shorter one;
+# and how far each of these differs. The shorter ones are served more often in a turn, since they are over sooner. With 2
+# callers the least of many short runs is one in which the callers hardly met, which no long run is.
 rm "$work/times"
 lengths="0 10000 100000 1000000 $packets"
 for many in $lengths; do
@@ -60,10 +61,12 @@ for _ in $(seq "$turns"); do
         runs=20
         [ "$many" -le 100000 ] || runs=$((1 + 4000000 / many))
         for _ in $(seq "$runs"); do
-            : >"$work/out"
-            start="$EPOCHREALTIME"
-            "$flowdir" serve --seats 2 <"$work/$many.pcap" >>"$work/out"
-            echo "$many ${start/[.,]/} ${EPOCHREALTIME/[.,]/}" >>"$work/times"
+            for seats in 1 2; do
+                : >"$work/out"
+                start="$EPOCHREALTIME"
+                "$flowdir" serve --seats "$seats" <"$work/$many.pcap" >>"$work/out"
+                echo "$seats $many ${start/[.,]/} ${EPOCHREALTIME/[.,]/}" >>"$work/times"
+            done
         done
     done
 done
@@ -77,20 +80,23 @@ awk -v lengths="$lengths" '
         }
         printf "%s the dearest costs %.2f of the cheapest\n", what, dearest / cheapest
     }
-    { took = $3 - $2; if (!($1 in least) || took < least[$1]) least[$1] = took }
+    { took = $4 - $3; if (!(($1, $2) in least) || took < least[$1, $2]) least[$1, $2] = took }
     END {
-        printf "0 packets: %.1f ms in all\n", least[0] / 1e3
         count = split(lengths, many, " ")
-        for (i = 2; i <= count; i++) {
-            whole[i] = least[many[i]] / many[i] * 1e3
-            beyond[i] = (least[many[i]] - least[0]) / many[i] * 1e3
-            printf "%s packets: %.0f ns a packet, %.0f beyond the start\n", many[i], whole[i], beyond[i]
+        for (seats = 1; seats <= 2; seats++) {
+            start = least[seats, 0]
+            printf "with %d seats, 0 packets: %.1f ms in all\n", seats, start / 1e3
+            for (i = 2; i <= count; i++) {
+                whole[i] = least[seats, many[i]] / many[i] * 1e3
+                beyond[i] = (least[seats, many[i]] - start) / many[i] * 1e3
+                printf "%s packets: %.0f ns a packet, %.0f beyond the start\n", many[i], whole[i], beyond[i]
+            }
+            for (i = 3; i <= count; i++) {
+                further[i] = (least[seats, many[i]] - least[seats, many[i - 1]]) / (many[i] - many[i - 1]) * 1e3
+                printf "from %s packets on to %s: %.0f ns a packet\n", many[i - 1], many[i], further[i]
+            }
+            differs("with the start", whole, 2)
+            differs("beyond the start", beyond, 2)
+            differs("from " many[2] " packets on", further, 3)
         }
-        for (i = 3; i <= count; i++) {
-            further[i] = (least[many[i]] - least[many[i - 1]]) / (many[i] - many[i - 1]) * 1e3
-            printf "from %s packets on to %s: %.0f ns a packet\n", many[i - 1], many[i], further[i]
-        }
-        differs("with the start", whole, 2)
-        differs("beyond the start", beyond, 2)
-        differs("from " many[2] " packets on", further, 3)
     }' "$work/times"
