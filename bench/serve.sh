@@ -49,8 +49,8 @@ awk '{ if (!($1 in least) || $2 < least[$1]) least[$1] = $2; if ($3 > most[$1]) 
 
 # The cost of a packet by the length of the capture, for 1 and for 2 callers, in interleaved turns too: with what a
 # capture of no packet takes, without it, and of the packets by which one capture is longer than the next shorter one;
-# and how far each of these differs. The shorter ones are served more often in a turn, since they are over sooner. With 2
-# callers the least of many short runs is one in which the callers hardly met, which no long run is.
+# and how far each of these differs. The shorter ones are served more often in a turn, since they are over sooner. With
+# 2 callers the least of many short runs is one in which the callers hardly met, which no long run is.
 rm "$work/times"
 lengths="0 10000 100000 1000000 $packets"
 for many in $lengths; do
