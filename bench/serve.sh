@@ -85,7 +85,7 @@ awk -v lengths="$lengths" '
         count = split(lengths, many, " ")
         for (seats = 1; seats <= 2; seats++) {
             start = least[seats, 0]
-            printf "with %d seats, 0 packets: %.1f ms in all\n", seats, start / 1e3
+            printf "seats %d, 0 packets: %.1f ms in all\n", seats, start / 1e3
             for (i = 2; i <= count; i++) {
                 whole[i] = least[seats, many[i]] / many[i] * 1e3
                 beyond[i] = (least[seats, many[i]] - start) / many[i] * 1e3
