@@ -5,7 +5,7 @@ ghost use Rattle.batch_orders.specs.Batches.{gone_on, seen_on, with_counts};
 ghost use Rattle.flow_keys.specs.FlowText.{HasText};
 ghost use Rattle.plain_map.specs.Calls.{key_in};
 ghost use Rattle.trace_share.specs.declared.outcome.Outcome.TheVariants.{Answered, Refused};
-ghost use Rattle.report_text.specs.Report.{after_words, call_in, call_words, full_words, outcome_line, outcome_on, pending_line, reply_words, short_word, steps_words, value_in, verb_word};
+ghost use Rattle.report_text.specs.Report.{after_words, call_in, call_words, full_words, outcome_line, outcome_on, pending_line, reply_words, short_word, value_in, verb_word};
 ghost use Rattle.report_text.specs.Lines.{counts_word, room, Puts, text_in};
 
 use crate::line::Line;
@@ -86,7 +86,7 @@ fn put_answered(out: &mut Line, seats: u32, before: &[u32], seat: u32, answer: &
     begin_line(out, b"call");
     put_call(out, answer.packet, seat, &answer.call);
     put_reply(out, &answer.call, answer.reply);
-    put_steps(out, answer.steps);
+    put_named(out, b"steps", answer.steps);
     put_after(out, seats, before, &answer.seen);
     end_line(out);
 }
@@ -159,18 +159,6 @@ fn value_in(call: &Call) -> u64
     match call {
         Call::Insert(_, value) => *value,
         Call::Remove(_) | Call::Lookup(_) => 0,
-    }
-}
-
-// Appends how many steps a call took, where it took any.
-#[inline(always)]
-fn put_steps(out: &mut Line, steps: u64)
-    requires { 27 ≤ room out.old }
-    ensures puts { Puts (text_in out.old) (steps_words steps) (text_in out.new) }
-    ensures taken { room out.old ≤ room out.new + 27 }
-{
-    if steps != 0 {
-        put_named(out, b"steps", steps);
     }
 }
 

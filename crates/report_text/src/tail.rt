@@ -17,9 +17,6 @@ use std::alloc::AllocError;
 const HEX_DIGITS: &[u8; 16] = b"0123456789abcdef";
 
 /// Appends the last lines.
-///
-/// Where `bound` is 0 calls take no steps and there is no table, so that there is no line for the
-/// leaves and none for the steps.
 pub fn tail_text(out: &mut Vec<u8>, tail: &Tail) -> Result<(), AllocError>
     requires { IsEnding tail.now.ending }
     ensures appended { OnOk result (out.new.items ≡ out.old.items ++ tail_lines tail.now) }
@@ -36,15 +33,10 @@ fn put_tail(out: &mut Line, tail: &Tail)
     requires space { 512 ≤ room out.old }
     ensures { text_in out.new ≡ text_in out.old ++ tail_lines tail.now }
 {
-    if tail.bound == 0 {
-        put_input(out, &tail.ending);
-        put_count(out, tail);
-    } else {
-        put_leaves(out, tail);
-        put_input(out, &tail.ending);
-        put_count(out, tail);
-        put_steps(out, tail);
-    }
+    put_leaves(out, tail);
+    put_input(out, &tail.ending);
+    put_count(out, tail);
+    put_steps(out, tail);
 }
 
 // Appends how many leaves the last table has.

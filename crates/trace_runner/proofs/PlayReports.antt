@@ -1,6 +1,6 @@
 -- The report of a play: its text, and that it is what the definitions say.
 use Rattle.std.proofs.Common.{◌≡◌, ◌<◌, ◌≤◌, ◌^◌, ℕ, List, [], ◌++◌, length, Option, Result, Ok, Err, refl, sym, ap, subst, ◌∙◌, append_assoc, append-nil, arith}
-use Rattle.std.specs.Prelude.{OnOk}
+use Rattle.std.specs.Prelude.{OnOk, true}
 use Rattle.std.specs.List.{All, flat_map}
 use Rattle.std.proofs.lemmas.List.Elements.{All-weaker}
 use Rattle.std.proofs.lemmas.List.Sorted.{All-permutation}
@@ -26,8 +26,8 @@ use Rattle.batch_runner.proofs.Deals.{dealt_hold}
 use Rattle.batch_runner.proofs.Shallow.{shallow}
 use Rattle.command_line.specs.declared.plan.Plan.{Plan}
 use Rattle.trace_runner.specs.Reading.{AreBetween, Ascending, IsBetween}
-use Rattle.trace_runner.specs.Served.{IsServiceOf}
-use Rattle.trace_runner.specs.Playing.{IsPlayOf, IsRightPlay, PlaysAreAnswered, PlaysAreRight, play_head, play_in, play_report, play_setup, play_tail, played_lines, ranges_for, schedule_in}
+use Rattle.trace_runner.specs.Served.{IsServiceOf, head_of}
+use Rattle.trace_runner.specs.Playing.{IsPlayOf, IsRightPlay, PlaysAreAnswered, PlaysAreRight, play_in, play_report, play_setup, play_tail, played_lines, ranges_for, schedule_in}
 use Rattle.trace_runner.proofs.DealtLemmas.{ToldRight, told-dealt}
 use Rattle.trace_runner.proofs.PlayLines.{lines-right}
 use Rattle.trace_runner.proofs.PlayTurns.{ascending-turn, dealt-turn, play_turns}
@@ -62,14 +62,14 @@ lines-played seats played start ended under_way text a b c =
 pub report-played :
     (plan : Plan) (service : Service) (packets calls : ℕ) (played : Played) (ending : Ending)
     (none head lines sessions text : List ℕ) →
-    none ≡ [] → head ≡ none ++ head_line (play_head plan) →
+    none ≡ [] → head ≡ none ++ head_line (head_of true plan) →
     lines ≡ head ++ batch_lines plan.seats (played_lines played) →
     sessions ≡ lines ++ flat_map session_line played.pairs.items →
     text ≡ sessions ++ tail_lines (play_tail service packets calls played ending) →
     text ≡ report_of (play_report plan service packets calls played ending)
 unfolding report_of
 report-played plan service packets calls played ending none head lines sessions text a b c d e =
-    let first : List ℕ = head_line (play_head plan) in
+    let first : List ℕ = head_line (head_of true plan) in
     let batch : List ℕ = batch_lines plan.seats (played_lines played) in
     let pairs : List ℕ = flat_map session_line played.pairs.items in
     let tail : List ℕ = tail_lines (play_tail service packets calls played ending) in

@@ -1,5 +1,6 @@
 -- The text of a report, as it is put piece by piece.
 use Rattle.std.proofs.Common.{◌≡◌, ℕ, List, [], ◌∷◌, ◌++◌, Option, Result, Ok, Err, sym, ◌∙◌, ap, subst, append_assoc, append-nil}
+use Rattle.std.specs.Prelude.{false}
 use Rattle.std.specs.List.{flat_map}
 use Rattle.std.specs.Io.KnownBytes.{Appends}
 use Rattle.std.proofs.KnownBytes.{Appends-nil, Appends-trans}
@@ -61,13 +62,13 @@ HasPut-front plan service batches before now held put =
     record { front = put.done; rest = held; parts = sym put.lines; appended = put.put }
 
 -- of no batches there is the head line alone
-no_lines : (plan : Plan) (service : Service) → head_line (head_of plan) ≡ lines_so_far plan service []
+no_lines : (plan : Plan) (service : Service) → head_line (head_of false plan) ≡ lines_so_far plan service []
 unfolding lines_so_far
-no_lines plan service = sym (append-nil (head_line (head_of plan)))
+no_lines plan service = sym (append-nil (head_line (head_of false plan)))
 
 -- the head line is held, and nothing was put
 pub HasPut-none : (plan : Plan) (service : Service) (now : Option (List ℕ)) (held : List ℕ) →
-    held ≡ head_line (head_of plan) → HasPut plan service [] now now held
+    held ≡ head_line (head_of false plan) → HasPut plan service [] now now held
 HasPut-none plan service now held is =
     record { done = []; put = Appends-nil now; lines = is ∙ no_lines plan service }
 
@@ -128,7 +129,7 @@ pub report_of-run : (plan : Plan) (service : Service) (packets : ℕ) (batches :
     ≡ lines_so_far plan service batches ++ last_lines service packets batches ending
 unfolding report_of lines_so_far
 report_of-run plan service packets batches ending =
-    sym (append_assoc (head_line (head_of plan))
+    sym (append_assoc (head_line (head_of false plan))
     (flat_map (batch_lines plan.seats) (all_lines service no_counts batches))
     (last_lines service packets batches ending))
 

@@ -1,5 +1,6 @@
 -- What is kept of batches that were served, one batch further.
 use Rattle.std.proofs.Common.{◌≡◌, ◌≤◌, ℕ, ◌+◌, List, [], ◌∷◌, ◌++◌, length, map, sym, ◌∙◌, ap, subst, refl, length-append, arith}
+use Rattle.std.specs.Prelude.{false}
 use Rattle.std.specs.List.{All, IsDistinct, flat_map}
 use Rattle.std.proofs.lemmas.List.{flat_map_more}
 use Rattle.std.proofs.lemmas.List.Elements.{All-append, All-cons, All-nil, All-replicate}
@@ -77,9 +78,9 @@ pub lines_so_far-more : (plan : Plan) (service : Service) (batches : List Served
 unfolding lines_so_far
 lines_so_far-more plan service batches batch =
     let lines : Lines = lines_of service (answered_in_all service no_counts batches) batch in
-    ap (λ (all : List Lines). head_line (head_of plan) ++ flat_map (batch_lines plan.seats) all)
+    ap (λ (all : List Lines). head_line (head_of false plan) ++ flat_map (batch_lines plan.seats) all)
     (all_lines-more service no_counts batches batch)
-    ∙ sym (flat_map_more (batch_lines plan.seats) (head_line (head_of plan)) (all_lines service no_counts batches)
+    ∙ sym (flat_map_more (batch_lines plan.seats) (head_line (head_of false plan)) (all_lines service no_counts batches)
     lines)
 
 -- ---- what is kept

@@ -12,7 +12,6 @@ use Rattle.pcap_reader.specs.declared.fault.CaptureFault.{CaptureFault}
 use Rattle.trace_share.specs.declared.outcome.Outcome.{Outcome}
 use Rattle.report_text.specs.declared.parts.Ending.{Ending}
 use Rattle.report_text.specs.declared.parts.Ending.TheVariants.{Done, ReadFault, Limit, Fault}
-use Rattle.report_text.specs.declared.parts.Head.{Head}
 use Rattle.report_text.specs.declared.parts.Tail.{Tail}
 use Rattle.report_text.specs.Report.{Batch, Report, report_of}
 use Rattle.core_model.specs.Setup.{Setup, rules_of, seats_of, settings_of}
@@ -36,7 +35,7 @@ use Rattle.trace_runner.specs.declared.status.Status.TheVariants as status
 use Rattle.trace_runner.specs.Answered.{AreCountedBySeat, answered_on}
 use Rattle.trace_runner.specs.Input.{ServesUpTo}
 use Rattle.trace_runner.specs.PacketCalls.{MakeCalls}
-use Rattle.trace_runner.specs.Served.{IsServiceOf}
+use Rattle.trace_runner.specs.Served.{IsServiceOf, head_of}
 use Rattle.trace_runner.specs.Headline.{PutsFront, TookFor}
 
 -- how many packets `play` takes at most
@@ -132,19 +131,6 @@ PlaysAreAnswered =
 
 -- ---- the report
 
--- what the head line tells
-abbrev pub play_head : Plan → Head
-play_head plan =
-    record {
-      play = true;
-      seats = plan.seats;
-      items = plan.items;
-      depth = plan.depth;
-      start = plan.start;
-      hashing = plan.hashing;
-      share = plan.share;
-    }
-
 -- the lines of the calls that ended, of those that were under way, and of the order
 abbrev pub played_lines : Played → Batch
 played_lines played =
@@ -175,7 +161,7 @@ play_tail service packets calls played ending =
 abbrev pub play_report : Plan → Service → (packets calls : ℕ) → Played → Ending → Report
 play_report plan service packets calls played ending =
     record {
-      head = play_head plan;
+      head = head_of true plan;
       batches = played_lines played ∷ [];
       pairs = played.pairs.items;
       tail = play_tail service packets calls played ending;

@@ -1,5 +1,5 @@
 -- What is promised of packets that were served in batches, and what is printed of them.
-use Rattle.std.specs.Prelude.{◌≡◌, ℕ, ◌-◌, false, List, [], ◌∷◌, ◌++◌, length, map, flat_map, replicate}
+use Rattle.std.specs.Prelude.{◌≡◌, ℕ, ◌-◌, Bool, false, List, [], ◌∷◌, ◌++◌, length, map, flat_map, replicate}
 use Rattle.plain_map.specs.declared.calls.Call.{Call}
 use Rattle.step_counts.specs.Made.{IsMadeOf}
 use Rattle.step_counts.specs.StepCounts.{step_bound}
@@ -66,11 +66,11 @@ pub record AreDone (plan : Plan) (service : Service) (calls : List (ℕ × Call)
 
 -- ---- the report
 
--- what the head line tells
-abbrev pub head_of : Plan → Head
-head_of plan =
+-- what the head line tells, of a play or of calls that are served
+abbrev pub head_of : (play : Bool) → Plan → Head
+head_of play plan =
     record {
-      play = false;
+      play = play;
       seats = plan.seats;
       items = plan.items;
       depth = plan.depth;
@@ -116,7 +116,7 @@ tail_of service packets batches ending =
 abbrev pub run_report : Plan → Service → (packets : ℕ) → List Served → Ending → Report
 run_report plan service packets batches ending =
     record {
-      head = head_of plan;
+      head = head_of false plan;
       batches = all_lines service no_counts batches;
       pairs = pairs_left [] batches;
       tail = tail_of service packets batches ending;
@@ -125,4 +125,4 @@ run_report plan service packets batches ending =
 -- its front up to the lines of these batches
 unfoldable pub lines_so_far : Plan → Service → List Served → List ℕ
 lines_so_far plan service batches =
-    head_line (head_of plan) ++ flat_map (batch_lines plan.seats) (all_lines service no_counts batches)
+    head_line (head_of false plan) ++ flat_map (batch_lines plan.seats) (all_lines service no_counts batches)

@@ -15,12 +15,12 @@ ghost use Rattle.command_line.specs.Words.{IsInRange};
 ghost use Rattle.trace_runner.specs.declared.intake.TheConstants.{PLAY_LIMIT};
 ghost use Rattle.trace_runner.specs.Reading.{AreBetween, HaveEndedUpTo};
 ghost use Rattle.trace_runner.specs.Served.{IsServiceOf};
-ghost use Rattle.trace_runner.specs.Playing.{IsPlayOf, LeavesPlayed, play_head, play_in, play_setup, play_tail};
+ghost use Rattle.trace_runner.specs.Playing.{IsPlayOf, LeavesPlayed, play_in, play_setup, play_tail};
 ghost use Rattle.trace_runner.specs.Playing.{played_lines, ranges_for, refusals_in, schedule_in};
 
 use crate::intake::{PLAY_LIMIT, Unopened, open, read_batch};
 use crate::laws::playing_laws;
-use crate::printing::put_sessions;
+use crate::printing::{head_of, put_sessions};
 use crate::serving::service_of;
 use crate::status::Status;
 use batch_rows::updates_of;
@@ -31,7 +31,7 @@ use edge_traits::{Failed, Sink, Source, write_all};
 use plain_map::{Call, OpenFault, Pending, session_laws};
 use play_runner::{Played, Segment, most_steps};
 use report_text::{
-    Ending, Head, Line, Tail, head_text, order_text, outcome_text, pending_text, tail_text,
+    Ending, Line, Tail, head_text, order_text, outcome_text, pending_text, tail_text,
 };
 use std::alloc::{AllocError, Global};
 use step_counts::{SeatRows, Settings, automatic_rows, bound};
@@ -121,7 +121,7 @@ fn report_of(alloc: Global, plan: &Plan, input: &Input) -> Result<Vec<u8>, Alloc
     let service = service_of(plan);
     let played = play_calls(alloc, plan, &service, &input.calls)?;
     let mut text = Vec::new(alloc);
-    head_text(&mut text, &play_head(plan))?;
+    head_text(&mut text, &head_of(true, plan))?;
     put_played(&mut text, plan.seats, &played)?;
     put_sessions(&mut text, &played.pairs)?;
     tail_text(&mut text, &play_tail(&service, input, &played))?;
@@ -238,21 +238,6 @@ fn put_pending(
         pending_text(text, line, seats, begun)?;
     }
     Ok(())
-}
-
-/// What the head line tells.
-fn play_head(plan: &Plan) -> Head
-    ensures { result ≡ play_head plan.now }
-{
-    Head {
-        play: true,
-        seats: plan.seats,
-        items: plan.items,
-        depth: plan.depth,
-        start: plan.start,
-        hashing: plan.hashing,
-        share: plan.share,
-    }
 }
 
 /// What the last lines tell.

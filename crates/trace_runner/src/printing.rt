@@ -123,12 +123,12 @@ pub(crate) fn put_sessions(text: &mut Vec<u8>, pairs: &[Pair]) -> Result<(), All
     Ok(())
 }
 
-/// What the head line tells.
-pub(crate) fn head_of(plan: &Plan) -> Head
-    ensures { result ≡ head_of plan.now }
+/// What the head line tells, of a play or of calls that are served.
+pub(crate) fn head_of(play: bool, plan: &Plan) -> Head
+    ensures { result ≡ head_of play plan.now }
 {
     Head {
-        play: false,
+        play,
         seats: plan.seats,
         items: plan.items,
         depth: plan.depth,

@@ -79,7 +79,7 @@ fn serve_input<R: Threads + Sync, S: Source, K: Sink, G: Gate + Sync>(
     let service = service_of(plan);
     let mut workspace = Workspace::new(alloc);
     let mut text = Vec::with_capacity(alloc, TEXT_ROOM)?;
-    head_text(&mut text, &head_of(plan))?;
+    head_text(&mut text, &head_of(false, plan))?;
     match open(alloc, source) {
         Ok(mut reader) => serve_packets(
             rt,

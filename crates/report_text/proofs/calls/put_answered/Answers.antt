@@ -6,5 +6,5 @@ pub returns : goal.returns
 unfolding outcome_line
 returns c =
     line_whole c.begin_line.ensures.begins
-    (c.put_call.ensures.puts ⨟ c.put_reply.ensures.puts ⨟ c.put_steps.ensures.puts ⨟ c.put_after.ensures.puts)
+    (c.put_call.ensures.puts ⨟ c.put_reply.ensures.puts ⨟ c.put_named.ensures.puts ⨟ c.put_after.ensures.puts)
     c.end_line.ensures.ends

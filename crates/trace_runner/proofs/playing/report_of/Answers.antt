@@ -87,7 +87,7 @@ returns c =
     (report-played c.args.plan.now service c.args.input.now.packets (length calls) played c.args.input.now.ending
     c.new-text.result.items c.head_text.new.out.items c.put_played.new.text.items c.put_sessions.new.text.items
     c.tail_text.new.out.items c.new-text.ensures.items
-    (c.in_ok-head_text.ensures.appended ∙ ap (λ head. c.new-text.result.items ++ head_line head) c.play_head.ensures)
+    (c.in_ok-head_text.ensures.appended ∙ ap (λ head. c.new-text.result.items ++ head_line head) c.head_of.ensures)
     c.in_ok-put_played.ensures
     (c.in_ok-put_sessions.ensures
     ∙ ap (λ pairs. c.put_played.new.text.items ++ flat_map session_line pairs) c.deref-2.ensures.value)
