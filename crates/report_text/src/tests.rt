@@ -253,8 +253,7 @@ fn settings_are_told(rt: HostRuntime) -> Result<(), Fail> {
     Ok(())
 }
 
-/// The last lines of a run of one seat with buckets of one item that served nothing. What it tells of its table does not
-/// rest on how the input ended.
+/// The last lines of a run of one seat, with buckets of one item, that served nothing.
 fn tail_of(ending: Ending) -> Tail
     ensures { result.ending ≡ ending }
 {
