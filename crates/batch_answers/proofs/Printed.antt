@@ -42,7 +42,7 @@ printed_both service before batch batches =
     ∙ ap (λ rs. rs ++ printed_in service then batches) (records_on before batch.outcomes)
 
 -- it is what was answered, in another order
-printed_are : (service : Service) (before : List ℕ) (first : List Pair) (batches : List Served) →
+pub printed_are : (service : Service) (before : List ℕ) (first : List Pair) (batches : List Served) →
     AreServed service first batches →
     IsPermutation (all_records before (map (history_in service) batches)) (printed_in service before batches)
 printed_are service before first [] are = IsPermutation-refl []

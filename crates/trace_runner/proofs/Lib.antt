@@ -1,6 +1,7 @@
 pub mod Permuted
 pub mod AnsweredLemmas
 pub mod ServedLines
+mod ShortLines
 pub mod PacketOrder
 pub mod CallLemmas
 pub mod InputLemmas

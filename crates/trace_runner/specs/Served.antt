@@ -1,5 +1,5 @@
 -- What is promised of packets that were served in batches, and what is printed of them.
-use Rattle.std.specs.Prelude.{◌≡◌, ℕ, ◌-◌, Bool, false, List, [], ◌∷◌, ◌++◌, length, map, flat_map, replicate}
+use Rattle.std.specs.Prelude.{◌≡◌, ◌≤◌, ℕ, ◌-◌, All, Bool, false, true, List, [], ◌∷◌, ◌++◌, length, map, flat_map, replicate}
 use Rattle.plain_map.specs.declared.calls.Call.{Call}
 use Rattle.step_counts.specs.Made.{IsMadeOf}
 use Rattle.step_counts.specs.StepCounts.{step_bound}
@@ -12,7 +12,9 @@ use Rattle.batch_runner.specs.declared.service.Service.{Service}
 use Rattle.batch_runner.specs.declared.totals.Totals.{Totals}
 use Rattle.batch_orders.specs.Batches.{all_calls}
 use Rattle.core_bounds.specs.Moments.{asked_of}
+use Rattle.plain_map.specs.declared.records.Record.{Record}
 use Rattle.plain_map.specs.History.{Whole}
+use Rattle.core_model.specs.SeatStates.{is_update}
 use Rattle.batch_answers.specs.Answers.{AreAsOneThread, HasOwnRows, IsLikeOneThread, all_answers, calls_in, printed_in}
 use Rattle.batch_runner.specs.Served.{Served, AreServed, history_in, depth_in, leaves_in, pairs_left}
 use Rattle.batch_runner.specs.Printed.{all_lines, outcomes_in}
@@ -37,6 +39,10 @@ no_counts = replicate 8 0
 abbrev pub lines_in : Service → List Served → List (ℕ × Outcome)
 lines_in service batches = flat_map (λ lines. lines.outcomes) (all_lines service no_counts batches)
 
+-- an update took at most so many steps
+abbrev pub IsWithin : (most : ℕ) → Record → Type 0
+IsWithin most r = is_update r.call ≡ true → r.steps ≤ most
+
 -- What holds of batches that were served, whatever the interleaving.
 pub record IsPromised (service : Service) (batches : List Served) : Type 0 where
   -- One order of all calls is right: each stands after all that its caller had seen, with the plain map's reply. Steps
@@ -44,6 +50,8 @@ pub record IsPromised (service : Service) (batches : List Served) : Type 0 where
   pub right : AreRight service batches
   -- each answered call stands once in it as it is printed, with the counts of the lines, and nothing else does
   pub once : Whole (printed_in service no_counts batches) [] (all_calls [] (map (history_in service) batches))
+  -- none of their updates took more steps than the bound of the settings that are asked for
+  pub within : All (IsWithin (step_bound service.settings)) (printed_in service no_counts batches)
   -- the k-th answered line of each seat, over all batches, is that seat's call with the number k
   pub numbered : AreCountedBySeat (lines_in service batches)
   -- where no rows are given each call has its answer

@@ -56,6 +56,71 @@ fn gate_sees_each_call_and_its_answer(rt: HostRuntime) -> Result<(), Fail> {
     Ok(())
 }
 
+/// By seat, how often it passed, and how often it was told.
+#[derive(Drop)]
+struct Counter {
+    passed: [AtomicU64; 8],
+    told: [AtomicU64; 8],
+}
+
+impl Gate for Counter {
+    fn pass(&self, seat: u32, _number: u32) {
+        count(&self.passed, seat);
+    }
+
+    fn told(&self, seat: u32, _number: u32, _answer: u64) {
+        count(&self.told, seat);
+    }
+}
+
+/// One more of the seat.
+fn count(counts: &[AtomicU64], seat: u32) {
+    if let Some(word) = counts.get(seat as usize) {
+        word.fetch_add(1, Ordering::SeqCst);
+    }
+}
+
+/// None of any seat.
+fn no_counts() -> [AtomicU64; 8] {
+    [
+        AtomicU64::new(0),
+        AtomicU64::new(0),
+        AtomicU64::new(0),
+        AtomicU64::new(0),
+        AtomicU64::new(0),
+        AtomicU64::new(0),
+        AtomicU64::new(0),
+        AtomicU64::new(0),
+    ]
+}
+
+/// Each of eight callers passes as the seat whose calls it makes: of twelve calls that are dealt in turn, the first
+/// four seats make two each and the others one. No clause says what a gate sees.
+#[test]
+fn callers_pass_as_their_seats(rt: HostRuntime) -> Result<(), Fail> {
+    let counter = Counter {
+        passed: no_counts(),
+        told: no_counts(),
+    };
+    let mut parts = [Part::Ack(1); 13];
+    parts[0] = Part::Bytes(&HEAD);
+    let file = file_of(rt.alloc(), &parts)?;
+    let mut source = MemorySource::new(rt.alloc(), &file, 1000, &[])?;
+    let mut sink = MemorySink::new(rt.alloc(), 4000, &[])?;
+    let words = words_of(rt.alloc(), "serve --seats 8 --share round")?;
+    let status = run(&rt, rt.alloc(), &words, &mut source, &mut sink, &counter);
+    assert_eq!(rt; status, Status::Done);
+    for (seat, wanted) in [2, 2, 2, 2, 1, 1, 1, 1].into_iter().enumerate() {
+        assert_eq!(rt;
+            counter.passed[seat].load(Ordering::SeqCst),
+            wanted,
+            "{seat}"
+        );
+        assert_eq!(rt; counter.told[seat].load(Ordering::SeqCst), wanted, "{seat}");
+    }
+    Ok(())
+}
+
 /// How often a call looks for what it waits for.
 const TURNS: u32 = 200_000_000;
 

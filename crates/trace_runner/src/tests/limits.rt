@@ -67,6 +67,26 @@ fn second_batch_has_what_the_first_left(rt: HostRuntime) -> Result<(), Fail> {
     Ok(())
 }
 
+/// So many bytes of that capture are its first batch: the file head, the SYN's record, and 2,047 records of no byte.
+const FIRST_BATCH: usize = 24 + 70 + 2_047 * 16;
+
+/// The lines of a batch are put before the next one is read, and after a write that failed nothing is read: the first
+/// read brings the first batch, the write of its lines fails, and the second read, which would fail, is asked for only
+/// here. No clause says when a batch is read.
+#[test]
+fn lines_are_put_before_the_next_batch_is_read(rt: HostRuntime) -> Result<(), Fail> {
+    let alloc = rt.alloc();
+    let file = two_batches(alloc)?;
+    let mut source = MemorySource::new(alloc, &file, FIRST_BATCH, &[2])?;
+    let mut sink = MemorySink::new(alloc, 2000, &[1])?;
+    let line = "serve --seats 1 --items 2 --depth 1 --start 1 --hash ports";
+    let status = run_line(&rt, alloc, line, &mut source, &mut sink)?;
+    assert_eq!(rt; status, Status::WriteFault);
+    assert_eq!(rt; sink.bytes().len(), 0);
+    assert_eq!(rt; source.read(&mut [0]), Err(Failed));
+    Ok(())
+}
+
 /// A file head, and then records of no byte, of which none is kept.
 #[derive(Drop)]
 struct EmptyRecords {
