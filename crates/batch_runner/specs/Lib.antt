@@ -1,3 +1,4 @@
+pub mod Dealt
 pub mod Served
 pub mod Seats
 pub mod Printed

@@ -1,6 +1,6 @@
 //! One batch.
 
-ghost use Rattle.std.specs.Prelude.{◌≡◌, ℕ, ◌^◌, ◌<◌, ◌++◌, All, IfOk, List, OnErr, length, map};
+ghost use Rattle.std.specs.Prelude.{◌≡◌, ◌^◌, ◌<◌, ◌++◌, All, IfOk, List, OnErr, length, map};
 ghost use Rattle.std.specs.List.{AllZip};
 ghost use Rattle.std.specs.Option.{ForSome};
 ghost use Rattle.plain_map.specs.Calls.{key_in};
@@ -16,9 +16,11 @@ ghost use Rattle.batch_rows.specs.Depths.{IsTableFor};
 ghost use Rattle.batch_rows.specs.declared.rows.TheConstants.{CALL_LIMIT};
 ghost use Rattle.batch_runner.specs.Served.{CanOpen, IsServed, Served, rules_of, setup_in, shares_of};
 ghost use Rattle.batch_runner.specs.Printed.{lines_of};
+ghost use Rattle.batch_runner.specs.Dealt.{IsDealt};
 ghost use Rattle.batch_runner.specs.Told.{CanGoOn, HasOutcomes, IsClosedBatch, IsOrderOf, IsToldBy};
 ghost use Rattle.batch_runner.specs.Totals.{IsTotalOf};
 
+use crate::dealing::{Dealt, deal_batch};
 use crate::ordering::order_in;
 use crate::outcomes::{counts_of, outcomes_of};
 use crate::service::Service;
@@ -26,13 +28,13 @@ use crate::text::put_lines;
 use crate::totals::{Totals, totals_in};
 use crate::workers::serve_shares;
 use crate::workspace::Workspace;
-use batch_rows::{Demand, demand_of, sizes_for};
+use batch_rows::{Demand, sizes_for};
 use edge_traits::Gate;
 use plain_map::{Call, CallId, MOST_SEATS, OpenFault, Pair};
 use shared_table::{ClosedTable, Directory, Seat, order_laws};
 use std::alloc::{AllocError, Global};
 use std::thread::Threads;
-use trace_share::{Collector, Outcome, deal};
+use trace_share::{Collector, Outcome};
 
 /// What a batch came to.
 #[derive(Drop)]
@@ -60,36 +62,44 @@ pub struct Account {
 }
 
 /// Opens a table with these pairs, lets the seats make the calls that are dealt to them, in threads of their own,
-/// closes it, and tells what it came to; appends the lines of the calls and of their one order.
+/// closes it, and tells what it came to; appends the lines of the calls and of their one order. Before the caller's
+/// thread makes calls it does `beside` once; what this gave comes beside what the batch came to.
 ///
 /// `before` has how many calls each seat had answered before. The gate is passed before each call and told of each
 /// answer. Where there are several seats, the lines of the calls are written in a thread of their own while the order
 /// is made; where no thread can be made, the caller's does both. The only error is want of memory, after which the text
 /// is what it was. What is left can open the next batch.
-pub fn print_batch<R: Threads + Sync, G: Gate + Sync>(
+pub fn print_batch<R: Threads + Sync, G: Gate + Sync, F: FnMut() -> A, A: Drop>(
     rt: &R,
     alloc: Global,
     service: &Service,
     workspace: &mut Workspace,
     first: &[Pair],
     calls: &[(u32, Call)],
+    dealt: Dealt,
     gate: &G,
     before: &[u32; MOST_SEATS],
     out: &mut Vec<u8>,
-) -> Result<Batch, AllocError>
+    beside: &mut F,
+) -> Result<(Batch, A), AllocError>
     requires given { ForSome service.now.rows (AreBelow (2 ^ 32)) }
     requires few { length calls.now < CALL_LIMIT }
     requires askable { All (λ call. IsAskable call.1) calls.now }
     requires texts { All (λ call. HasText (key_in call.1)) calls.now }
     requires opens { CanOpen (rules_of service.now) first.now }
-    ensures served { IfOk result (λ batch. (served : Served) × (served.first ≡ first.now)
-        × (served.calls ≡ calls.now) × IsServed service.now served × IsToldBy service.now served batch
+    requires dealt { IsDealt service.now calls.now dealt }
+    requires beside { F.pre beside.old }
+    ensures served { IfOk result (λ done. (served : Served) × (served.first ≡ first.now)
+        × (served.calls ≡ calls.now) × IsServed service.now served × IsToldBy service.now served done.0
         × (out.new.items ≡ out.old.items
         ++ batch_lines service.now.settings.seats (lines_of service.now before.now served))) }
-    ensures goes_on { IfOk result (CanGoOn service.now calls.now) }
+    ensures goes_on { IfOk result (λ done. CanGoOn service.now calls.now done.0) }
+    ensures beside { IfOk result (λ done. F.step beside.old done.1 beside.new) }
     ensures kept { OnErr result (out.new.items ≡ out.old.items) }
 {
-    let (closed, logs, batch) = logged_batch(rt, alloc, service, workspace, first, calls, gate)?;
+    let (closed, logs, batch, made) = logged_batch(
+        rt, alloc, service, workspace, first, calls, dealt, gate, beside,
+    )?;
     let outcomes = outcomes_of(alloc, service.share, service.settings.seats, calls, &logs)?;
     let start = out.len();
     if let Err(failed) = put_lines(
@@ -107,7 +117,7 @@ pub fn print_batch<R: Threads + Sync, G: Gate + Sync>(
         return Err(failed);
     }
     workspace.blank.keep(closed);
-    Ok(batch)
+    Ok((batch, made))
 }
 
 /// The same without lines. What each call came to, and the order, come beside what the batch came to.
@@ -130,7 +140,18 @@ pub fn serve_batch<R: Threads + Sync, G: Gate + Sync>(
         × IsOrderOf service.now served account.order.items) }
     ensures goes_on { IfOk result (λ account. CanGoOn service.now calls.now account.batch) }
 {
-    let (closed, logs, batch) = logged_batch(rt, alloc, service, workspace, first, calls, gate)?;
+    let dealt = deal_batch(alloc, service, calls)?;
+    let (closed, logs, batch, ()) = logged_batch(
+        rt,
+        alloc,
+        service,
+        workspace,
+        first,
+        calls,
+        dealt,
+        gate,
+        &mut || {},
+    )?;
     let order = order_in(alloc, &mut workspace.tables, &closed, &logs)?;
     workspace.blank.keep(closed);
     Ok(Account { batch, logs, order })
@@ -171,42 +192,38 @@ pub fn try_batch<R: Threads + Sync, G: Gate + Sync, F: FnMut() -> A, A: Drop>(
     Ok((batch, made))
 }
 
-// Serves a batch to its end, and keeps the log of each seat: the closed table, the logs, and what the batch came to.
-fn logged_batch<R: Threads + Sync, G: Gate + Sync>(
+// Serves a batch to its end, and keeps the log of each seat: the closed table, the logs, and what the batch came to;
+// with what was given beside.
+fn logged_batch<R: Threads + Sync, G: Gate + Sync, F: FnMut() -> A, A: Drop>(
     rt: &R,
     alloc: Global,
     service: &Service,
     workspace: &mut Workspace,
     first: &[Pair],
     calls: &[(u32, Call)],
+    dealt: Dealt,
     gate: &G,
-) -> Result<(ClosedTable, Vec<Vec<Outcome>>, Batch), AllocError>
+    beside: &mut F,
+) -> Result<(ClosedTable, Vec<Vec<Outcome>>, Batch, A), AllocError>
     requires given { ForSome service.now.rows (AreBelow (2 ^ 32)) }
     requires few { length calls.now < CALL_LIMIT }
     requires askable { All (λ call. IsAskable call.1) calls.now }
     requires opens { CanOpen (rules_of service.now) first.now }
+    requires dealt { IsDealt service.now calls.now dealt }
+    requires beside { F.pre beside.old }
     ensures closed { IfOk result (λ done. IsClosedBatch service.now first.now calls.now done.0
         (map (λ log. log.items) done.1.items)) }
     ensures told { IfOk result (λ done. HasOutcomes service.now first.now calls.now
         (map (λ log. log.items) done.1.items) done.0 done.2) }
+    ensures beside { IfOk result (λ done. F.step beside.old done.3 beside.new) }
 {
-    let shares = deal(alloc, service.share, service.settings.seats, calls)?;
-    let demand = demand_of(alloc, calls, &shares)?;
-    let (closed, logs, ()) = close_batch::<R, Vec<Outcome>, G, _, ()>(
-        rt,
-        alloc,
-        service,
-        workspace,
-        first,
-        calls,
-        shares,
-        &demand,
-        gate,
-        &mut || {},
+    let Dealt { shares, demand } = dealt;
+    let (closed, logs, made) = close_batch::<R, Vec<Outcome>, G, F, A>(
+        rt, alloc, service, workspace, first, calls, shares, &demand, gate, beside,
     )?;
     let totals = totals_in(alloc, &logs)?;
     let batch = told(alloc, service, first, calls, &closed, &totals)?;
-    Ok((closed, logs, batch))
+    Ok((closed, logs, batch, made))
 }
 
 // Opens the table, lets the seats make their shares of the calls, and closes it; with what was kept of each seat's

@@ -3,6 +3,7 @@
 
 mod batch;
 mod counts;
+mod dealing;
 mod laws;
 mod ordering;
 mod outcomes;
@@ -14,6 +15,7 @@ mod workspace;
 
 pub use batch::{Account, Batch, print_batch, serve_batch, try_batch};
 pub use counts::go_on;
+pub use dealing::{Dealt, deal_batch};
 pub use laws::served_laws;
 pub use service::Service;
 pub use totals::{Replies, Totals};

@@ -15,7 +15,7 @@ mod crowds;
 mod meetings;
 mod rows;
 
-use crate::{Batch, Service, Workspace, go_on, print_batch};
+use crate::{Batch, Service, Workspace, deal_batch, go_on, print_batch};
 use edge_traits::OpenGate;
 use hash_bits::Hashing;
 use plain_map::{Call, Key, MOST_SEATS, Pair};
@@ -115,17 +115,20 @@ pub(crate) fn put_batch<R: Threads + Sync>(
     ensures most { OnOk result (All (λ count. count ≤ most + 2 ^ 16) before.new) }
 {
     let calls = calls_of(alloc, frames)?;
+    let dealt = deal_batch(alloc, service, &calls)?;
     let mut workspace = Workspace::new(alloc);
-    let batch = print_batch(
+    let (batch, ()) = print_batch(
         rt,
         alloc,
         service,
         &mut workspace,
         first,
         &calls,
+        dealt,
         &OpenGate,
         before,
         out,
+        &mut || {},
     )?;
     go_on(before, &batch);
     Ok(batch)

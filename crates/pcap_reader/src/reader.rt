@@ -1,6 +1,6 @@
 //! Gives out the records of a savefile, one at a time and in place.
 
-ghost use Rattle.std.specs.Prelude.{◌≡◌, ◌≤◌, ◌<◌, ◌-◌, ◌^◌, ◌⊎◌, ℕ, [], false, true, length, drop, Some, IfSome, IfOk, IfErr, OnOk, OnErr};
+ghost use Rattle.std.specs.Prelude.{◌≡◌, ◌≤◌, ◌<◌, ◌-◌, ◌^◌, ◌⊎◌, ℕ, List, [], false, true, length, drop, Option, Some, IfSome, IfOk, IfErr, OnOk, OnErr};
 ghost use Rattle.edge_traits.specs.Edge.{Rose};
 ghost use Rattle.pcap_reader.specs.Capture.{HasFileHead, IsCut, IsRemainder, ShowsFault};
 ghost use Rattle.pcap_reader.specs.Reading.{GivesNone, GivesRecord, IfEnding, IsAtStart, IsOpenedOn, IsRefusedOn, IsWithinRecords, MatchPacket, OfInput, OnInputFault, OnMemory, OnReadFault, TakesFewer, Took, buffer_length, to_come};
@@ -164,6 +164,27 @@ impl Reader {
                 Err(CaptureFault::ReadFault)
             }
         }
+    }
+
+    /// Gives out the next record where it is whole in what is held, for which no source is needed.
+    ///
+    /// Takes no memory. Where it is not, nothing changes: `next` tells what comes.
+    /// Source: pcap-savefile(5), per-packet header.
+    pub fn next_held(&mut self) -> bool
+        requires going { self.old.ended ≡ false }
+        requires few { self.old.given < 2 ^ 32 - 1 }
+        // One record of the bytes to come, whatever a source has left of them.
+        ensures packet { result ≡ true → (left : Option (List ℕ)) →
+            GivesRecord self.old self.new (to_come self.old left) (to_come self.new left) }
+        ensures none { result ≡ false → self.new ≡ self.old }
+
+        ensures order { self.new.order ≡ self.old.order }
+    {
+        if let Shown::Whole { captured } = look(self.order, self.window.unread()) {
+            self.give(captured);
+            return true;
+        }
+        false
     }
 
     /// The captured bytes of the record that was given last; none after an ending.

@@ -19,9 +19,11 @@ pub const PIECE: usize = 65_536;
 /// The size of the buffer in bytes: the longest record and a piece behind it have room, and so has
 /// as much again, so that few bytes are moved.
 pub const CAPACITY: usize = 524_288;
-// So much of the buffer is used, in bytes, until a record is met that leaves no room for a piece in it. So the memory
-// of the rest is not touched where records are short.
+// So much of the buffer is used at first, in bytes, and so much more each time that there is no room for a piece in it. So
+// the memory of the rest is touched by and by, and hardly where a capture is short.
 const FIRST_LENGTH: usize = 2 * PIECE;
+
+const GROWTH: usize = PIECE / 8;
 
 /// The bytes that were read and not yet taken, and behind them room for a piece.
 #[derive(Debug, Drop)]
@@ -126,8 +128,7 @@ impl Window {
 }
 
 /// Moves the bytes from `start` to `end` to the front where there is no room for a piece behind
-/// them, and answers where they begin and end now. Where there is none then either, the whole
-/// buffer is used from now on.
+/// them, and answers where they begin and end now. Then some more of the buffer is used from now on.
 fn make_room(buf: &mut Vec<u8>, start: usize, end: usize) -> (usize, usize)
     requires capacity { CAPACITY ≤ vec_capacity buf.old }
     requires few_used { vec_len buf.old ≤ CAPACITY }
@@ -144,22 +145,23 @@ fn make_room(buf: &mut Vec<u8>, start: usize, end: usize) -> (usize, usize)
         return (start, end);
     }
     buf.copy_within(start..end, 0);
-    let held = end - start;
-    if buf.len() - held < PIECE {
-        use_all(buf);
-    }
-    (0, held)
+    use_more(buf, end - start + PIECE);
+    (0, end - start)
 }
 
-/// Uses the whole buffer. It takes no memory.
-fn use_all(buf: &mut Vec<u8>)
+/// Uses some more of the buffer, and at least so much, where it has more. It takes no memory.
+fn use_more(buf: &mut Vec<u8>, least: usize)
     requires capacity { CAPACITY ≤ vec_capacity buf.old }
     requires few_used { vec_len buf.old ≤ CAPACITY }
+    requires few { least ≤ CAPACITY }
     ensures capacity { CAPACITY ≤ vec_capacity buf.new }
-    ensures all_used { vec_len buf.new ≡ CAPACITY }
+    ensures few_used { vec_len buf.new ≤ CAPACITY }
+    ensures enough { least ≤ vec_len buf.new }
+    ensures more { vec_len buf.old ≤ vec_len buf.new }
     ensures bytes { take (vec_len buf.old) buf.new.items ≡ buf.old.items }
 {
-    let Ok(()) = buf.resize(CAPACITY, 0u8) else {
+    let length = CAPACITY.min(buf.len() + GROWTH).max(least);
+    let Ok(()) = buf.resize(length, 0u8) else {
         unreachable!()
     };
 }

@@ -1,3 +1,4 @@
+pub mod AheadLemmas
 pub mod Permuted
 pub mod AnsweredLemmas
 pub mod ServedLines

@@ -1,11 +1,10 @@
 -- No update that is printed took more steps than the bound.
-use Rattle.std.proofs.Common.{◌≡◌, ◌≤◌, ℕ, List, [], ◌∷◌, ◌++◌, map, sym, subst, arith, All}
+use Rattle.std.proofs.Common.{ℕ, List, [], ◌∷◌, map, sym, subst, arith, All}
 use Rattle.std.specs.Prelude.{flat_map}
 use Rattle.std.proofs.lemmas.List.Elements.{All-append, All-head, All-map, All-nil, All-tail, All-weaker}
 use Rattle.std.proofs.lemmas.List.Folds.{flat_map-map}
 use Rattle.std.proofs.lemmas.List.Sorted.{All-permutation}
 use Rattle.step_counts.specs.StepCounts.{step_bound}
-use Rattle.plain_map.specs.declared.keys.Pair.{Pair}
 use Rattle.plain_map.specs.declared.records.Record.{Record}
 use Rattle.trace_share.specs.Outcomes.{records_in}
 use Rattle.core_model.specs.Promises.{HasSteps}

@@ -1,3 +1,4 @@
+pub mod Ahead
 pub mod PacketCalls
 pub mod Input
 pub mod Batches

@@ -1,14 +1,16 @@
 //! The input of a run: its packets' calls, batch by batch, and how it ended.
 
-ghost use Rattle.std.specs.Prelude.{◌≡◌, ◌<◌, ◌≤◌, ◌+◌, ℕ, List, [], ◌++◌, false, Option, Some, MatchOption, Err, IfOk, IfErr, IfSome, IfNone};
+ghost use Rattle.std.specs.Prelude.{◌≡◌, ◌<◌, ◌≤◌, ◌+◌, ℕ, List, [], ◌++◌, false, Option, None, Some, MatchOption, Err, IfOk, IfErr, IfSome, IfNone, OnOk};
 ghost use Rattle.edge_traits.specs.Edge.{Rose};
 ghost use Rattle.pcap_reader.specs.Reading.{IsAtStart};
 ghost use Rattle.plain_map.specs.declared.calls.Call.{Call};
 ghost use Rattle.report_text.specs.Report.{IsEnding};
 ghost use Rattle.trace_runner.specs.Endings.{ending_at, OnEnds};
 ghost use Rattle.trace_runner.specs.Reading.{AreBetween, HaveCome, HaveEndedUpTo};
+ghost use Rattle.trace_runner.specs.Ahead.{IsAhead, IsTaken};
 
 use crate::steps::{keep_call, read_on, read_past};
+use batch_runner::{Dealt, Service, deal_batch};
 use edge_traits::Source;
 use pcap_reader::{CaptureFault, Reader};
 use plain_map::Call;
@@ -61,6 +63,27 @@ pub(crate) fn open<S: Source>(alloc: Global, source: &mut S) -> Result<Reader, U
     }
 }
 
+/// What was taken of a batch before its reading: the packets that the reader held.
+#[derive(Drop)]
+pub(crate) struct Ahead {
+    /// How many they are.
+    pub packets: u32,
+    /// Their calls, where they are a whole batch.
+    pub dealt: Option<Dealt>,
+}
+
+impl Ahead {
+    /// None.
+    pub fn none() -> Ahead
+        ensures { result ≡ record { packets = 0; dealt = None } }
+    {
+        Ahead {
+            packets: 0,
+            dealt: None,
+        }
+    }
+}
+
 /// Reads the packets of a batch, behind so many that were read before. No more than `limit` are taken in all.
 ///
 /// The calls are put into a list that is empty. Want of memory comes from it.
@@ -91,8 +114,43 @@ pub(crate) fn read_batch<S: Source>(
         Rose (S.faults source.old) (S.faults source.new)) }
     ensures counted { S.faults source.old ≤ S.faults source.new }
 {
+    let part = read_rest(reader, source, before, 0, limit, calls)?;
+    Ok(part)
+}
+
+/// The same, where so many packets of the batch were taken already, whose calls are in the list.
+pub(crate) fn read_rest<S: Source>(
+    reader: &mut Reader,
+    source: &mut S,
+    before: u32,
+    taken: u32,
+    limit: u32,
+    calls: &mut Vec<(u32, Call)>,
+) -> Result<Part, AllocError>
+    requires going { reader.old.ended ≡ false }
+    requires given { reader.old.given ≡ before + taken }
+    requires few { before < limit }
+    requires limited { limit ≤ PACKET_LIMIT }
+    requires few_taken { (taken ≤ BATCH) × (before + taken ≤ limit) }
+    requires between { AreBetween before (before + taken) calls.old.items }
+    ensures read { IfOk result (λ part. (first : Option (List ℕ)) (all : List (ℕ × Call)) →
+        HaveCome first (S.left source.old) reader.old (before + taken) (all ++ calls.old.items) →
+        MatchOption part.ending
+        (HaveCome first (S.left source.new) reader.new (before + part.packets) (all ++ calls.new.items))
+        (HaveEndedUpTo limit first (S.left source.new) (before + part.packets) (all ++ calls.new.items))) }
+    ensures between { IfOk result (λ part. AreBetween before (before + part.packets) calls.new.items) }
+    ensures goes_on { IfOk result (λ part. IfNone part.ending ((reader.new.ended ≡ false)
+        × (reader.new.given ≡ before + part.packets) × (part.packets ≡ BATCH)
+        × (before + part.packets < limit))) }
+    ensures few_packets { IfOk result (λ part. (part.packets ≤ BATCH) × (before + part.packets ≤ limit)) }
+    ensures whole { OnOk result (taken ≡ BATCH → calls.new.items ≡ calls.old.items) }
+    ensures ending { IfOk result (λ part. IfSome part.ending IsEnding) }
+    ensures read_fault { IfOk result (λ part. part.ending ≡ Some Ending.ReadFault →
+        Rose (S.faults source.old) (S.faults source.new)) }
+    ensures counted { S.faults source.old ≤ S.faults source.new }
+{
     let most = BATCH.min(limit - before);
-    for packets in 0..most {
+    for packets in taken..most {
         if let Some(ending) = read_on(reader, source) {
             return Ok(Part {
                 packets,
@@ -111,6 +169,57 @@ pub(crate) fn read_batch<S: Source>(
         packets: most,
         ending: Some(read_past(reader, source, limit)),
     })
+}
+
+/// Takes what the reader holds of the next batch, behind so many packets, into a list that is empty; deals the calls
+/// where the batch is whole. Nothing is read.
+pub(crate) fn take_ahead(
+    alloc: Global,
+    service: &Service,
+    reader: &mut Reader,
+    before: u32,
+    calls: &mut Vec<(u32, Call)>,
+) -> Result<Ahead, AllocError>
+    requires going { reader.old.ended ≡ false }
+    requires given { reader.old.given ≡ before }
+    requires few { before < PACKET_LIMIT }
+    requires none { calls.old.items ≡ [] }
+    ensures { IfOk result (IsAhead service.now reader.old reader.new before calls.new.items) }
+{
+    let packets = take_held(reader, before, calls)?;
+    if packets < BATCH {
+        return Ok(Ahead {
+            packets,
+            dealt: None,
+        });
+    }
+    let dealt = deal_batch(alloc, service, calls)?;
+    Ok(Ahead {
+        packets,
+        dealt: Some(dealt),
+    })
+}
+
+/// Takes the packets that the reader holds, behind so many, as far as they are of one batch.
+fn take_held(
+    reader: &mut Reader,
+    before: u32,
+    calls: &mut Vec<(u32, Call)>,
+) -> Result<u32, AllocError>
+    requires going { reader.old.ended ≡ false }
+    requires given { reader.old.given ≡ before }
+    requires few { before < PACKET_LIMIT }
+    requires none { calls.old.items ≡ [] }
+    ensures { IfOk result (IsTaken reader.old reader.new before calls.new.items) }
+{
+    let most = BATCH.min(PACKET_LIMIT - before);
+    for packets in 0..most {
+        if !reader.next_held() {
+            return Ok(packets);
+        }
+        keep_call(reader, before + packets + 1, calls)?;
+    }
+    Ok(most)
 }
 
 /// How an input ends of which the file head could not be read; `None` for want of memory.

@@ -1,6 +1,6 @@
 //! The lines of a run, put piece by piece.
 
-ghost use Rattle.std.specs.Prelude.{◌≡◌, ◌≤◌, ◌<◌, ◌^◌, ◌+◌, ◌-◌, ℕ, List, [], ◌∷◌, ◌++◌, Option, length, flat_map, All, OnOk, OnErr};
+ghost use Rattle.std.specs.Prelude.{◌≡◌, ◌≤◌, ◌<◌, ◌^◌, ◌+◌, ◌-◌, ℕ, List, [], ◌∷◌, ◌++◌, Option, length, flat_map, All, IfOk, OnOk, OnErr};
 ghost use Rattle.std.specs.Option.{ForSome};
 ghost use Rattle.std.specs.Io.KnownBytes.{Appends};
 ghost use Rattle.edge_traits.specs.Edge.{AppendsFront, Rose};
@@ -8,6 +8,7 @@ ghost use Rattle.flow_keys.specs.FlowText.{HasText};
 ghost use Rattle.plain_map.specs.Serving.{IsAskable};
 ghost use Rattle.word_rows.specs.Shape.{AreBelow};
 ghost use Rattle.report_text.specs.Report.{IsEnding, report_of, session_line};
+ghost use Rattle.batch_runner.specs.Dealt.{IsDealt};
 ghost use Rattle.batch_runner.specs.Served.{Served};
 ghost use Rattle.command_line.specs.declared.plan.Plan.{Plan as APlan};
 ghost use Rattle.trace_runner.specs.Served.{IsServiceOf, head_of, lines_so_far, run_report, tail_with};
@@ -16,7 +17,7 @@ ghost use Rattle.trace_runner.specs.declared.intake.TheConstants.{BATCH, PACKET_
 
 use crate::progress::Progress;
 use crate::stop::Stop;
-use batch_runner::{Service, Workspace, served_laws};
+use batch_runner::{Dealt, Service, Workspace, deal_batch, served_laws};
 use command_line::Plan;
 use edge_traits::{Failed, Gate, Sink, write_all};
 use plain_map::{Call, Pair, session_laws};
@@ -38,24 +39,29 @@ fn put<K: Sink>(sink: &mut K, text: &mut Vec<u8>) -> Result<(), Failed>
     Ok(())
 }
 
-/// Serves the calls of one batch more, and puts its lines.
-pub(crate) fn serve_part<R: Threads + Sync, K: Sink, G: Gate + Sync>(
+/// Serves the calls of one batch more, which may be dealt already, and puts its lines. Before the caller's thread makes
+/// calls it does `beside` once, and answers what this gave.
+pub(crate) fn serve_part<R: Threads + Sync, K: Sink, G: Gate + Sync, F: FnMut() -> A, A: Drop>(
     rt: &R,
     alloc: Global,
     service: &Service,
     progress: &mut Progress,
     workspace: &mut Workspace,
     calls: &[(u32, Call)],
+    dealt: Option<Dealt>,
     gate: &G,
     text: &mut Vec<u8>,
     sink: &mut K,
-) -> Result<(), Stop>
+    beside: &mut F,
+) -> Result<A, Stop>
     requires given { ForSome service.now.rows (AreBelow (2 ^ 32)) }
     requires few { length calls.now ≤ BATCH }
     requires askable { All (λ call. IsAskable call.1) calls.now }
     requires texts { HasTexts calls.now }
     requires going { IsGoing service.now progress.old }
     requires all { progress.old.totals.calls ≤ PACKET_LIMIT }
+    requires dealt { ForSome dealt (IsDealt service.now calls.now) }
+    requires beside { F.pre beside.old }
     ensures served { OnOk result ((plan : APlan) (batches : List Served) (before : Option (List ℕ)) →
         IsServiceOf plan service.now → HasServed service.now progress.old batches →
         HasPut plan service.now batches before (K.put sink.old) text.old.items →
@@ -73,10 +79,31 @@ pub(crate) fn serve_part<R: Threads + Sync, K: Sink, G: Gate + Sync>(
     ensures failed { OnNotPut result (Rose (K.faults sink.old) (K.faults sink.new)) }
     ensures counted { K.faults sink.old ≤ K.faults sink.new }
     ensures calls { OnOk result (progress.new.totals.calls ≡ progress.old.totals.calls + length calls.now) }
+    ensures beside { IfOk result (λ made. F.step beside.old made beside.new) }
 {
-    progress.serve(rt, alloc, service, workspace, calls, gate, text)?;
+    let dealt = dealt_or_deal(alloc, service, calls, dealt)?;
+    let made = progress.serve(
+        rt, alloc, service, workspace, calls, dealt, gate, text, beside,
+    )?;
     put(sink, text)?;
-    Ok(())
+    Ok(made)
+}
+
+/// The calls as they were dealt already, or else dealt now. The only error is want of memory.
+fn dealt_or_deal(
+    alloc: Global,
+    service: &Service,
+    calls: &[(u32, Call)],
+    dealt: Option<Dealt>,
+) -> Result<Dealt, AllocError>
+    requires few { length calls.now ≤ BATCH }
+    requires dealt { ForSome dealt (IsDealt service.now calls.now) }
+    ensures { IfOk result (IsDealt service.now calls.now) }
+{
+    match dealt {
+        Some(dealt) => Ok(dealt),
+        None => deal_batch(alloc, service, calls),
+    }
 }
 
 /// Puts the lines of the sessions that are left, and the last lines.

@@ -9,11 +9,12 @@ ghost use Rattle.batch_rows.specs.Demands.{IsDemandOf};
 ghost use Rattle.batch_runner.specs.declared.service.Service.{Service};
 ghost use Rattle.batch_runner.specs.Served.{IsServed, Served, shares_of};
 ghost use Rattle.batch_runner.specs.Printed.{lines_of};
+ghost use Rattle.batch_runner.specs.Dealt.{IsDealt};
 ghost use Rattle.batch_runner.specs.Told.{CanGoOn, IsToldBy};
 ghost use Rattle.trace_runner.specs.declared.intake.TheConstants.{BATCH, PACKET_LIMIT};
 
 use batch_rows::Demand;
-use batch_runner::{Batch, Service, Totals, Workspace, go_on, print_batch, try_batch};
+use batch_runner::{Batch, Dealt, Service, Totals, Workspace, go_on, print_batch, try_batch};
 use edge_traits::Gate;
 use plain_map::{Call, MOST_SEATS, Pair};
 use std::alloc::{AllocError, Global};
@@ -50,42 +51,49 @@ impl Progress {
         }
     }
 
-    /// Serves the calls of one batch more, and appends its lines to the text.
-    pub fn serve<R: Threads + Sync, G: Gate + Sync>(
+    /// Serves the calls of one batch more, which are dealt already, and appends its lines to the text.
+    pub fn serve<R: Threads + Sync, G: Gate + Sync, F: FnMut() -> A, A: Drop>(
         &mut self,
         rt: &R,
         alloc: Global,
         service: &Service,
         workspace: &mut Workspace,
         calls: &[(u32, Call)],
+        dealt: Dealt,
         gate: &G,
         text: &mut Vec<u8>,
-    ) -> Result<(), AllocError>
+        beside: &mut F,
+    ) -> Result<A, AllocError>
         requires given { ForSome service.now.rows (AreBelow (2 ^ 32)) }
         requires few { length calls.now ≤ BATCH }
         requires askable { All (λ call. IsAskable call.1) calls.now }
         requires texts { HasTexts calls.now }
         requires going { IsGoing service.now self.old }
         requires all { self.old.totals.calls ≤ PACKET_LIMIT }
+        requires dealt { IsDealt service.now calls.now dealt }
+        requires beside { F.pre beside.old }
         ensures served { OnOk result ((batches : List Served) → HasServed service.now self.old batches →
             (served : Served) × (served.calls ≡ calls.now) × HasServed service.now self.new (batches ++ served ∷ [])
             × (text.new.items ≡ text.old.items ++ batch_lines service.now.settings.seats
             (lines_of service.now self.old.before served))) }
         ensures counted { OnOk result (self.new.totals.calls ≡ self.old.totals.calls + length calls.now) }
+        ensures beside { IfOk result (λ made. F.step beside.old made beside.new) }
     {
-        let batch = print_batch(
+        let (batch, made) = print_batch(
             rt,
             alloc,
             service,
             workspace,
             &self.pairs,
             calls,
+            dealt,
             gate,
             &self.before,
             text,
+            beside,
         )?;
         self.keep(service, calls, batch);
-        Ok(())
+        Ok(made)
     }
 
     /// Serves the calls of one batch more, which are dealt already, and of which it is told what they ask of the table;

@@ -25,9 +25,9 @@ use std::thread::Threads;
 ///
 /// `serve` reads a capture from the source, up to its fault or to one packet more than `PACKET_LIMIT`, 2,048 packets at
 /// a time. The calls of these are served by seats in threads of their own, and their lines are put into the sink before
-/// the next are read. `play` reads a capture of up to `PLAY_LIMIT` packets, whose calls are made step by step, by one
-/// schedule, and puts the report at once. `make` puts a made capture, and `trial` serves it and puts how many calls had
-/// each reply. The gate is passed before each call that is served, and told of each answer.
+/// more is read of the source. `play` reads a capture of up to `PLAY_LIMIT` packets, whose calls are made step by step,
+/// by one schedule, and puts the report at once. `make` puts a made capture, and `trial` serves it and puts how many
+/// calls had each reply. The gate is passed before each call that is served, and told of each answer.
 pub fn run<R: Threads + Sync, S: Source, K: Sink, G: Gate + Sync>(
     rt: &R,
     alloc: Global,

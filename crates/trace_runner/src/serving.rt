@@ -1,34 +1,38 @@
 //! Mode `serve`: a capture is read, served and printed batch by batch.
 
-ghost use Rattle.std.specs.Prelude.{◌≡◌, ◌≤◌, ◌<◌, ◌^◌, ◌+◌, ℕ, List, [], ◌++◌, Option, Ok, Some, length, map, IfOk};
+ghost use Rattle.std.specs.Prelude.{◌≡◌, ◌≤◌, ◌<◌, ◌^◌, ◌+◌, ℕ, List, [], ◌∷◌, ◌++◌, All, Option, Ok, Some, false, length, map, IfOk, OnOk};
 ghost use Rattle.std.specs.Option.{ForSome};
-ghost use Rattle.edge_traits.specs.Edge.{Rose};
+ghost use Rattle.edge_traits.specs.Edge.{AppendsFront, Rose};
 ghost use Rattle.pcap_reader.specs.Reading.{IsAtStart};
 ghost use Rattle.plain_map.specs.declared.calls.Call.{Call as ACall};
+ghost use Rattle.plain_map.specs.Serving.{IsAskable};
 ghost use Rattle.word_rows.specs.Shape.{AreBelow};
 ghost use Rattle.report_text.specs.Report.{IsEnding};
+ghost use Rattle.batch_runner.specs.Dealt.{IsDealt};
 ghost use Rattle.batch_runner.specs.Served.{Served};
 ghost use Rattle.command_line.specs.declared.plan.Plan.{Plan as APlan};
 ghost use Rattle.command_line.specs.Words.{IsInRange};
+ghost use Rattle.trace_runner.specs.Ahead.{IsAhead};
 ghost use Rattle.trace_runner.specs.Batches.{AreOfBatches, batch_count};
 ghost use Rattle.trace_runner.specs.Reading.{AreBetween, HaveCome, HaveEnded};
-ghost use Rattle.trace_runner.specs.Served.{IsServiceOf};
+ghost use Rattle.trace_runner.specs.Served.{IsServiceOf, lines_so_far};
 ghost use Rattle.trace_runner.specs.Headline.{LeavesAll};
-ghost use Rattle.trace_runner.specs.Progress.{HasPut, HasServed, IsGoing, LeavesBy, OnNotPut, Stands};
+ghost use Rattle.trace_runner.specs.Progress.{HasPut, HasServed, HasTexts, IsGoing, LeavesBy, OnNoMemory, OnNotPut, Stands};
 
-use crate::intake::{BATCH, PACKET_LIMIT, Unopened, open, read_batch};
+use crate::intake::{Ahead, BATCH, PACKET_LIMIT, Unopened, open, read_rest, take_ahead};
 use crate::laws::serving_laws;
 use crate::printing::{finish, head_of, serve_part};
 use crate::progress::Progress;
 use crate::status::Status;
 use crate::stop::Stop;
-use batch_runner::{Service, Workspace};
+use batch_runner::{Dealt, Service, Workspace};
 use command_line::Plan;
 use edge_traits::{Gate, Sink, Source};
 use pcap_reader::Reader;
 use plain_map::Call;
 use report_text::{Ending, head_text};
-use std::alloc::Global;
+use std::alloc::{AllocError, Global};
+use std::mem;
 use std::thread::Threads;
 use step_counts::Settings;
 
@@ -143,13 +147,15 @@ fn serve_none<R: Threads + Sync, K: Sink, G: Gate + Sync>(
         workspace,
         part,
         &calls,
+        None,
         text,
         sink,
         gate,
     )
 }
 
-/// Serves the packets behind a file head.
+/// Serves the packets behind a file head. While the calls of a batch are served, packets of the next are taken which
+/// the reader holds; the source is read only behind the lines of the batch.
 fn serve_packets<R: Threads + Sync, S: Source, K: Sink, G: Gate + Sync>(
     rt: &R,
     alloc: Global,
@@ -174,10 +180,18 @@ fn serve_packets<R: Threads + Sync, S: Source, K: Sink, G: Gate + Sync>(
     serving_laws();
     let mut progress = Progress::new(alloc);
     let mut calls = Vec::with_capacity(alloc, BATCH as usize)?;
+    let mut next = Vec::with_capacity(alloc, BATCH as usize)?;
     let mut packets = 0;
+    let mut ahead = Ahead::none();
     'batches: loop {
-        calls.clear();
-        let part = read_batch(reader, source, packets, PACKET_LIMIT, &mut calls)?;
+        let part = read_rest(
+            reader,
+            source,
+            packets,
+            ahead.packets,
+            PACKET_LIMIT,
+            &mut calls,
+        )?;
         match part.ending {
             Some(ending) => {
                 let last = Last {
@@ -193,29 +207,105 @@ fn serve_packets<R: Threads + Sync, S: Source, K: Sink, G: Gate + Sync>(
                     workspace,
                     last,
                     &calls,
+                    ahead.dealt,
                     text,
                     sink,
                     gate,
                 );
             }
             None => {
-                if let Err(stop) = serve_part(
+                packets += part.packets;
+                next.clear();
+                match serve_ahead(
                     rt,
                     alloc,
                     service,
                     &mut progress,
                     workspace,
                     &calls,
+                    ahead.dealt,
                     gate,
                     text,
                     sink,
+                    reader,
+                    packets,
+                    &mut next,
                 ) {
-                    return Err(stop);
+                    Ok(taken) => ahead = taken?,
+                    Err(stop) => return Err(stop),
                 }
-                packets += part.packets;
+                mem::swap(&mut calls, &mut next);
             }
         }
     }
+}
+
+/// Serves the calls of one batch more, and puts its lines. Meanwhile it takes what the reader holds of the next batch,
+/// behind so many packets, into a list that is empty; this may want memory for itself.
+fn serve_ahead<R: Threads + Sync, K: Sink, G: Gate + Sync>(
+    rt: &R,
+    alloc: Global,
+    service: &Service,
+    progress: &mut Progress,
+    workspace: &mut Workspace,
+    calls: &[(u32, Call)],
+    dealt: Option<Dealt>,
+    gate: &G,
+    text: &mut Vec<u8>,
+    sink: &mut K,
+    reader: &mut Reader,
+    before: u32,
+    next: &mut Vec<(u32, Call)>,
+) -> Result<Result<Ahead, AllocError>, Stop>
+    requires given { ForSome service.now.rows (AreBelow (2 ^ 32)) }
+    requires few { length calls.now ≤ BATCH }
+    requires askable { All (λ call. IsAskable call.1) calls.now }
+    requires texts { HasTexts calls.now }
+    requires going { IsGoing service.now progress.old }
+    requires all { progress.old.totals.calls ≤ PACKET_LIMIT }
+    requires dealt { ForSome dealt (IsDealt service.now calls.now) }
+    requires reads { reader.old.ended ≡ false }
+    requires stands { reader.old.given ≡ before }
+    requires room { before < PACKET_LIMIT }
+    requires none { next.old.items ≡ [] }
+    ensures served { OnOk result ((plan : APlan) (batches : List Served) (before : Option (List ℕ)) →
+        IsServiceOf plan service.now → HasServed service.now progress.old batches →
+        HasPut plan service.now batches before (K.put sink.old) text.old.items →
+        (served : Served) × (served.calls ≡ calls.now)
+        × HasServed service.now progress.new (batches ++ served ∷ [])
+        × HasPut plan service.now (batches ++ served ∷ []) before (K.put sink.new) text.new.items) }
+    ensures going { OnOk result (IsGoing service.now progress.new) }
+    ensures front { OnNotPut result ((plan : APlan) (batches : List Served) (before : Option (List ℕ)) →
+        IsServiceOf plan service.now → HasServed service.now progress.old batches →
+        HasPut plan service.now batches before (K.put sink.old) text.old.items →
+        (served : Served) × (served.calls ≡ calls.now)
+        × HasServed service.now progress.new (batches ++ served ∷ [])
+        × AppendsFront before (K.put sink.new) (lines_so_far plan service.now (batches ++ served ∷ []))) }
+    ensures memory { OnNoMemory result (sink.new ≡ sink.old) }
+    ensures failed { OnNotPut result (Rose (K.faults sink.old) (K.faults sink.new)) }
+    ensures counted { K.faults sink.old ≤ K.faults sink.new }
+    ensures calls { OnOk result (progress.new.totals.calls ≡ progress.old.totals.calls + length calls.now) }
+    ensures ahead { IfOk result (λ taken. IfOk taken (IsAhead service.now reader.old reader.new before
+        next.new.items)) }
+{
+    serve_part(
+        rt,
+        alloc,
+        service,
+        progress,
+        workspace,
+        calls,
+        dealt,
+        gate,
+        text,
+        sink,
+        &mut || -> Result<Ahead, AllocError>
+            requires { (reader.now.ended ≡ false) × (reader.now.given ≡ before) × (before < PACKET_LIMIT)
+                × (next.now.items ≡ []) }
+            ensures { IfOk result (IsAhead service.entry.now reader.entry.now reader.exit.now before
+                next.exit.now.items) }
+        { take_ahead(alloc, service, reader, before, next) },
+    )
 }
 
 /// The last packets that were read, behind so many, and how the input ended.
@@ -235,6 +325,7 @@ fn serve_last<R: Threads + Sync, K: Sink, G: Gate + Sync>(
     workspace: &mut Workspace,
     last: Last,
     calls: &[(u32, Call)],
+    dealt: Option<Dealt>,
     text: &mut Vec<u8>,
     sink: &mut K,
     gate: &G,
@@ -244,6 +335,7 @@ fn serve_last<R: Threads + Sync, K: Sink, G: Gate + Sync>(
     requires all { progress.old.totals.calls ≤ last.before }
     requires few { (last.packets ≤ BATCH) × (last.before + last.packets ≤ PACKET_LIMIT) }
     requires between { AreBetween last.before (last.before + last.packets) calls.now }
+    requires dealt { ForSome dealt (IsDealt service.now calls.now) }
     requires ending { IsEnding last.ending }
     ensures leaves { (plan : APlan) (first left before : Option (List ℕ)) (all : List (ℕ × ACall)) →
         Stands plan service.now progress.old first last.before all before (K.put sink.old) text.old.items →
@@ -259,7 +351,17 @@ fn serve_last<R: Threads + Sync, K: Sink, G: Gate + Sync>(
         return end_run(service, progress, packets, last.ending, text, sink);
     }
     match serve_part(
-        rt, alloc, service, progress, workspace, calls, gate, text, sink,
+        rt,
+        alloc,
+        service,
+        progress,
+        workspace,
+        calls,
+        dealt,
+        gate,
+        text,
+        sink,
+        &mut || {},
     ) {
         Ok(()) => end_run(service, progress, packets, last.ending, text, sink),
         Err(stop) => Err(stop),

@@ -21,8 +21,8 @@ use crate::laws::serving_laws;
 use crate::progress::Progress;
 use crate::serving::service_of;
 use crate::status::Status;
-use batch_rows::{Demand, demand_of};
-use batch_runner::{Service, Workspace};
+use batch_rows::Demand;
+use batch_runner::{Dealt, Service, Workspace, deal_batch};
 use command_line::Plan;
 use edge_traits::{Failed, Gate, Sink, Source, write_all};
 use hash_bits::Hashing;
@@ -32,7 +32,6 @@ use report_text::{Ending, Trial, trial_text};
 use std::alloc::{AllocError, Global};
 use std::mem;
 use std::thread::{Threads, join_mut};
-use trace_share::deal;
 
 /// Serves the made capture of the plan, and puts how many calls had each reply.
 pub(crate) fn try_plan<R: Threads + Sync, K: Sink, G: Gate + Sync>(
@@ -200,8 +199,7 @@ fn read_and_deal<S: Source>(
     ensures counted { S.faults source.old ≤ S.faults source.new }
 {
     let part = read_batch(reader, source, before, PACKET_LIMIT, next)?;
-    let shares = deal(alloc, service.share, service.settings.seats, next)?;
-    let demand = demand_of(alloc, next, &shares)?;
+    let Dealt { shares, demand } = deal_batch(alloc, service, next)?;
     Ok(Read {
         part,
         shares,

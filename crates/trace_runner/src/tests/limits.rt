@@ -67,6 +67,44 @@ fn second_batch_has_what_the_first_left(rt: HostRuntime) -> Result<(), Fail> {
     Ok(())
 }
 
+/// The report of that flow, whose SYN is the first packet of each of three batches. Of the last one two packets are
+/// there.
+const THREE_BATCHES: &str = "\
+    flowdir serve seats 1 items 2 depth 1 start 1 hash ports seed 0 share round\n\
+    call 1 seat 0 insert 10.0.0.1:1-10.0.0.2:80/tcp new 1 steps 45 after 0\n\
+    order 1\n\
+    call 2049 seat 0 insert 10.0.0.1:1-10.0.0.2:80/tcp old 1 steps 45 after 1\n\
+    order 2049\n\
+    call 4097 seat 0 insert 10.0.0.1:1-10.0.0.2:80/tcp old 1 steps 45 after 2\n\
+    order 4097\n\
+    session 10.0.0.1:1-10.0.0.2:80/tcp 1\n\
+    leaves 2 depth 1\n\
+    input done rest 0\n\
+    count packets 4098 calls 3 passed 4095 full 0 pending 0 unbegun 0\n\
+    steps update 45 bound 423 lookup 0\n";
+
+/// While a batch is served, packets of the next are taken which were read with it: a whole batch and more, a part of
+/// one, or none. The report is the same.
+#[test]
+fn held_packets_are_taken_in_any_cut(rt: HostRuntime) -> Result<(), Fail> {
+    let alloc = rt.alloc();
+    let mut file = two_batches(alloc)?;
+    for _ in 1..2_048 {
+        file.extend_from_slice(&[0; 16])?;
+    }
+    file.extend_from_slice(&file_of(alloc, &[Part::Syn(1)])?)?;
+    file.extend_from_slice(&[0; 16])?;
+    let line = "serve --seats 1 --items 2 --depth 1 --start 1 --hash ports";
+    for piece in [100_000, 50_000, 40_000, FIRST_BATCH, 1_000] {
+        let mut source = MemorySource::new(alloc, &file, piece, &[])?;
+        let mut sink = MemorySink::new(alloc, 2000, &[])?;
+        let status = run_line(&rt, alloc, line, &mut source, &mut sink)?;
+        assert_eq!(rt; status, Status::Done, "{piece} bytes");
+        assert_eq!(rt; sink.bytes(), THREE_BATCHES.as_bytes(), "{piece} bytes");
+    }
+    Ok(())
+}
+
 /// So many bytes of that capture are its first batch: the file head, the SYN's record, and 2,047 records of no byte.
 const FIRST_BATCH: usize = 24 + 70 + 2_047 * 16;
 

@@ -1,51 +1,14 @@
--- The loop's facts say how far the input was read; the lemmas say what one packet more, or an ending, makes of it.
-use Rattle.std.proofs.Common.{◌≡◌, ◌+◌, ◌++◌, ℕ, ap, subst, ◌∙◌, arith}
-use Rattle.trace_runner.specs.Reading.{AreBetween, HaveCome, HaveEndedUpTo}
-use Rattle.trace_runner.proofs.ReadingLemmas.{HaveCome-more, HaveEnded-ended}
+-- No packet was taken before.
+use Rattle.std.proofs.Common.{◌≡◌, ℕ, ◌+◌, List, ◌++◌, ap, subst, sym, ◌∙◌, append-nil, arith}
+use Rattle.plain_map.specs.declared.calls.Call.{Call}
+use Rattle.trace_runner.specs.Reading.{HaveCome}
 use Rattle.trace_runner.proofs.intake.read_batch.Goals as goal
-
-pub returns-in-Some-clause-read : goal.returns-in-Some-clause-read
-returns-in-Some-clause-read g c = λ first all come.
-    HaveEnded-ended c.args.limit first (g.S.Source.left c.loop-packets.source) (g.S.Source.left c.read_on.new.source)
-    c.loop-packets.reader c.read_on.new.reader (all ++ c.loop-packets.calls.items)
-    (c.args.before + c.loop-packets.packets) c.in-Some.ending (c.loop-packets.invariant.read first all come)
-    (omega arith) c.in-Some.ensures.ended c.in-Some.ensures.took_end
-
-pub loop-packets-preserved : goal.loop-packets-preserved
-loop-packets-preserved g c =
-    let old = c.loop-packets.invariant in
-    let given = c.in_default.ensures.packet in
-    let many : ℕ = c.args.before + c.loop-packets.packets in
-    let next : many + 1 ≡ c.args.before + (c.loop-packets.packets + 1) = omega arith in
-    record {
-      going = given.goes_on;
-      given = given.given ∙ ap (λ n. n + 1) old.given ∙ next;
-      between = subst (λ (n : ℕ). AreBetween c.args.before n c.keep_call.new.calls.items) next
-          (c.in_ok-keep_call.ensures.between c.args.before many old.between (omega arith));
-      counted = omega (arith, old.counted, c.read_on.ensures.counted);
-      read = λ first all come.
-          subst (λ (n : ℕ). HaveCome first (g.S.Source.left c.read_on.new.source) c.read_on.new.reader n
-          (all ++ c.keep_call.new.calls.items)) next
-          (HaveCome-more first (g.S.Source.left c.loop-packets.source) (g.S.Source.left c.read_on.new.source)
-          c.loop-packets.reader c.read_on.new.reader all c.loop-packets.calls.items c.keep_call.new.calls.items many
-          (old.read first all come) given c.in_default.ensures.took c.read_on.ensures.order
-          c.in_ok-keep_call.ensures.kept);
-    }
-
-pub returns-then-before-most-clause-read : goal.returns-then-before-most-clause-read
-returns-then-before-most-clause-read g c = λ first all come.
-    let all_read : c.loop-packets.packets ≡ c.min-most.result = omega arith in
-    subst (λ (n : ℕ). HaveCome first (g.S.Source.left c.loop-packets.source) c.loop-packets.reader (c.args.before + n)
-    (all ++ c.loop-packets.calls.items)) all_read (c.loop-packets.invariant.read first all come)
 
 pub returns-clause-read : goal.returns-clause-read
 returns-clause-read g c = λ first all come.
-    let all_read : c.args.before + c.loop-packets.packets ≡ c.args.limit = omega arith in
-    let here : HaveCome first (g.S.Source.left c.loop-packets.source) c.loop-packets.reader c.args.limit
-    (all ++ c.loop-packets.calls.items) =
-    subst (λ (n : ℕ). HaveCome first (g.S.Source.left c.loop-packets.source) c.loop-packets.reader n
-    (all ++ c.loop-packets.calls.items)) all_read (c.loop-packets.invariant.read first all come) in
-    let last : c.args.limit ≡ c.args.before + c.min-most.result = omega arith in
-    subst (λ (n : ℕ). HaveEndedUpTo c.args.limit first (g.S.Source.left c.read_past.new.source) n
-    (all ++ c.loop-packets.calls.items) c.read_past.result) last
-    (c.read_past.ensures.ended first (all ++ c.loop-packets.calls.items) here)
+    let none : c.args.before ≡ c.args.before + 0 = omega arith in
+    c.in_ok-part.ensures.read first all
+    (subst (λ (n : ℕ). HaveCome first (g.S.Source.left c.args.source.now) c.args.reader.now n
+    (all ++ c.args.calls.now.items)) none
+    (subst (HaveCome first (g.S.Source.left c.args.source.now) c.args.reader.now c.args.before)
+    (sym (ap (λ (calls : List (ℕ × Call)). all ++ calls) c.requires.none ∙ append-nil all)) come))

@@ -7,7 +7,7 @@ pub returns-in_err-put-clause-front : goal.returns-in_err-put-clause-front
 returns-in_err-put-clause-front g c =
     OnNotPut-any c.from_residual-in_err-put.result
     (λ plan batches before asks has put.
-    let next = c.in_ok-serve.ensures.served batches has in (
+    let next = c.in_ok-made.ensures.served batches has in (
       next.0,
       next.1,
       next.2,
@@ -18,7 +18,7 @@ returns-in_err-put-clause-front g c =
 
 pub returns-clause-served : goal.returns-clause-served
 returns-clause-served g c = λ plan batches before asks has put.
-    let next = c.in_ok-serve.ensures.served batches has in (
+    let next = c.in_ok-made.ensures.served batches has in (
       next.0,
       next.1,
       next.2,
@@ -30,6 +30,6 @@ returns-clause-served g c = λ plan batches before asks has put.
 
 pub returns-clause-going : goal.returns-clause-going
 returns-clause-going g c =
-    let next = c.in_ok-serve.ensures.served c.requires.going.0 c.requires.going.1 in
+    let next = c.in_ok-made.ensures.served c.requires.going.0 c.requires.going.1 in
     let going : IsGoing c.args.service.now c.serve.new.self = (c.requires.going.0 ++ next.0 ∷ [], next.2) in
     going

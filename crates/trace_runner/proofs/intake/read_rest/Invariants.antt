@@ -1,7 +1,7 @@
 use Rattle.std.proofs.Common.{◌≡◌, ◌≤◌, ◌+◌, ◌++◌, ℕ, List, Option, false}
 use Rattle.plain_map.specs.declared.calls.Call.{Call}
 use Rattle.trace_runner.specs.Reading.{AreBetween, HaveCome}
-use Rattle.trace_runner.proofs.intake.read_batch.Given as goal
+use Rattle.trace_runner.proofs.intake.read_rest.Given as goal
 
 -- so far has the batch been read
 abbrev pub invariant-loop-packets : goal.invariant-loop-packets
@@ -11,8 +11,10 @@ invariant-loop-packets g l =
       going : l.reader.ended ≡ false;
       given : l.reader.given ≡ l.before + l.packets;
       between : AreBetween l.before (l.before + l.packets) l.calls.items;
+      whole : l.packets ≡ l.taken → l.calls.items ≡ l.fn.calls.items;
+      from : l.taken ≤ l.packets;
       counted : g.S.Source.faults l.fn.source ≤ g.S.Source.faults l.source;
       read : (first : Option (List ℕ)) (all : List (ℕ × Call)) →
-          HaveCome first (left l.fn.source) l.fn.reader l.before all →
+          HaveCome first (left l.fn.source) l.fn.reader (l.before + l.taken) (all ++ l.fn.calls.items) →
           HaveCome first (left l.source) l.reader (l.before + l.packets) (all ++ l.calls.items);
     }
