@@ -2,7 +2,7 @@
 -- inserted: the same, as a new key finds room by both.
 use Rattle.std.proofs.Common.{◌≡◌, ℕ, ◌<◌, ◌≤◌, ◌==◌, ◌⊎◌, Bool, true, false, cond, List, [], ◌∷◌, ◌++◌, Option, Some, None, inl, inr, refl, sym, ap, subst, ◌∙◌, arith}
 use Rattle.std.specs.Prelude.{◌&&◌, All, count_by, filter, fold, is_some}
-use Rattle.std.specs.FinMap.{empty, get, get-empty}
+use Rattle.std.specs.FinMap.{empty, get, get-empty, insert}
 use Rattle.std.specs.List.{AllByRecursion as Each}
 use Rattle.std.proofs.lemmas.Bool.{cases_lt, eqb-true, eq-eqb, lt-ltb, or_cases, or_parts}
 use Rattle.std.proofs.lemmas.List.{map-append}
@@ -10,13 +10,13 @@ use Rattle.std.proofs.lemmas.List.Elements.{All-from_recursion}
 use Rattle.std.proofs.lemmas.List.Sums.{length-filter, sum_by-append, sum_by-cons}
 use Rattle.std.proofs.lemmas.Map.Keys.{IsDistinct-cons}
 use Rattle.plain_map.specs.declared.calls.Call.{Call}
-use Rattle.plain_map.specs.declared.calls.Call.TheVariants.{Insert, Remove, Lookup}
+use Rattle.plain_map.specs.declared.calls.Call.TheVariants.{Insert, Remove, Lookup, Tally}
 use Rattle.plain_map.specs.declared.keys.Key.{Key}
 use Rattle.plain_map.specs.declared.keys.Pair.{Pair}
 use Rattle.plain_map.specs.declared.rules.Rules.{Rules}
 use Rattle.plain_map.specs.History.{Placed, answered, pending, call_in, Legal, sessions_after}
-use Rattle.plain_map.specs.Keys.{hash_of_key, key_cmp}
-use Rattle.plain_map.specs.PlainObject.{Sessions, pairs_of, class_of, class_size, has_room, insert_reply, inserted, reply_of, map_after}
+use Rattle.plain_map.specs.Keys.{Session, hash_of_key, held_in, key_cmp}
+use Rattle.plain_map.specs.PlainObject.{Sessions, brought, class_of, class_size, grown, has_room, insert_reply, inserted, map_after, new_session, pairs_of, reply_of, tallied}
 use Rattle.bucket_states.specs.Items.{prefix_of, same_key}
 use Rattle.bucket_states.specs.Parts.{keys_of, HasDistinctKeys}
 use Rattle.bucket_states.proofs.KeyTests.{Decides-same_key}
@@ -24,7 +24,6 @@ use Rattle.bucket_states.proofs.PartLemmas.{both_hold, get-inserted, get-removed
 use Rattle.bucket_states.proofs.SizeLemmas.{entry_keys, of_class, class_size-keys, distinct_of_class, member_of_class}
 use Rattle.core_model.specs.Closed.{FilledByFirst, FilledByCalls, keys_with_prefix, sessions_with}
 use Rattle.core_model.specs.Needs.{IsAmongKeys, distinct_keys, inserted_by}
-use Rattle.core_model.specs.Opening.{insert_of}
 use Rattle.core_model.specs.Setup.{HaveRoom, classmates}
 use Rattle.core_bounds.proofs.KeyCounts.{has, has_passing, distinct_has, at_most, no_more, each_has}
 use Rattle.core_bounds.proofs.Pigeons.{flag}
@@ -73,7 +72,7 @@ module _ (rules : Rules) (keys : List Key) (m : Sessions) (among : AreAmong keys
   not_held : has held key ≡ false
   not_held = member_of_class rules m class key ∙ nothing (class_of rules key == class) (get m key) new
     where
-      nothing : (b : Bool) (o : Option ℕ) → o ≡ None → is_some (cond b o None) ≡ false
+      nothing : (b : Bool) (o : Option Session) → o ≡ None → is_some (cond b o None) ≡ false
       nothing true o none = ap is_some none
       nothing false o none = refl
 
@@ -142,47 +141,61 @@ module _ (rules : Rules) (start : ℕ) (keys : List Key) (within : start ≤ rul
           (omega (arith, low, mates_below key (pairs_of m))))
     ]
 
-    -- so a call leaves the same
+    -- so a session that comes to a key leaves the same
+    brought_alike : (key : Key) (new : Session) → has keys key ≡ true → brought less m key new ≡ brought rules m key new
+    brought_alike key new own = go (get m key) refl
+      where
+        go : (o : Option Session) → get m key ≡ o →
+            inserted m key new o (has_room less m key) ≡ inserted m key new o (has_room rules m key)
+        go (Some held) is = refl
+        go None is = ap (inserted m key new None) (room_alike key own is)
+
+    -- and so does a call
     map_alike : (call : Call) → All (IsAmongKeys keys) (inserted_by call) →
         map_after less m call ≡ map_after rules m call
     unfolding map_after
-    map_alike (Insert key value) own = go (get m key) refl
-      where
-        go : (o : Option ℕ) → get m key ≡ o →
-            inserted m key value o (has_room less m key) ≡ inserted m key value o (has_room rules m key)
-        go (Some held) is = refl
-        go None is = ap (inserted m key value None) (room_alike key (own 0 key (omega arith)) is)
+    map_alike (Insert key value) own = brought_alike key (new_session value) (own 0 key (omega arith))
     map_alike (Remove key) own = refl
     map_alike (Lookup key) own = refl
+    map_alike (Tally key amount) own = refl
 
-    -- and has the same reply
+    -- which has the same reply
     reply_alike : (call : Call) → All (IsAmongKeys keys) (inserted_by call) →
         reply_of less m call ≡ reply_of rules m call
     unfolding reply_of
     reply_alike (Insert key value) own = go (get m key) refl
       where
-        go : (o : Option ℕ) → get m key ≡ o →
+        go : (o : Option Session) → get m key ≡ o →
             insert_reply o (has_room less m key) ≡ insert_reply o (has_room rules m key)
         go (Some held) is = refl
         go None is = ap (insert_reply None) (room_alike key (own 0 key (omega arith)) is)
     reply_alike (Remove key) own = refl
     reply_alike (Lookup key) own = refl
+    reply_alike (Tally key amount) own = refl
 
-    -- what is held then is among the keys
-    among_after : (call : Call) → All (IsAmongKeys keys) (inserted_by call) → AreAmong keys (map_after rules m call)
-    unfolding map_after
-    among_after (Insert key value) own = go (get m key) (has_room rules m key)
+    -- where one of the keys gets a session, what is held then is among the keys
+    set_among : (key : Key) (new : Session) → has keys key ≡ true → AreAmong keys (insert m key new)
+    set_among key new own = λ q some.
+        by q (same_key key q) refl (sym (ap is_some (get-inserted m key new q)) ∙ some)
       where
-        by : (q : Key) (b : Bool) → same_key key q ≡ b → is_some (cond b (Some value) (get m q)) ≡ true →
+        by : (q : Key) (b : Bool) → same_key key q ≡ b → is_some (cond b (Some new) (get m q)) ≡ true →
             has keys q ≡ true
-        by q true same some = subst (λ k. has keys k ≡ true) ((Decides-same_key key q).0 same)
-            (own 0 key (omega arith))
+        by q true same some = subst (λ k. has keys k ≡ true) ((Decides-same_key key q).0 same) own
         by q false other some = among q some
 
-        go : (o : Option ℕ) (room : Bool) → AreAmong keys (inserted m key value o room)
+    -- also where a session comes to it
+    brought_among : (key : Key) (new : Session) → has keys key ≡ true → AreAmong keys (brought rules m key new)
+    brought_among key new own = go (get m key) (has_room rules m key)
+      where
+        go : (o : Option Session) (room : Bool) → AreAmong keys (inserted m key new o room)
         go (Some held) room = among
-        go None true = λ q some. by q (same_key key q) refl (sym (ap is_some (get-inserted m key value q)) ∙ some)
+        go None true = set_among key new own
         go None false = among
+
+    -- and after a call
+    among_after : (call : Call) → All (IsAmongKeys keys) (inserted_by call) → AreAmong keys (map_after rules m call)
+    unfolding map_after
+    among_after (Insert key value) own = brought_among key (new_session value) (own 0 key (omega arith))
     among_after (Remove key) own = λ q some.
         by q (same_key key q) (sym (ap is_some (get-removed m key q)) ∙ some)
       where
@@ -190,31 +203,32 @@ module _ (rules : Rules) (start : ℕ) (keys : List Key) (within : start ≤ rul
         by q true some = cc
         by q false some = among q some
     among_after (Lookup key) own = among
+    among_after (Tally key amount) own = go (get m key) refl
+      where
+        go : (o : Option Session) → get m key ≡ o → AreAmong keys (tallied m key amount o)
+        go (Some held) is = set_among key (grown held amount) (among key (ap is_some is))
+        go None is = among
 
   -- ---- pairs and calls
 
-  -- the insert of a pair of the keys
-  insert_own : (pair : Pair) → has keys pair.key ≡ true → All (IsAmongKeys keys) (inserted_by (insert_of pair))
-  insert_own pair own = All-from_recursion (IsAmongKeys keys) (pair.key ∷ []) (own, tt)
-
   -- pairs of the keys leave the same
   pairs_alike : (pairs : List Pair) (m : Sessions) → AreAmong keys m → Each (IsAmongKeys keys) (keys_of pairs) →
-      fold (λ sessions pair. map_after less sessions (insert_of pair)) m pairs
-      ≡ fold (λ sessions pair. map_after rules sessions (insert_of pair)) m pairs
+      fold (λ sessions pair. brought less sessions pair.key (held_in pair)) m pairs
+      ≡ fold (λ sessions pair. brought rules sessions pair.key (held_in pair)) m pairs
   pairs_alike [] m among own = refl
   pairs_alike (pair ∷ pairs) m among own =
-      let one = insert_own pair own.0 in
-      ap (λ n. fold (λ sessions pair. map_after less sessions (insert_of pair)) n pairs)
-      (map_alike m among (insert_of pair) one)
-      ∙ pairs_alike pairs (map_after rules m (insert_of pair)) (among_after m among (insert_of pair) one) own.1
+      ap (λ n. fold (λ sessions pair. brought less sessions pair.key (held_in pair)) n pairs)
+      (brought_alike m among pair.key (held_in pair) own.0)
+      ∙ pairs_alike pairs (brought rules m pair.key (held_in pair))
+      (brought_among m among pair.key (held_in pair) own.0) own.1
 
   -- and what is held then is among the keys
   pairs_among : (pairs : List Pair) (m : Sessions) → AreAmong keys m → Each (IsAmongKeys keys) (keys_of pairs) →
-      AreAmong keys (fold (λ sessions pair. map_after rules sessions (insert_of pair)) m pairs)
+      AreAmong keys (fold (λ sessions pair. brought rules sessions pair.key (held_in pair)) m pairs)
   pairs_among [] m among own = among
   pairs_among (pair ∷ pairs) m among own =
-      let one = insert_own pair own.0 in
-      pairs_among pairs (map_after rules m (insert_of pair)) (among_after m among (insert_of pair) one) own.1
+      pairs_among pairs (brought rules m pair.key (held_in pair)) (brought_among m among pair.key (held_in pair) own.0)
+      own.1
 
   -- none is held at first
   empty_among : AreAmong keys empty

@@ -9,7 +9,6 @@ use lib.Pow.{pow-add}
 use Rattle.std.proofs.lemmas.Bool.{cases_lt, cases_eq, eqb-true, eq-eqb, ltb-true, ltb-false, false_from_ne_true, true_from_ne_false, true≢false}
 use Rattle.std.proofs.lemmas.List.Sums.{sum_by-cons, sum_by-le-sum_by}
 use Rattle.hash_bits.specs.Prefix.{first_bits}
-use Rattle.hash_bits.proofs.HashLemmas.{hash-within}
 use Rattle.hash_bits.proofs.PrefixLemmas.{first_bits-within}
 use Rattle.plain_map.specs.declared.keys.Key.{Key}
 use Rattle.plain_map.specs.declared.rules.Rules.{Rules}
@@ -19,6 +18,7 @@ use Rattle.core_model.specs.Needs.{distinct_keys, is_crowded, crowded_at}
 use Rattle.core_bounds.proofs.Levels.{count_range}
 use Rattle.core_bounds.proofs.Pigeons.{flag, passing, pigeons}
 use Rattle.batch_rows.specs.Depths.{depth_for}
+use Rattle.plain_map.proofs.KeyLemmas.{hash_of_key-within}
 
 -- ---- counts
 
@@ -111,7 +111,7 @@ prefix_below rules depth key = elim (cases_lt depth 64) [
     hash = hash_of_key rules.hashing key
 
     small : hash_of_key rules.hashing key < 2 ^ 64
-    small = hash-within rules.hashing key.k0 key.k1
+    small = hash_of_key-within rules.hashing key
 
 -- ---- calm depths
 

@@ -12,7 +12,7 @@ use Rattle.std.proofs.lemmas.List.Sorted.{list_any-IsPermutation}
 use Rattle.std.proofs.lemmas.List.Sums.{length-filter}
 use Rattle.std.proofs.lemmas.Map.Views.{Contains-from_any, list_any-from_Contains}
 use Rattle.plain_map.specs.declared.calls.Call.{Call}
-use Rattle.plain_map.specs.declared.calls.Call.TheVariants.{Insert, Lookup, Remove}
+use Rattle.plain_map.specs.declared.calls.Call.TheVariants.{Insert, Lookup, Remove, Tally}
 use Rattle.plain_map.specs.declared.keys.Key.{Key}
 use Rattle.plain_map.specs.declared.rules.Rules.{Rules}
 use Rattle.bucket_states.specs.Items.{prefix_of, same_key}
@@ -157,6 +157,7 @@ pub none_inserted : (call : Call) → ((key : Key) (value : ℕ) → ¬ (call �
 none_inserted (Insert key value) other = absurd (other key value refl)
 none_inserted (Remove key) other = refl
 none_inserted (Lookup key) other = refl
+none_inserted (Tally key amount) other = refl
 
 -- ---- the keys of two lists
 

@@ -1,5 +1,6 @@
 -- Keys in order, each once: what a sort and a dedup leave, and two such lists that are merged.
-use Rattle.std.proofs.Common.{◌≡◌, ℕ, ◌+◌, ◌<◌, ◌≤◌, Bool, List, [], ◌∷◌, ◌++◌, ◌⊎◌, inl, inr, append_assoc, drop, get_or, length, refl, true, false, Some, sym, subst, ◌∙◌}
+use Rattle.std.specs.Prelude.{Option}
+use Rattle.std.proofs.Common.{ap, ◌≡◌, ℕ, ◌+◌, ◌<◌, ◌≤◌, Bool, List, [], ◌∷◌, ◌++◌, ◌⊎◌, inl, inr, append_assoc, drop, get_or, length, refl, true, false, Some, sym, subst, ◌∙◌}
 use Rattle.std.specs.List.{IsDistinct, dedup, AllByRecursion as Each}
 use Rattle.std.specs.List.Sorted.{IsSorted, IsStrictlySortedBy}
 use Rattle.std.specs.Ordering.{is_eq, is_lt, is_some_and, nat_cmp, ordering_reverse, ordering_then, partial_ordering_then}
@@ -28,19 +29,23 @@ order_distinct keys order = subst (λ (test : Key → Key → Bool). IsDistinct 
 
 -- ---- two lists are merged
 
--- the test for a lesser key, as it is made of the keys' two words
+-- the test for a lesser key, as it is made of the keys' words
 abbrev pub is_lesser : Key → Key → Bool
-is_lesser a b = is_some_and is_lt (partial_ordering_then (Some (nat_cmp a.k0 b.k0)) (Some (nat_cmp a.k1 b.k1)))
+is_lesser a b = is_some_and is_lt (partial_ordering_then (Some (nat_cmp a.k0 b.k0))
+    (partial_ordering_then (Some (nat_cmp a.k1 b.k1)) (partial_ordering_then (Some (nat_cmp a.k2 b.k2))
+    (partial_ordering_then (Some (nat_cmp a.k3 b.k3)) (Some (nat_cmp a.k4 b.k4))))))
+
+-- two orderings, one after the other, where both are known
+then_is : (first second : Ordering) (rest : Option Ordering) → rest ≡ Some second →
+    partial_ordering_then (Some first) rest ≡ Some (ordering_then first second)
+then_is Less second rest is = refl
+then_is Equal second rest is = is
+then_is Greater second rest is = refl
 
 -- it is that of the order
 is_lesser-is_lt : (a b : Key) → is_lesser a b ≡ is_lt (key_cmp a b)
-is_lesser-is_lt a b = by (nat_cmp a.k0 b.k0) (nat_cmp a.k1 b.k1)
-  where
-    by : (first second : Ordering) →
-        is_some_and is_lt (partial_ordering_then (Some first) (Some second)) ≡ is_lt (ordering_then first second)
-    by Less second = refl
-    by Equal second = refl
-    by Greater second = refl
+is_lesser-is_lt a b = ap (is_some_and is_lt) (then_is (nat_cmp a.k0 b.k0) _ _ (then_is (nat_cmp a.k1 b.k1) _ _
+    (then_is (nat_cmp a.k2 b.k2) _ _ (then_is (nat_cmp a.k3 b.k3) (nat_cmp a.k4 b.k4) _ refl))))
 
 -- where it passes, the first key is less
 pub lesser : (a b : Key) → is_lesser a b ≡ true → key_cmp a b ≡ Less

@@ -17,11 +17,12 @@ const HINT_MULTIPLIER: u64 = 0x9e37_79b9_7f4a_7c15;
 // What is shifted out of a product, so that 12 bits are left.
 const HINT_SHIFT: u32 = 52;
 
-/// Where the hint to a key stands: one multiplication spreads both words over the bits that are kept.
+/// Where the hint to a key stands: two multiplications spread all words over the bits that are kept.
 pub(crate) fn hint_place(key: &Key) -> usize
     ensures { result < HINTS }
 {
-    ((key.k0 ^ (key.k0 >> 32) ^ key.k1).wrapping_mul(HINT_MULTIPLIER) >> HINT_SHIFT) as usize
+    let low = (key.k0 ^ key.k1).wrapping_mul(HINT_MULTIPLIER);
+    ((low ^ key.k2 ^ key.k3 ^ key.k4).wrapping_mul(HINT_MULTIPLIER) >> HINT_SHIFT) as usize
 }
 
 /// Whether the key stands among these where its hint leads to.

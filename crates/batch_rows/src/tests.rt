@@ -16,8 +16,11 @@ use step_counts::{SeatRows, Settings};
 // ports 1 to 5 begin with 000, ports 8192 and 8193 with 001, port 16384 with 010, and port 32768 with 100.
 fn key(port: u64) -> Key {
     Key {
-        k0: 0x0a00_0001_0a00_0002,
-        k1: port << 24 | 80 << 8 | 6,
+        k0: 0,
+        k1: 0x0a00_0001,
+        k2: 0,
+        k3: 0x0a00_0002,
+        k4: port << 24 | 80 << 8 | 6,
     }
 }
 
@@ -27,6 +30,7 @@ fn pairs(alloc: Global, ports: &[u64]) -> Result<Vec<Pair>, AllocError> {
         let pair = Pair {
             key: key(*port),
             value: *port,
+            bytes: 0,
         };
         pairs.push(pair)?;
     }

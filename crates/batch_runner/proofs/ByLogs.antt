@@ -21,12 +21,13 @@ use Rattle.batch_runner.specs.Served.{AreInPacketOrder}
 use Rattle.batch_runner.specs.Totals.{totals_of, with_replies}
 use Rattle.batch_runner.proofs.Merges.{AreOf, Until, one_left, until_end, until_next, until_start, zero_at, zeros}
 use Rattle.batch_runner.proofs.TotalLemmas.{totals_sum, with_totals}
+use Rattle.plain_map.specs.Keys.{no_key}
 
 -- ---- there are such outcomes
 
 -- a call, and an outcome, that stand where there is none
 no_call : ℕ × Call
-no_call = (0, Lookup (record { k0 = 0; k1 = 0 }))
+no_call = (0, Lookup no_key)
 
 no_outcome : Outcome
 no_outcome = Refused 0 (no_call.1) (record { what = OpRows; left = 0; need = 0 })

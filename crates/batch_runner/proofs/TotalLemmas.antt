@@ -7,9 +7,9 @@ use Rattle.std.proofs.lemmas.List.{take_more, map-append}
 use Rattle.std.proofs.lemmas.List.Sums.{fold-append, fold_push, count_by-le-length, length-filter}
 use Rattle.std.proofs.lemmas.List.Elements.{filter-append}
 use Rattle.plain_map.specs.declared.calls.Call.{Call}
-use Rattle.plain_map.specs.declared.calls.Call.TheVariants.{Insert, Remove, Lookup}
+use Rattle.plain_map.specs.declared.calls.Call.TheVariants.{Insert, Remove, Lookup, Tally}
 use Rattle.plain_map.specs.declared.calls.Reply.{Reply}
-use Rattle.plain_map.specs.declared.calls.Reply.TheVariants.{New, Old, NoRoom, Gone, Found, Absent}
+use Rattle.plain_map.specs.declared.calls.Reply.TheVariants.{New, Old, NoRoom, Gone, Found, Absent, Sum}
 use Rattle.plain_map.specs.declared.full.Full.{Full}
 use Rattle.plain_map.specs.declared.records.Record.{Record}
 use Rattle.core_model.specs.SeatStates.{is_update}
@@ -116,6 +116,14 @@ replies_end Absent rs r is = (λ i. record {
   found = count_no (λ (x : Record). is_found x.reply) rs r (ap is_found is) i;
   absent = count_yes (λ (x : Record). is_absent x.reply) rs r (ap is_absent is) i;
 })
+replies_end (Sum total) rs r is = (λ i. record {
+  new = count_no (λ (x : Record). is_new x.reply) rs r (ap is_new is) i;
+  old = count_no (λ (x : Record). is_old x.reply) rs r (ap is_old is) i;
+  noroom = count_no (λ (x : Record). is_noroom x.reply) rs r (ap is_noroom is) i;
+  gone = count_no (λ (x : Record). is_gone x.reply) rs r (ap is_gone is) i;
+  found = count_no (λ (x : Record). is_found x.reply) rs r (ap is_found is) i;
+  absent = count_no (λ (x : Record). is_absent x.reply) rs r (ap is_absent is) i;
+})
 
 -- ---- totals
 
@@ -161,6 +169,13 @@ answered_end (Insert key value) calls refused rs made is = (λ i. record {
   replies = replies_end made.reply rs made refl i;
 })
 answered_end (Remove key) calls refused rs made is = (λ i. record {
+  calls = calls + 1;
+  refused = refused;
+  update = steps_yes is_updating rs made (ap is_update is) i;
+  lookup = steps_no is_looking rs made (ap (λ (c : Call). not (is_update c)) is) i;
+  replies = replies_end made.reply rs made refl i;
+})
+answered_end (Tally key amount) calls refused rs made is = (λ i. record {
   calls = calls + 1;
   refused = refused;
   update = steps_yes is_updating rs made (ap is_update is) i;

@@ -2,9 +2,9 @@
 -- Source: this project's own.
 use Rattle.std.specs.Prelude.{◌≡◌, ℕ, ◌+◌, ◌<◌, max, Bool, true, false, List, length, count_by}
 use Rattle.plain_map.specs.declared.calls.Reply.{Reply}
-use Rattle.plain_map.specs.declared.calls.Reply.TheVariants.{New, Old, NoRoom, Gone, Found, Absent}
+use Rattle.plain_map.specs.declared.calls.Reply.TheVariants.{New, Old, NoRoom, Gone, Found, Absent, Sum}
 use Rattle.plain_map.specs.declared.calls.Call.{Call}
-use Rattle.plain_map.specs.declared.calls.Call.TheVariants.{Insert, Remove, Lookup}
+use Rattle.plain_map.specs.declared.calls.Call.TheVariants.{Insert, Remove, Lookup, Tally}
 use Rattle.trace_share.specs.declared.outcome.Outcome.{Outcome}
 use Rattle.trace_share.specs.declared.outcome.Outcome.TheVariants.{Answered, Refused}
 use Rattle.batch_runner.specs.declared.totals.Replies.{Replies}
@@ -68,7 +68,7 @@ pub record AreFewer (limit : ℕ) (replies : Replies) : Type 0 where
   pub found : replies.found < limit
   pub absent : replies.absent < limit
 
--- one more of a reply
+-- one more of a reply; a sum is none of the six
 abbrev pub with_reply : Reply → Replies → Replies
 with_reply New replies = record replies { new = replies.new + 1 }
 with_reply (Old value) replies = record replies { old = replies.old + 1 }
@@ -76,6 +76,7 @@ with_reply NoRoom replies = record replies { noroom = replies.noroom + 1 }
 with_reply (Gone value) replies = record replies { gone = replies.gone + 1 }
 with_reply (Found value) replies = record replies { found = replies.found + 1 }
 with_reply Absent replies = record replies { absent = replies.absent + 1 }
+with_reply (Sum total) replies = replies
 
 -- those of a batch more
 abbrev pub with_replies : (batch : Replies) → Replies → Replies
@@ -93,6 +94,7 @@ abbrev pub with_steps : Call → (steps : ℕ) → Totals → Totals
 with_steps (Lookup key) steps totals = record totals { lookup = max totals.lookup steps }
 with_steps (Insert key value) steps totals = record totals { update = max totals.update steps }
 with_steps (Remove key) steps totals = record totals { update = max totals.update steps }
+with_steps (Tally key amount) steps totals = record totals { update = max totals.update steps }
 
 -- one call more
 abbrev pub with_outcome : Outcome → Totals → Totals

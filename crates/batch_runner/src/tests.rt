@@ -29,8 +29,11 @@ pub(crate) fn key(port: u16) -> Key
     ensures { HasText result }
 {
     Key {
-        k0: 0x0a00_0001_0a00_0002,
-        k1: u64::from(port) * 0x100_0000 + 0x50_06,
+        k0: 0,
+        k1: 0x0a00_0001,
+        k2: 0,
+        k3: 0x0a00_0002,
+        k4: u64::from(port) * 0x100_0000 + 0x50_06,
     }
 }
 
@@ -40,6 +43,7 @@ pub(crate) enum Frame {
     Syn(u16),
     Ack(u16),
     Fin(u16),
+    Data(u16, u16),
 }
 
 // The call of a packet.
@@ -52,6 +56,7 @@ fn call_of(packet: u32, frame: Frame) -> (u32, Call)
         Frame::Syn(port) => (packet, Call::Insert(key(port), u64::from(packet))),
         Frame::Ack(port) => (packet, Call::Lookup(key(port))),
         Frame::Fin(port) => (packet, Call::Remove(key(port))),
+        Frame::Data(port, bytes) => (packet, Call::Tally(key(port), u64::from(bytes))),
     }
 }
 

@@ -1,8 +1,10 @@
 -- The words of a row, cut where something is written.
 use Rattle.std.proofs.Common.{◌≡◌, ℕ, zero, suc, ◌+◌, ◌-◌, ◌*◌, ◌^◌, ◌<◌, ◌≤◌, List, [], ◌∷◌, ◌++◌, length, take, drop, get_or, set, replicate, Option, Some, None, Bool, true, false, cond, eqb, refl, sym, ap, ◌∙◌, arith}
-use Rattle.std.proofs.lemmas.List.{length-append, append_assoc, append-nil, set-append_right, take_at, drop_at, drop-drop, get_or-drop, length-drop, length-take-le}
+use Rattle.std.proofs.lemmas.List.{length-append, append_assoc, append-nil, set-append_right, take_at, drop_at, drop-drop, get_or-drop, length-drop, length-take-le, take-append-drop, replicate-append-replicate, set_split}
+use Rattle.std.proofs.Math.Seq.{drop-cons}
+use borrow.Rule.Slice.PartMut.{put_mid}
 use Rattle.std.specs.List.{remove}
-use Rattle.std.proofs.lemmas.List.Elements.{All-append, All-cons, All-nil, All-take, All-drop}
+use Rattle.std.proofs.lemmas.List.Elements.{All-append, All-cons, All-nil, All-set, All-take, All-drop}
 use Rattle.std.proofs.lemmas.List.Edits.{length-remove}
 use Rattle.std.specs.Prelude.{◌&&◌, ◌≢◌, nat_lt}
 use Rattle.std.proofs.lemmas.Bool.Decides.{nat_tests}
@@ -12,17 +14,21 @@ use Rattle.plain_map.specs.declared.calls.Reply.{Reply}
 use Rattle.plain_map.specs.declared.keys.Pair.{Pair}
 use Rattle.plain_map.specs.Rows.{BucketContent}
 use Rattle.plain_map.specs.declared.keys.Key.{Key}
-use Rattle.bucket_states.specs.Items.{same_key, value_at, without}
+use Rattle.plain_map.specs.declared.keys.TheConstants.{KEY_WORDS}
+use Rattle.plain_map.specs.Keys.{held_in, no_pair}
+use Rattle.plain_map.specs.Updates.{IsSmallPair}
+use Rattle.std.proofs.Math.ListN.{length-set}
+use Rattle.bucket_states.specs.Items.{same_key, tallied_in, value_at, with_more, without}
 use Rattle.bucket_states.specs.Places.{IsPlaceOf}
 use Rattle.word_rows.specs.Blocks.{blocks}
-use Rattle.word_rows.specs.KeyWords.{words_of_pair}
+use Rattle.word_rows.specs.KeyWords.{words_of_pair, pair_of_words}
 use Rattle.word_rows.specs.ReplyWords.{word_of_reply}
 use Rattle.word_rows.specs.BucketWords.{AreItems, word_of_flag, item_place, item_words, seat_place, seat_words, head_words, words_of_bucket}
 use Rattle.word_rows.proofs.BlockLemmas.{blocks_zero, blocks_more, block-blocks, get_or-block}
 use Rattle.word_rows.specs.Blocks.{block}
 use Rattle.word_rows.proofs.PartLemmas.{places_padded}
 use Rattle.word_rows.proofs.BucketLemmas.{length-item_words}
-use Rattle.bucket_machine.specs.Rows.{with_pair, with_answer, with_items, without_place, HasPlaces, Spell}
+use Rattle.bucket_machine.specs.Rows.{bytes_set, with_bytes, with_pair, with_answer, with_items, without_place, HasPlaces, Spell}
 
 -- a word is written behind the front
 pub set_in : (front ys : List ℕ) (n k i v : ℕ) → length front ≡ n → i ≡ n + k →
@@ -31,13 +37,13 @@ set_in front ys n k i v long at =
     let rest : i - n ≡ k = omega (arith, at) in
     set-append_right front ys n i v long (omega (arith, at)) ∙ ap (λ (j : ℕ). front ++ set ys j v) rest
 
--- three words written one after the other
-pub set3 : (front back : List ℕ) (x y z a b c n : ℕ) → length front ≡ n →
-    set (set (set (front ++ x ∷ y ∷ z ∷ back) n a) (n + 1) b) (n + 2) c ≡ front ++ a ∷ b ∷ c ∷ back
-set3 front back x y z a b c n long =
-    ap (λ (ws : List ℕ). set (set ws (n + 1) b) (n + 2) c) (set_in front (x ∷ y ∷ z ∷ back) n 0 n a long (omega arith))
-    ∙ ap (λ (ws : List ℕ). set ws (n + 2) c) (set_in front (a ∷ y ∷ z ∷ back) n 1 (n + 1) b long refl)
-    ∙ set_in front (a ∷ b ∷ z ∷ back) n 2 (n + 2) c long refl
+-- a part that is written over
+put_over : (front rest back new : List ℕ) (a k : ℕ) → length front ≡ a → drop k rest ≡ back →
+    put_mid a k (front ++ rest) new ≡ front ++ (new ++ back)
+put_over front rest back new a k long is =
+    let before : take a (front ++ rest) ≡ front = take_at front rest a long in
+    let after : drop k (drop a (front ++ rest)) ≡ back = ap (drop k) (drop_at front rest a long) ∙ is in
+    λ i. before i ++ (new ++ after i)
 
 -- the first part stands first
 pub blocks_cons : (part : ℕ → List ℕ) (n : ℕ) → blocks part (suc n) ≡ part 0 ++ blocks (λ i. part (suc i)) n
@@ -53,8 +59,8 @@ abbrev pub flat : List Pair → List ℕ
 flat [] = []
 flat (p ∷ ps) = words_of_pair p ++ flat ps
 
--- an item has three words
-pub length-flat : (items : List Pair) → length (flat items) ≡ 3 * length items
+-- each item has so many words
+pub length-flat : (items : List Pair) → length (flat items) ≡ ITEM_WORDS * length items
 length-flat [] = refl
 length-flat (p ∷ ps) = omega (arith, length-flat ps)
 
@@ -116,7 +122,7 @@ seat_set (suc n) (suc s) k (x ∷ xs) (y ∷ ys) number reply h a r e =
 pub answered_in : (settings : Settings) (b : BucketContent) (seat at : ℕ) (number : ℕ) (reply : Reply)
     (row : List ℕ) → row ≡ words_of_bucket settings b
     → seat < settings.seats → length b.applied ≡ settings.seats → length b.replies ≡ settings.seats →
-    at ≡ 5 + 3 * settings.items + 2 * seat
+    at ≡ 5 + ITEM_WORDS * settings.items + 2 * seat
     → set (set row at number) (at + 1) (word_of_reply (Some reply)) ≡ words_of_bucket settings
     (with_answer seat number reply b)
 answered_in settings b seat at number reply row is h a r e =
@@ -124,7 +130,7 @@ answered_in settings b seat at number reply row is h a r e =
     let seats = seat_words settings.seats b.applied b.replies in
     let items = item_words settings.items b.items in
     let front : List ℕ = head_words b ++ items in
-    let n : ℕ = 5 + settings.items * 3 in
+    let n : ℕ = 5 + settings.items * ITEM_WORDS in
     let long : length front ≡ n = omega (arith, length-item_words settings.items b.items) in
     let k : ℕ = seat * 2 in
     ap (λ (ws : List ℕ). set (set ws at number) (at + 1) w) is
@@ -132,46 +138,46 @@ answered_in settings b seat at number reply row is h a r e =
     ∙ set_in front (set seats k number) n (k + 1) (at + 1) w long (omega (arith, e))
     ∙ ap (λ (ws : List ℕ). front ++ ws) (seat_set settings.seats seat k b.applied b.replies number reply h a r refl)
 
+-- room for one item more, and the rest
+zeros_more : (m : ℕ) (seats : List ℕ) →
+    replicate (suc m * ITEM_WORDS) 0 ++ seats ≡ replicate ITEM_WORDS 0 ++ (replicate (m * ITEM_WORDS) 0 ++ seats)
+zeros_more m seats =
+    let e : suc m * ITEM_WORDS ≡ ITEM_WORDS + m * ITEM_WORDS = omega arith in
+    ap (λ (n : ℕ). replicate n 0 ++ seats) e
+    ∙ ap (λ (ws : List ℕ). ws ++ seats) (sym (replicate-append-replicate ITEM_WORDS (m * ITEM_WORDS) 0))
+    ∙ append_assoc (replicate ITEM_WORDS 0) (replicate (m * ITEM_WORDS) 0) seats
+
 -- one more item
-pub pushed : (settings : Settings) (b : BucketContent) (pair : Pair) (row : List ℕ) (at : ℕ) →
-    row ≡ words_of_bucket settings b → length b.items < settings.items → at ≡ 5 + 3 * length b.items
-    → (let three = set (set (set row at pair.key.k0) (at + 1) pair.key.k1) (at + 2) pair.value in
-    set three 4 (get_or three 4 0 + 1)) ≡ words_of_bucket settings (with_pair pair b)
-pushed settings b pair row at is few e =
+pub pushed : (settings : Settings) (b : BucketContent) (pair : Pair) (row new : List ℕ) (at k : ℕ) →
+    row ≡ words_of_bucket settings b → length b.items < settings.items → at ≡ 5 + ITEM_WORDS * length b.items →
+    k ≡ ITEM_WORDS → new ≡ words_of_pair pair
+    → (let more = put_mid at k row new in set more 4 (get_or more 4 0 + 1)) ≡ words_of_bucket settings
+    (with_pair pair b)
+pushed settings b pair row new at k is few e wide are =
     let count : ℕ = length b.items in
     let m : ℕ = settings.items - count - 1 in
     let seats = seat_words settings.seats b.applied b.replies in
     let room : settings.items ≡ count + suc m = omega (arith, few) in
-    let back : List ℕ = replicate (m * 3) 0 ++ seats in
+    let back : List ℕ = replicate (m * ITEM_WORDS) 0 ++ seats in
     let front : List ℕ = head_words b ++ flat b.items in
-    let zeros : suc m * 3 ≡ suc (suc (suc (m * 3))) = omega arith in
-    let whole : row ≡ front ++ 0 ∷ 0 ∷ 0 ∷ back =
-    is ∙ words_flat settings b (suc m) room ∙ ap (λ (n : ℕ). front ++ (replicate n 0 ++ seats)) zeros in
+    let zeros : List ℕ = replicate ITEM_WORDS 0 in
+    let whole : row ≡ front ++ (zeros ++ back) =
+    is ∙ words_flat settings b (suc m) room ∙ ap (λ (ws : List ℕ). front ++ ws) (zeros_more m seats) in
     let long : length front ≡ at = omega (arith, e, length-flat b.items) in
-    let three : set (set (set row at pair.key.k0) (at + 1) pair.key.k1) (at + 2) pair.value ≡ front
-    ++ pair.key.k0 ∷ pair.key.k1 ∷ pair.value ∷ back =
-    ap (λ (ws : List ℕ). set (set (set ws at pair.key.k0) (at + 1) pair.key.k1) (at + 2) pair.value) whole
-    ∙ set3 front back 0 0 0 pair.key.k0 pair.key.k1 pair.value at long in
+    let written : put_mid at k row new ≡ front ++ (words_of_pair pair ++ back) =
+    (λ i. put_mid at (wide i) (whole i) (are i))
+    ∙ put_over front (zeros ++ back) back (words_of_pair pair) at ITEM_WORDS long refl in
     let now = with_pair pair b in
     let counted : count + 1 ≡ length (b.items ++ pair ∷ []) = omega (arith, length-append b.items (pair ∷ [])) in
     let left : settings.items ≡ length (b.items ++ pair ∷ []) + m =
     omega (arith, room, length-append b.items (pair ∷ [])) in
-    let tail : flat (b.items ++ pair ∷ []) ++ back ≡ flat b.items ++ pair.key.k0 ∷ pair.key.k1 ∷ pair.value ∷ back =
+    let tail : flat (b.items ++ pair ∷ []) ++ back ≡ flat b.items ++ (words_of_pair pair ++ back) =
     ap (λ (ws : List ℕ). ws ++ back) (flat-append b.items (pair ∷ []))
     ∙ append_assoc (flat b.items) (words_of_pair pair) back in
-    ap (λ (ws : List ℕ). set ws 4 (get_or ws 4 0 + 1)) three
-    ∙ ap (λ (n : ℕ). set front 4 n ++ pair.key.k0 ∷ pair.key.k1 ∷ pair.value ∷ back) counted
+    ap (λ (ws : List ℕ). set ws 4 (get_or ws 4 0 + 1)) written
+    ∙ ap (λ (n : ℕ). set front 4 n ++ (words_of_pair pair ++ back)) counted
     ∙ ap (λ (ws : List ℕ). head_words now ++ ws) (sym tail)
     ∙ sym (words_flat settings now m left)
-
--- the first three words of what follows become zeros
-zero3 : (front rest back : List ℕ) (n : ℕ) → length front ≡ n → 3 ≤ length rest → drop 3 rest ≡ back →
-    set (set (set (front ++ rest) n 0) (n + 1) 0) (n + 2) 0 ≡ front ++ 0 ∷ 0 ∷ 0 ∷ back
-zero3 front [] back n long many is = absurd (omega (arith, many))
-zero3 front (x ∷ []) back n long many is = absurd (omega (arith, many))
-zero3 front (x ∷ y ∷ []) back n long many is = absurd (omega (arith, many))
-zero3 front (x ∷ y ∷ z ∷ rest) back n long many is =
-    set3 front rest x y z 0 0 0 n long ∙ ap (λ (ws : List ℕ). front ++ 0 ∷ 0 ∷ 0 ∷ ws) is
 
 -- a list that is cut at an item
 parts_at : (items : List Pair) (at : ℕ) → at < length items →
@@ -180,12 +186,13 @@ parts_at [] at h = absurd (omega (arith, h))
 parts_at (p ∷ ps) zero h = (p, refl)
 parts_at (p ∷ ps) (suc at) h = let r = parts_at ps at (omega (arith, h)) in (r.0, ap (λ (qs : List Pair). p ∷ qs) r.1)
 
--- one item less: what stands behind it is moved up over it, and three zeros come after the last
-pub closed_up : (settings : Settings) (b : BucketContent) (p : Pair) (xs ys : List Pair) (row : List ℕ)
+-- one item less: what stands behind it is moved up over it, and zeros come after the last
+closed_up : (settings : Settings) (b : BucketContent) (p : Pair) (xs ys : List Pair) (row : List ℕ)
     (start n m : ℕ) → row ≡ words_of_bucket settings b
-    → b.items ≡ xs ++ p ∷ ys → settings.items ≡ length b.items + m → start ≡ 5 + 3 * length xs → n ≡ 3 * length ys
-    → set (set (set ((take start row ++ take n (drop (start + 3) row)) ++ drop (start + n) row) (start + n) 0)
-    (start + n + 1) 0) (start + n + 2) 0
+    → b.items ≡ xs ++ p ∷ ys → settings.items ≡ length b.items + m → start ≡ 5 + ITEM_WORDS * length xs →
+    n ≡ ITEM_WORDS * length ys
+    → put_mid (start + n) ITEM_WORDS ((take start row ++ take n (drop (start + ITEM_WORDS) row))
+    ++ drop (start + n) row) (replicate ITEM_WORDS 0)
     ≡ head_words b ++ (flat (xs ++ ys) ++ (replicate (suc m * ITEM_WORDS) 0
     ++ seat_words settings.seats b.applied b.replies))
 closed_up settings b p xs ys row start n m is parts room e f =
@@ -193,6 +200,7 @@ closed_up settings b p xs ys row start n m is parts room e f =
     let back : List ℕ = replicate (m * ITEM_WORDS) 0 ++ seats in
     let front : List ℕ = head_words b ++ flat xs in
     let mid : List ℕ = words_of_pair p in
+    let zeros : List ℕ = replicate ITEM_WORDS 0 in
     let cut : flat b.items ≡ flat xs ++ (mid ++ flat ys) = ap flat parts ∙ flat-append xs (p ∷ ys) in
     let whole : row ≡ front ++ (mid ++ (flat ys ++ back)) =
     is ∙ words_flat settings b m room ∙ ap (λ (ws : List ℕ). head_words b ++ (ws ++ back)) cut
@@ -202,42 +210,34 @@ closed_up settings b p xs ys row start n m is parts room e f =
     let before : take start row ≡ front = ap (take start) whole ∙ take_at front (mid ++ (flat ys ++ back)) start long in
     let shift : front ++ (mid ++ (flat ys ++ back)) ≡ (front ++ mid) ++ (flat ys ++ back) =
     sym (append_assoc front mid (flat ys ++ back)) in
-    let over : length (front ++ mid) ≡ start + 3 = omega (arith, long, length-append front mid) in
-    let behind : drop (start + 3) row ≡ flat ys ++ back =
-    ap (drop (start + 3)) (whole ∙ shift) ∙ drop_at (front ++ mid) (flat ys ++ back) (start + 3) over in
-    let moved : take n (drop (start + 3) row) ≡ flat ys = ap (take n) behind ∙ take_at (flat ys) back n wide in
+    let next : ℕ = start + ITEM_WORDS in
+    let over : length (front ++ mid) ≡ next = omega (arith, long, length-append front mid) in
+    let behind : drop next row ≡ flat ys ++ back =
+    ap (drop next) (whole ∙ shift) ∙ drop_at (front ++ mid) (flat ys ++ back) next over in
+    let moved : take n (drop next row) ≡ flat ys = ap (take n) behind ∙ take_at (flat ys) back n wide in
     let rest : List ℕ = drop (start + n) row in
-    let end : drop 3 rest ≡ back =
-    drop-drop 3 (start + n) row
-    ∙ (let j : start + n + 3 ≡ start + 3 + n = omega arith in ap (λ (k : ℕ). drop k row) j)
-    ∙ sym (drop-drop n (start + 3) row) ∙ ap (drop n) behind ∙ drop_at (flat ys) back n wide in
-    let size : length row ≡ start + 3 + n + length back =
-    omega (
-      arith,
-      ap length whole,
-      length-append front (mid ++ (flat ys ++ back)),
-      length-append (flat ys) back,
-      long,
-      wide,
-    ) in
-    let many : 3 ≤ length rest = omega (arith, size, length-drop (start + n) row) in
+    let end : drop ITEM_WORDS rest ≡ back =
+    drop-drop ITEM_WORDS (start + n) row
+    ∙ (let j : start + n + ITEM_WORDS ≡ next + n = omega arith in ap (λ (k : ℕ). drop k row) j)
+    ∙ sym (drop-drop n next row) ∙ ap (drop n) behind ∙ drop_at (flat ys) back n wide in
     let joined : length (front ++ flat ys) ≡ start + n = omega (arith, long, wide, length-append front (flat ys)) in
-    let zeros : suc m * 3 ≡ suc (suc (suc (m * 3))) = omega arith in
-    (λ i. set (set (set ((before i ++ moved i) ++ rest) (start + n) 0) (start + n + 1) 0) (start + n + 2) 0)
-    ∙ zero3 (front ++ flat ys) rest back (start + n) joined many end
-    ∙ ap (λ (k : ℕ). (front ++ flat ys) ++ (replicate k 0 ++ seats)) (sym zeros)
-    ∙ ap (λ (ws : List ℕ). head_words b ++ (ws ++ (replicate (suc m * 3) 0 ++ seats))) (sym (flat-append xs ys))
+    (λ i. put_mid (start + n) ITEM_WORDS ((before i ++ moved i) ++ rest) zeros)
+    ∙ put_over (front ++ flat ys) rest back zeros (start + n) ITEM_WORDS joined end
+    ∙ ap (λ (ws : List ℕ). (front ++ flat ys) ++ ws) (sym (zeros_more m seats))
+    ∙ ap (λ (ws : List ℕ). head_words b ++ (ws ++ (replicate (suc m * ITEM_WORDS) 0 ++ seats))) (sym (flat-append xs ys))
 
 -- an item is taken out of a row
-pub removed : (settings : Settings) (b : BucketContent) (at count : ℕ) (row copied : List ℕ) →
+pub removed : (settings : Settings) (b : BucketContent) (at count : ℕ) (row copied new : List ℕ) (from k j : ℕ) →
     row ≡ words_of_bucket settings b → length b.items ≤ settings.items → at < length b.items → count ≡ length b.items
-    → copied ≡ (take (5 + 3 * at) row ++ take (5 + 3 * count - (5 + 3 * at + 3)) (drop (5 + 3 * at + 3) row))
-    ++ drop (5 + 3 * at + (5 + 3 * count - (5 + 3 * at + 3))) row
-    → (let three = set (set (set copied (5 + 3 * count - 3) 0) (5 + 3 * count - 2) 0) (5 + 3 * count - 1) 0 in
-    set three 4 (get_or three 4 0 - 1)) ≡ words_of_bucket settings (without_place at b)
-removed settings b at count row copied is fit inside counted made =
-    let start : ℕ = 5 + 3 * at in
-    let n : ℕ = 5 + 3 * count - (5 + 3 * at + 3) in
+    → (let start = 5 + ITEM_WORDS * at in let n = 5 + ITEM_WORDS * count - (start + ITEM_WORDS) in
+    copied ≡ (take start row ++ take n (drop (start + ITEM_WORDS) row)) ++ drop (start + n) row)
+    → from ≡ 5 + ITEM_WORDS * count - ITEM_WORDS → k ≡ ITEM_WORDS → j ≡ ITEM_WORDS →
+    new ≡ replicate j 0
+    → (let less = put_mid from k copied new in
+    set less 4 (get_or less 4 0 - 1)) ≡ words_of_bucket settings (without_place at b)
+removed settings b at count row copied new from k j is fit inside counted made there wide long nothing =
+    let start : ℕ = 5 + ITEM_WORDS * at in
+    let n : ℕ = 5 + ITEM_WORDS * count - (start + ITEM_WORDS) in
     let r = parts_at b.items at inside in
     let xs : List Pair = take at b.items in
     let ys : List Pair = drop (suc at) b.items in
@@ -245,65 +245,78 @@ removed settings b at count row copied is fit inside counted made =
     let seats = seat_words settings.seats b.applied b.replies in
     let few : length xs ≡ at = length-take-le at b.items (omega (arith, inside)) in
     let rest : length ys ≡ length b.items - suc at = length-drop (suc at) b.items in
-    let e0 : 5 + 3 * count - 3 ≡ start + n = omega (arith, inside, counted) in
-    let e1 : 5 + 3 * count - 2 ≡ start + n + 1 = omega (arith, inside, counted) in
-    let e2 : 5 + 3 * count - 1 ≡ start + n + 2 = omega (arith, inside, counted) in
-    let three : set (set (set copied (5 + 3 * count - 3) 0) (5 + 3 * count - 2) 0)
-    (5 + 3 * count - 1) 0 ≡ head_words b ++ (flat (xs ++ ys) ++ (replicate (suc m * ITEM_WORDS) 0 ++ seats)) =
-    (λ i. set (set (set (made i) (e0 i) 0) (e1 i) 0) (e2 i) 0)
+    let last : from ≡ start + n = omega (arith, inside, counted, there) in
+    let zeros : new ≡ replicate ITEM_WORDS 0 = nothing ∙ ap (λ (n : ℕ). replicate n 0) long in
+    let closed : put_mid from k copied new
+    ≡ head_words b ++ (flat (xs ++ ys) ++ (replicate (suc m * ITEM_WORDS) 0 ++ seats)) =
+    (λ i. put_mid (last i) (wide i) (made i) (zeros i))
     ∙ closed_up settings b r.0 xs ys row start n m is r.1 (omega (arith, fit)) (omega (arith, few))
     (omega (arith, rest, counted, inside)) in
     let less : length b.items - 1 ≡ length (xs ++ ys) = omega (arith, length-append xs ys, few, rest, inside) in
-    ap (λ (ws : List ℕ). set ws 4 (get_or ws 4 0 - 1)) three
+    ap (λ (ws : List ℕ). set ws 4 (get_or ws 4 0 - 1)) closed
     ∙ ap (λ (k : ℕ). set (head_words b) 4 k ++ (flat (xs ++ ys) ++ (replicate (suc m * ITEM_WORDS) 0 ++ seats))) less
     ∙ sym (words_flat settings (without_place at b) (suc m) (omega (arith, fit, less, inside)))
 
--- the words of one item
-item_at : (items : List Pair) (back : List ℕ) (i k : ℕ) (d : Pair) → i < length items → k ≡ i * 3
-    → (get_or (flat items ++ back) k 0 ≡ (get_or items i d).key.k0)
-    × (get_or (flat items ++ back) (k + 1) 0 ≡ (get_or items i d).key.k1)
-    × (get_or (flat items ++ back) (k + 2) 0 ≡ (get_or items i d).value)
-item_at [] back i k d h e = absurd (omega (arith, h))
-item_at (p ∷ ps) back zero k d h e =
-    let first : k ≡ 0 = omega (arith, e) in
-    let ws : List ℕ = flat (p ∷ ps) ++ back in (
-      ap (λ (j : ℕ). get_or ws j 0) first,
-      ap (λ (j : ℕ). get_or ws (j + 1) 0) first,
-      ap (λ (j : ℕ). get_or ws (j + 2) 0) first,
-    )
-item_at (p ∷ ps) back (suc i) k d h e =
-    let j : ℕ = i * 3 in
-    let ws : List ℕ = flat (p ∷ ps) ++ back in
-    let e0 : k ≡ suc (suc (suc j)) = omega (arith, e) in
-    let e1 : k + 1 ≡ suc (suc (suc (j + 1))) = omega (arith, e) in
-    let e2 : k + 2 ≡ suc (suc (suc (j + 2))) = omega (arith, e) in
-    let r = item_at ps back i j d (omega (arith, h)) refl in (
-      ap (λ (x : ℕ). get_or ws x 0) e0 ∙ r.0,
-      ap (λ (x : ℕ). get_or ws x 0) e1 ∙ r.1,
-      ap (λ (x : ℕ). get_or ws x 0) e2
-          ∙ r.2,
-    )
-
--- the words of one item in a row
-pub item_in : (settings : Settings) (b : BucketContent) (row : List ℕ) (i : ℕ) (d : Pair) →
-    row ≡ words_of_bucket settings b → length b.items ≤ settings.items → i < length b.items
-    → (get_or row (5 + 3 * i) 0 ≡ (get_or b.items i d).key.k0)
-    × (get_or row (5 + 3 * i + 1) 0 ≡ (get_or b.items i d).key.k1)
-    × (get_or row (5 + 3 * i + 2) 0 ≡ (get_or b.items i d).value)
-item_in settings b row i d is fit h =
+-- a row from an item on
+item_in : (settings : Settings) (b : BucketContent) (row : List ℕ) (i at : ℕ) (d : Pair) →
+    row ≡ words_of_bucket settings b → length b.items ≤ settings.items → i < length b.items → at ≡ 5 + ITEM_WORDS * i
+    → (rest : List ℕ) × (drop at row ≡ words_of_pair (get_or b.items i d) ++ rest)
+item_in settings b row i at d is fit h e =
     let m : ℕ = settings.items - length b.items in
     let back : List ℕ = replicate (m * ITEM_WORDS) 0 ++ seat_words settings.seats b.applied b.replies in
-    let j : ℕ = i * 3 in
-    let whole : row ≡ head_words b ++ (flat b.items ++ back) = is ∙ words_flat settings b m (omega (arith, fit)) in
-    let r = item_at b.items back i j d h refl in
-    let e0 : 5 + 3 * i ≡ suc (suc (suc (suc (suc j)))) = omega arith in
-    let e1 : 5 + 3 * i + 1 ≡ suc (suc (suc (suc (suc (j + 1))))) = omega arith in
-    let e2 : 5 + 3 * i + 2 ≡ suc (suc (suc (suc (suc (j + 2))))) = omega arith in (
-      (λ x. get_or (whole x) (e0 x) 0) ∙ r.0,
-      (λ x. get_or (whole x) (e1 x) 0) ∙ r.1,
-      (λ x. get_or (whole x) (e2 x) 0)
-          ∙ r.2,
+    let xs : List Pair = take i b.items in
+    let ys : List Pair = drop i b.items in
+    let front : List ℕ = head_words b ++ flat xs in
+    let few : length xs ≡ i = length-take-le i b.items (omega (arith, h)) in
+    let cut : flat b.items ≡ flat xs ++ flat ys = ap flat (sym (take-append-drop i b.items)) ∙ flat-append xs ys in
+    let whole : row ≡ front ++ (flat ys ++ back) =
+    is ∙ words_flat settings b m (omega (arith, fit)) ∙ ap (λ (ws : List ℕ). head_words b ++ (ws ++ back)) cut
+    ∙ ap (λ (ws : List ℕ). head_words b ++ ws) (append_assoc (flat xs) (flat ys) back) in
+    let long : length front ≡ at = omega (arith, e, few, length-flat xs) in (
+      flat (drop (suc i) b.items) ++ back,
+      ap (drop at) whole ∙ drop_at front (flat ys ++ back) at long
+          ∙ ap (λ (zs : List Pair). flat zs ++ back) (drop-cons b.items i d h),
     )
+
+-- it, by the words that spell it
+pub pair_in_row : (settings : Settings) (b : BucketContent) (row : List ℕ) (i at k : ℕ) (d : Pair) (pair : Pair) →
+    row ≡ words_of_bucket settings b → length b.items ≤ settings.items → i < length b.items →
+    at ≡ 5 + ITEM_WORDS * i → k ≡ ITEM_WORDS → take k (drop at row) ≡ words_of_pair pair → pair ≡ get_or b.items i d
+pair_in_row settings b row i at k d pair is fit h e wide read =
+    let r = item_in settings b row i at d is fit h e in
+    ap pair_of_words (sym read ∙ (λ j. take (wide j) (r.1 j)))
+
+-- so many bytes are written
+pub bytes_in_row : (settings : Settings) (b : BucketContent) (row : List ℕ) (i at bytes : ℕ) →
+    row ≡ words_of_bucket settings b → length b.items ≤ settings.items → i < length b.items →
+    at ≡ 5 + ITEM_WORDS * i + (KEY_WORDS + 1) → set row at bytes ≡ words_of_bucket settings (with_bytes i bytes b)
+bytes_in_row settings b row i at bytes is fit h e =
+    let m : ℕ = settings.items - length b.items in
+    let back : List ℕ = replicate (m * ITEM_WORDS) 0 ++ seat_words settings.seats b.applied b.replies in
+    let xs : List Pair = take i b.items in
+    let p : Pair = get_or b.items i no_pair in
+    let q : Pair = bytes_set p bytes in
+    let zs : List Pair = drop (suc i) b.items in
+    let front : List ℕ = head_words b ++ flat xs in
+    let few : length xs ≡ i = length-take-le i b.items (omega (arith, h)) in
+    let items_are : b.items ≡ xs ++ p ∷ zs =
+    sym (take-append-drop i b.items) ∙ ap (λ (ys : List Pair). xs ++ ys) (drop-cons b.items i no_pair h) in
+    let cut : flat b.items ≡ flat xs ++ flat (p ∷ zs) = ap flat items_are ∙ flat-append xs (p ∷ zs) in
+    let whole : row ≡ front ++ (flat (p ∷ zs) ++ back) =
+    is ∙ words_flat settings b m (omega (arith, fit)) ∙ ap (λ (ws : List ℕ). head_words b ++ (ws ++ back)) cut
+    ∙ ap (λ (ws : List ℕ). head_words b ++ ws) (append_assoc (flat xs) (flat (p ∷ zs)) back) in
+    let n : ℕ = 5 + ITEM_WORDS * i in
+    let long : length front ≡ n = omega (arith, few, length-flat xs) in
+    let written : set row at bytes ≡ front ++ (flat (q ∷ zs) ++ back) =
+    ap (λ (ws : List ℕ). set ws at bytes) whole
+    ∙ set_in front (flat (p ∷ zs) ++ back) n (KEY_WORDS + 1) at bytes long (omega (arith, e)) in
+    let now : set b.items i q ≡ xs ++ q ∷ zs = set_split b.items i q h in
+    let same : flat (set b.items i q) ≡ flat xs ++ flat (q ∷ zs) = ap flat now ∙ flat-append xs (q ∷ zs) in
+    let many : length (set b.items i q) ≡ length b.items = length-set b.items i q in
+    written ∙ ap (λ (ws : List ℕ). head_words b ++ ws) (sym (append_assoc (flat xs) (flat (q ∷ zs)) back))
+    ∙ ap (λ (ws : List ℕ). head_words b ++ (ws ++ back)) (sym same)
+    ∙ ap (λ (k : ℕ). set (head_words b) 4 k ++ (flat (set b.items i q) ++ back)) (sym many)
+    ∙ sym (words_flat settings (with_bytes i bytes b) m (omega (arith, fit, many)))
 
 -- ---- a key among items that are gone through one by one
 
@@ -313,21 +326,25 @@ pub placed_here : (key : Key) (items : List Pair) (i : ℕ) (d : Pair) → i < l
 placed_here key [] i d h none is = absurd (omega (arith, h))
 placed_here key (p ∷ ps) zero d h none is = record {
   in_range = omega arith;
-  value = λ d. ap (λ (t : Bool). cond t (Some p.value) (value_at key ps)) is;
+  value = λ d. ap (λ (t : Bool). cond t (Some (held_in p)) (value_at key ps)) is;
   rest = ap (λ (t : Bool). cond t ps (p ∷ without key ps)) is;
+  more = λ d amount. ap (λ (t : Bool). cond t (with_more p amount ∷ ps) (p ∷ tallied_in key amount ps)) is;
 }
 placed_here key (p ∷ ps) (suc i) d h none is =
     by (same_key p.key key) refl none (λ none. placed_here key ps i d (omega (arith, h)) none is)
   where
-    by : (t : Bool) → same_key p.key key ≡ t → cond t (Some p.value) (value_at key (take i ps)) ≡ None →
+    by : (t : Bool) → same_key p.key key ≡ t → cond t (Some (held_in p)) (value_at key (take i ps)) ≡ None →
         (value_at key (take i ps) ≡ None → IsPlaceOf key ps i) → IsPlaceOf key (p ∷ ps) (suc i)
     by true e none more = cc
     by false e none more =
         let there = more none in
         record {
           in_range = omega (arith, there.in_range);
-          value = λ d. ap (λ (t : Bool). cond t (Some p.value) (value_at key ps)) e ∙ there.value d;
+          value = λ d. ap (λ (t : Bool). cond t (Some (held_in p)) (value_at key ps)) e ∙ there.value d;
           rest = ap (λ (t : Bool). cond t ps (p ∷ without key ps)) e ∙ ap (λ (qs : List Pair). p ∷ qs) there.rest;
+          more = λ d amount.
+              ap (λ (t : Bool). cond t (with_more p amount ∷ ps) (p ∷ tallied_in key amount ps)) e
+              ∙ ap (λ (qs : List Pair). p ∷ qs) (there.more d amount);
         }
 
 -- it is not among one item more
@@ -335,39 +352,17 @@ pub none_more : (key : Key) (items : List Pair) (i : ℕ) (d : Pair) → i < len
     value_at key (take i items) ≡ None → same_key (get_or items i d).key key ≡ false →
     value_at key (take (i + 1) items) ≡ None
 none_more key [] i d h none is = absurd (omega (arith, h))
-none_more key (p ∷ ps) zero d h none is = ap (λ (t : Bool). cond t (Some p.value) None) is
+none_more key (p ∷ ps) zero d h none is = ap (λ (t : Bool). cond t (Some (held_in p)) None) is
 none_more key (p ∷ ps) (suc i) d h none is =
     let e : suc i + 1 ≡ suc (i + 1) = omega arith in
     ap (λ (n : ℕ). value_at key (take n (p ∷ ps))) e
     ∙ by (same_key p.key key) none (λ none. none_more key ps i d (omega (arith, h)) none is)
   where
-    by : (t : Bool) → cond t (Some p.value) (value_at key (take i ps)) ≡ None →
+    by : (t : Bool) → cond t (Some (held_in p)) (value_at key (take i ps)) ≡ None →
         (value_at key (take i ps) ≡ None → value_at key (take (i + 1) ps) ≡ None) →
-        cond t (Some p.value) (value_at key (take (i + 1) ps)) ≡ None
+        cond t (Some (held_in p)) (value_at key (take (i + 1) ps)) ≡ None
     by true none more = cc
     by false none more = more none
-
--- whether an item has the key, by its words
-pub same_in : (settings : Settings) (b : BucketContent) (row : List ℕ) (i : ℕ) (d : Pair) (key : Key) →
-    row ≡ words_of_bucket settings b → length b.items ≤ settings.items → i < length b.items
-    → same_key (get_or b.items i d).key key ≡ (eqb (get_or row (5 + 3 * i) 0) key.k0 && eqb
-    (get_or row (5 + 3 * i + 1) 0) key.k1)
-same_in settings b row i d key is fit h =
-    let r = item_in settings b row i d is fit h in
-    sym (λ x. eqb (r.0 x) key.k0 && eqb (r.1 x) key.k1)
-
--- two tests, the first of which holds
-pub test_true : (x k : ℕ) (t : Bool) → x ≡ k → t ≡ (eqb x k && t)
-test_true x k t is = (let e : eqb x k ≡ true = grind (arith, nat_tests) in sym (ap (λ (s : Bool). s && t) e))
-
--- where the first fails
-same_and : (s t : Bool) → s ≡ false → s ≡ (s && t)
-same_and true t e = cc
-same_and false t e = refl
-
--- and where it fails
-pub test_false : (x k : ℕ) (t : Bool) → x ≢ k → eqb x k ≡ (eqb x k && t)
-test_false x k t is = (let e : eqb x k ≡ false = grind (arith, nat_tests) in same_and (eqb x k) t e)
 
 -- two tests, the second of which is known
 pub both_true : (s t : Bool) → t ≡ true → s ≡ (s && t)
@@ -397,11 +392,11 @@ with_places settings b left h items = record {
 
 -- one item more can be kept
 pub items_pushed : (room : ℕ) (items : List Pair) (pair : Pair) → AreItems room items → length items < room →
-    pair.value < 2 ^ 61 → AreItems room (items ++ pair ∷ [])
+    IsSmallPair pair → AreItems room (items ++ pair ∷ [])
 items_pushed room items pair h few small = record {
   fit = omega (arith, few, length-append items (pair ∷ []));
-  values = All-append (λ (x : Pair). x.value < 2 ^ 61) items (pair ∷ []) h.values
-      (All-cons (λ (x : Pair). x.value < 2 ^ 61) pair [] small (All-nil (λ (x : Pair). x.value < 2 ^ 61)));
+  values = All-append IsSmallPair items (pair ∷ []) h.values
+      (All-cons IsSmallPair pair [] small (All-nil IsSmallPair));
 }
 
 -- so can one less
@@ -409,15 +404,25 @@ pub items_removed : (room : ℕ) (items : List Pair) (at : ℕ) → AreItems roo
     AreItems room (remove items at)
 items_removed room items at h inside = record {
   fit = omega (arith, h.fit, length-remove items at inside);
-  values = All-append (λ (x : Pair). x.value < 2 ^ 61) (take at items) (drop (suc at) items)
-      (All-take (λ (x : Pair). x.value < 2 ^ 61) at items h.values)
-      (All-drop (λ (x : Pair). x.value < 2 ^ 61) (suc at) items h.values);
+  values = All-append IsSmallPair (take at items) (drop (suc at) items)
+      (All-take IsSmallPair at items h.values)
+      (All-drop IsSmallPair (suc at) items h.values);
 }
+
+-- and so can the items with so many bytes in one
+pub items_counted : (room : ℕ) (items : List Pair) (at bytes : ℕ) → AreItems room items → at < length items →
+    bytes < 2 ^ 61 → AreItems room (set items at (bytes_set (get_or items at no_pair) bytes))
+items_counted room items at bytes h inside small =
+    let q : Pair = bytes_set (get_or items at no_pair) bytes in
+    record {
+      fit = omega (arith, h.fit, length-set items at q);
+      values = All-set IsSmallPair items at q ((h.values at no_pair inside).0, small) h.values;
+    }
 
 -- a value that stands in the items is small
 pub small_at : (room : ℕ) (items : List Pair) (at v : ℕ) (d : Pair) → AreItems room items → at < length items →
     v ≡ (get_or items at d).value → v < 2 ^ 61
-small_at room items at v d h inside is = omega (arith, is, h.values at d inside)
+small_at room items at v d h inside is = let small = h.values at d inside in omega (arith, is, small.0)
 
 -- ---- what a row's words tell
 
@@ -434,12 +439,12 @@ seat_get n s k applied replies h e =
 
 -- and in a row
 pub number_in : (settings : Settings) (b : BucketContent) (row : List ℕ) (seat at : ℕ) →
-    row ≡ words_of_bucket settings b → seat < settings.seats → at ≡ 5 + 3 * settings.items + 2 * seat →
+    row ≡ words_of_bucket settings b → seat < settings.seats → at ≡ 5 + ITEM_WORDS * settings.items + 2 * seat →
     get_or row at 0 ≡ get_or b.applied seat 0
 number_in settings b row seat at is h e =
     let seats : List ℕ = seat_words settings.seats b.applied b.replies in
     let front : List ℕ = head_words b ++ item_words settings.items b.items in
-    let n : ℕ = 5 + settings.items * 3 in
+    let n : ℕ = 5 + settings.items * ITEM_WORDS in
     let k : ℕ = seat * 2 in
     let long : length front ≡ n = omega (arith, length-item_words settings.items b.items) in
     let there : at ≡ n + k = omega (arith, e) in

@@ -1,8 +1,9 @@
 -- A bucket row with one thing changed.
-use Rattle.std.specs.Prelude.{ℕ, ◌≡◌, ◌≤◌, true, List, [], ◌∷◌, ◌++◌, length, Option, Some, slice_set}
+use Rattle.std.specs.Prelude.{ℕ, ◌≡◌, ◌≤◌, true, List, [], ◌∷◌, ◌++◌, length, Option, Some, slice_set, slice_index_or}
 use Rattle.std.specs.List.{remove}
 use Rattle.plain_map.specs.declared.calls.Reply.{Reply}
 use Rattle.plain_map.specs.declared.keys.Pair.{Pair}
+use Rattle.plain_map.specs.Keys.{no_pair}
 use Rattle.plain_map.specs.Rows.{BucketContent}
 use Rattle.step_counts.specs.declared.settings.Settings.{Settings}
 use Rattle.plain_map.specs.declared.rules.Rules.{Rules}
@@ -33,6 +34,14 @@ with_pair pair b = with_items (b.items ++ pair ∷ []) b
 -- a bucket without the item at a place
 abbrev pub without_place : ℕ → BucketContent → BucketContent
 without_place at b = with_items (remove b.items at) b
+
+-- an item with so many bytes
+abbrev pub bytes_set : Pair → (bytes : ℕ) → Pair
+bytes_set pair bytes = record pair { bytes = bytes }
+
+-- a bucket with so many bytes in the item at a place
+abbrev pub with_bytes : (at bytes : ℕ) → BucketContent → BucketContent
+with_bytes at bytes b = with_items (slice_set b.items at (bytes_set (slice_index_or b.items at no_pair) bytes)) b
 
 -- a bucket with a later number and reply of a seat
 abbrev pub with_answer : (seat number : ℕ) → Reply → BucketContent → BucketContent

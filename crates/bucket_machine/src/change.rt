@@ -7,7 +7,7 @@ ghost use Rattle.std.specs.Prelude.{◌≡◌, ◌+◌, ◌^◌, ◌<◌, ◌≤
 ghost use Rattle.step_counts.specs.StepCounts.{bucket_row_words};
 ghost use Rattle.plain_map.specs.Rows.{BucketContent};
 ghost use Rattle.plain_map.specs.declared.rules.Rules.{Rules};
-ghost use Rattle.plain_map.specs.declared.calls.Call.TheVariants.{Insert, Remove};
+ghost use Rattle.plain_map.specs.declared.calls.Call.TheVariants.{Insert, Remove, Tally};
 ghost use Rattle.word_rows.specs.BucketWords.{SpellSomeBucket, bucket_of_words, words_of_bucket};
 ghost use Rattle.bucket_states.specs.States.{row_of_state};
 ghost use Rattle.bucket_states.specs.States.{state_in_row};
@@ -18,10 +18,12 @@ ghost use Rattle.bucket_machine.specs.HashedKeys.{IsHashed};
 ghost use Rattle.bucket_machine.specs.Rows.{Becomes, BecomesChanged, IsAnsweredIn, IsSpelled, Spell};
 
 use crate::hashed::Hashed;
-use crate::row::{find_item, freeze, push_item, remove_item, set_base, set_seat, value_in};
+use crate::row::{
+    find_item, freeze, pair_in, push_item, remove_item, set_base, set_bytes, set_seat,
+};
 use bucket_states::Op;
 use hash_bits::bits;
-use plain_map::{Call, Key, Pair, Reply, Rules};
+use plain_map::{Call, Key, Pair, Reply, Rules, add_bytes};
 use step_counts::{BUCKET_HEAD_WORDS, COUNT_PLACE, ITEM_WORDS, SEAT_WORDS, Settings};
 use word_rows::row_laws;
 
@@ -32,13 +34,14 @@ fn insert(settings: &Settings, rules: &Rules, row: &mut [u64], pair: &Pair) -> O
     requires few { slice_index row.old COUNT_PLACE ≤ settings.now.items }
     requires rules { rules.now.items ≡ settings.now.items }
     requires value { pair.now.value < 2 ^ 61 }
+    requires begins { pair.now.bytes ≡ 0 }
     ensures answer { (b : BucketContent) → Spell settings.now b row.old →
         IsAnsweredIn rules.now settings.now (Insert pair.now.key pair.now.value) b row.new result }
     ensures long { length row.new ≡ length row.old }
 {
     let _pair = *pair;
     match find_item(settings, row, &pair.key) {
-        Some(at) => Some(Reply::Old(value_in(settings, row, at))),
+        Some(at) => Some(Reply::Old(pair_in(settings, row, at).value)),
         None if row[COUNT_PLACE] < settings.items as u64 => {
             push_item(settings, row, pair);
             Some(Reply::New)
@@ -60,9 +63,29 @@ fn remove(settings: &Settings, row: &mut [u64], key: &Key) -> Reply
     let _key = *key;
     match find_item(settings, row, key) {
         Some(at) => {
-            let value = value_in(settings, row, at);
+            let value = pair_in(settings, row, at).value;
             remove_item(settings, row, at);
             Reply::Gone(value)
+        }
+        None => Reply::Absent,
+    }
+}
+
+// Adds so many bytes to the key's pair.
+#[inline(always)]
+fn tally(settings: &Settings, row: &mut [u64], key: &Key, amount: u64) -> Reply
+    requires long { length row.old ≡ bucket_row_words settings.now }
+    requires few { slice_index row.old COUNT_PLACE ≤ settings.now.items }
+    ensures answer { (rules : Rules) (b : BucketContent) → Spell settings.now b row.old →
+        IsAnsweredIn rules settings.now (Tally key.now amount) b row.new (Some result) }
+    ensures long { length row.new ≡ length row.old }
+{
+    let _key = *key;
+    match find_item(settings, row, key) {
+        Some(at) => {
+            let bytes = add_bytes(pair_in(settings, row, at).bytes, amount);
+            set_bytes(settings, row, at, bytes);
+            Reply::Sum(bytes)
         }
         None => Reply::Absent,
     }
@@ -87,9 +110,11 @@ fn answer(settings: &Settings, rules: &Rules, row: &mut [u64], call: &Call) -> O
             &Pair {
                 key: *key,
                 value: *value,
+                bytes: 0,
             },
         ),
         Call::Remove(key) => Some(remove(settings, row, key)),
+        Call::Tally(key, amount) => Some(tally(settings, row, key, *amount)),
         Call::Lookup(_) => unreachable!(),
     }
 }

@@ -11,11 +11,11 @@ ghost use Rattle.word_rows.specs.BucketWords.{IsBucket};
 ghost use Rattle.plain_map.specs.Updates.{IsUpdateReply};
 ghost use Rattle.bucket_states.specs.Items.{same_key, value_at};
 ghost use Rattle.bucket_states.specs.Places.{IsPlaceOf};
-ghost use Rattle.bucket_machine.specs.Rows.{Spell, Turns, with_answer, with_base, with_frozen, with_pair, without_place};
+ghost use Rattle.bucket_machine.specs.Rows.{Spell, Turns, with_answer, with_base, with_bytes, with_frozen, with_pair, without_place};
 
-use plain_map::{Key, Pair, Reply};
+use plain_map::{KEY_WORDS, Key, Pair, Reply};
 use step_counts::{BUCKET_HEAD_WORDS, COUNT_PLACE, ITEM_WORDS, SEAT_WORDS, Settings};
-use word_rows::reply_word;
+use word_rows::{read_pair, reply_word, write_pair};
 
 /// Freezes the bucket.
 #[inline(always)]
@@ -62,9 +62,7 @@ pub(crate) fn push_item(settings: &Settings, row: &mut [u64], pair: &Pair)
 {
     let _items = settings.items;
     let at = BUCKET_HEAD_WORDS + ITEM_WORDS * row[COUNT_PLACE] as usize;
-    row[at] = pair.key.k0;
-    row[at + 1] = pair.key.k1;
-    row[at + 2] = pair.value;
+    write_pair(pair, &mut row[at..at + ITEM_WORDS]);
     row[COUNT_PLACE] += 1;
 }
 
@@ -81,9 +79,7 @@ pub(crate) fn remove_item(settings: &Settings, row: &mut [u64], at: usize)
     let start = BUCKET_HEAD_WORDS + ITEM_WORDS * at;
     let end = BUCKET_HEAD_WORDS + ITEM_WORDS * row[COUNT_PLACE] as usize;
     row.copy_within(start + ITEM_WORDS..end, start);
-    row[end - 3] = 0;
-    row[end - 2] = 0;
-    row[end - 1] = 0;
+    row[end - ITEM_WORDS..end].fill(0);
     row[COUNT_PLACE] -= 1;
 }
 
@@ -114,19 +110,31 @@ fn has_key(settings: &Settings, row: &[u64], i: usize, key: &Key) -> bool
     ensures same { (b : BucketContent) → Spell settings.now b row.now → i < length b.items → (d : Pair) → result ≡
         same_key (slice_index_or b.items i d).key key.now }
 {
-    let _items = settings.items;
-    let at = BUCKET_HEAD_WORDS + ITEM_WORDS * i;
-    row[at] == key.k0 && row[at + 1] == key.k1
+    pair_in(settings, row, i).key == *key
 }
 
-/// The value of an item.
+/// An item.
 #[inline(always)]
-pub(crate) fn value_in(settings: &Settings, row: &[u64], i: usize) -> u64
+pub(crate) fn pair_in(settings: &Settings, row: &[u64], i: usize) -> Pair
     requires long { length row.now ≡ bucket_row_words settings.now }
     requires few { i < settings.now.items }
     ensures same { (b : BucketContent) → Spell settings.now b row.now → i < length b.items → (d : Pair) → result ≡
-        (slice_index_or b.items i d).value }
+        slice_index_or b.items i d }
 {
     let _items = settings.items;
-    row[BUCKET_HEAD_WORDS + ITEM_WORDS * i + 2]
+    let at = BUCKET_HEAD_WORDS + ITEM_WORDS * i;
+    read_pair(&row[at..at + ITEM_WORDS])
+}
+
+/// Says how many bytes an item has.
+#[inline(always)]
+pub(crate) fn set_bytes(settings: &Settings, row: &mut [u64], i: usize, bytes: u64)
+    requires long { length row.old ≡ bucket_row_words settings.now }
+    requires few { slice_index row.old COUNT_PLACE ≤ settings.now.items }
+    requires place { i < slice_index row.old COUNT_PLACE }
+    ensures spelled { Turns settings.now (with_bytes i bytes) row.old row.new }
+    ensures long { length row.new ≡ length row.old }
+{
+    let _items = settings.items;
+    row[BUCKET_HEAD_WORDS + ITEM_WORDS * i + (KEY_WORDS + 1)] = bytes;
 }

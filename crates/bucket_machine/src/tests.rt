@@ -12,30 +12,46 @@ use step_counts::{SeatRows, Settings};
 use word_rows::Layout;
 
 // The addresses 10.0.0.1 and 10.0.0.2.
-const K0: u64 = 0x0a00_0001_0a00_0002;
+const LOW: u64 = 0x0a00_0001;
 
-// The second words of the keys of TCP packets between these, from the ports 1 and 2 to port 80.
+const HIGH: u64 = 0x0a00_0002;
+
+// The last words of the keys of TCP packets between these, from the ports 1 and 2 to port 80.
 const ONE: u64 = 0x0100_5006;
 
 const TWO: u64 = 0x0200_5006;
 
-fn key(k1: u64) -> Key {
-    Key { k0: K0, k1 }
+fn key(k4: u64) -> Key {
+    Key {
+        k0: 0,
+        k1: LOW,
+        k2: 0,
+        k3: HIGH,
+        k4,
+    }
 }
 
-fn insert(seat: u32, number: u32, k1: u64, value: u64) -> Op
+fn insert(seat: u32, number: u32, k4: u64, value: u64) -> Op
     requires { value < VALUE_LIMIT }
     ensures { IsUpdate result.call }
 {
-    let call = Call::Insert(key(k1), value);
+    let call = Call::Insert(key(k4), value);
     Op { seat, number, call }
 }
 
-// The row of a bucket of depth 0 for two seats and two items, with one item of seat 1, takes an insert of seat 0. The
-// words are worked by hand from the layout: prefix, depth, one more than the base, mark, count, three words an item,
-// and number and reply of each seat.
+fn tally(seat: u32, number: u32, k4: u64, amount: u64) -> Op
+    requires { amount < VALUE_LIMIT }
+    ensures { IsUpdate result.call }
+{
+    let call = Call::Tally(key(k4), amount);
+    Op { seat, number, call }
+}
+
+// The row of a bucket of depth 0 for two seats and two items, with one item of seat 1 that has 9 bytes, takes an
+// insert of seat 0 and a tally of seat 1. The words are worked by hand from the layout: prefix, depth, one more than
+// the base, mark, count, seven words an item, and number and reply of each seat. The reply `sum 14` is 6 + 8 * 14.
 #[test]
-fn a_row_takes_an_insert(rt: HostRuntime) -> Result<(), Fail> {
+fn a_row_takes_an_insert_and_a_tally(rt: HostRuntime) -> Result<(), Fail> {
     let settings = Settings::new(2, 2, 2, 0)?;
     let rows = SeatRows {
         op_rows: 9,
@@ -51,16 +67,23 @@ fn a_row_takes_an_insert(rt: HostRuntime) -> Result<(), Fail> {
     };
     let own = Hashed::new(&rules.hashing, &key(ONE));
     let mut room = BucketRow::with_room(rt.alloc(), &settings)?;
-    let mut words = [0, 0, 4, 0, 1, K0, ONE, 7, 0, 0, 0, 0, 0, 1, 1];
+    let mut words = [
+        0, 0, 4, 0, 1, 0, LOW, 0, HIGH, ONE, 7, 9, 0, 0, 0, 0, 0, 0, 0, 0, 0, 1, 1,
+    ];
     assert!(rt; layout.read_bucket(&words, &mut room));
     change_row(
         &settings,
         &rules,
         &own,
         6,
-        &[Some(insert(0, 1, TWO, 8)), None],
+        &[Some(insert(0, 1, TWO, 8)), Some(tally(1, 2, ONE, 5))],
         &mut words,
     );
-    assert_eq!(rt; words, [0, 0, 7, 0, 2, K0, ONE, 7, K0, TWO, 8, 1, 1, 1, 1]);
+    assert_eq!(rt;
+        words,
+        [
+            0, 0, 7, 0, 2, 0, LOW, 0, HIGH, ONE, 7, 14, 0, LOW, 0, HIGH, TWO, 8, 0, 1, 1, 2, 118
+        ]
+    );
     Ok(())
 }

@@ -10,8 +10,8 @@ use Rattle.plain_map.specs.declared.keys.Key.{Key}
 use Rattle.plain_map.specs.declared.keys.Pair.{Pair}
 use Rattle.plain_map.specs.declared.rules.Rules.{Rules}
 use Rattle.plain_map.specs.declared.calls.Call.{Call}
-use Rattle.plain_map.specs.declared.calls.Call.TheVariants.{Insert, Remove, Lookup}
-use Rattle.plain_map.specs.Keys.{key_cmp, entry_of}
+use Rattle.plain_map.specs.declared.calls.Call.TheVariants.{Insert, Remove, Lookup, Tally}
+use Rattle.plain_map.specs.Keys.{held_in, key_cmp, entry_of}
 use Rattle.plain_map.specs.PlainObject.{InRange, Sessions, map_after}
 use Rattle.plain_map.proofs.KeyLemmas.{keys_total}
 use Rattle.bucket_states.specs.declared.ops.Op.{Op}
@@ -31,9 +31,9 @@ use Rattle.bucket_states.proofs.FoldLemmas.{not_taken, is_taken}
 value_at-find : (key : Key) (items : List Pair) → value_at key items ≡ find key_cmp key (map entry_of items)
 value_at-find key [] = refl
 value_at-find key (pair ∷ pairs) =
-    ap (λ b. cond b (Some pair.value) (value_at key pairs)) (same_key-equiv.symm pair.key key
+    ap (λ b. cond b (Some (held_in pair)) (value_at key pairs)) (same_key-equiv.symm pair.key key
     ∙ sym (eq_by_cmp-same_key key pair.key))
-    ∙ ap (cond _ (Some pair.value)) (value_at-find key pairs)
+    ∙ ap (cond _ (Some (held_in pair))) (value_at-find key pairs)
 
 abbrev pub own_sessions : List Pair → Sessions
 own_sessions items = from_entries (map entry_of items)
@@ -59,6 +59,7 @@ overflow_parts rules depth items (Insert key value) full =
     (ltb-false _ _ (not-true _ more.0), ltb-true _ _ more.1)
 overflow_parts rules depth items (Remove key) full = cc
 overflow_parts rules depth items (Lookup key) full = cc
+overflow_parts rules depth items (Tally key amount) full = cc
 
 module _ (rules : Rules) (range : InRange rules) (seats : ℕ) where
   -- a good bucket can be asked

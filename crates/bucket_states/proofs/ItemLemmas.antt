@@ -2,11 +2,14 @@
 use Rattle.std.proofs.Common.{◌≡◌, ℕ, ◌≤◌, Bool, true, false, cond, List, [], ◌∷◌, ◌++◌, length, Option, Some, None, refl, sym, ap, subst, ◌∙◌, arith}
 use Rattle.std.specs.Prelude.{is_some, ◌||◌}
 use Rattle.std.specs.List.{IsDistinct, AllByRecursion, list_any}
+use Rattle.std.proofs.lemmas.Option.{same_Some}
 use Rattle.std.proofs.lemmas.List.{map-append}
 use Rattle.std.proofs.lemmas.Map.Keys.{IsDistinct-push, IsDistinct-head, IsDistinct-tail, IsDistinct-cons}
 use Rattle.plain_map.specs.declared.keys.Key.{Key}
 use Rattle.plain_map.specs.declared.keys.Pair.{Pair}
-use Rattle.bucket_states.specs.Items.{same_key, value_at, without}
+use Rattle.plain_map.specs.Keys.{Session, held_in}
+use Rattle.plain_map.specs.PlainObject.{grown}
+use Rattle.bucket_states.specs.Items.{same_key, value_at, tallied_in, with_more, without}
 use Rattle.bucket_states.specs.Parts.{keys_of, HasDistinctKeys}
 use Rattle.bucket_states.proofs.KeyTests.{Decides-same_key, same_key-equiv}
 
@@ -15,23 +18,23 @@ pub is_some-value_at : (key : Key) (items : List Pair) →
     is_some (value_at key items) ≡ list_any (same_key key) (keys_of items)
 is_some-value_at key [] = refl
 is_some-value_at key (pair ∷ pairs) =
-    ap (λ b. is_some (cond b (Some pair.value) (value_at key pairs))) (same_key-equiv.symm pair.key key)
+    ap (λ b. is_some (cond b (Some (held_in pair)) (value_at key pairs))) (same_key-equiv.symm pair.key key)
     ∙ by_test (same_key key pair.key) (value_at key pairs) (list_any (same_key key) (keys_of pairs))
     (is_some-value_at key pairs)
   where
-    by_test : (b : Bool) (o : Option ℕ) (t : Bool) → is_some o ≡ t → is_some (cond b (Some pair.value) o) ≡ (b || t)
+    by_test : (b : Bool) (o : Option Session) (t : Bool) → is_some o ≡ t → is_some (cond b (Some (held_in pair)) o) ≡ (b || t)
     by_test true o t is = refl
     by_test false o t is = is
 
 -- what a new pair at the end adds
 pub value_at-push : (items : List Pair) (pair : Pair) (q : Key) → value_at pair.key items ≡ None →
-    value_at q (items ++ pair ∷ []) ≡ cond (same_key pair.key q) (Some pair.value) (value_at q items)
+    value_at q (items ++ pair ∷ []) ≡ cond (same_key pair.key q) (Some (held_in pair)) (value_at q items)
 value_at-push [] pair q none = refl
 value_at-push (first ∷ items) pair q none =
     by_test (same_key first.key q) (same_key pair.key q) refl refl
     (value_at-push items pair q (later (same_key first.key pair.key) none))
   where
-    later : (b : Bool) → cond b (Some first.value) (value_at pair.key items) ≡ None → value_at pair.key items ≡ None
+    later : (b : Bool) → cond b (Some (held_in first)) (value_at pair.key items) ≡ None → value_at pair.key items ≡ None
     later true none = cc
     later false none = none
 
@@ -40,14 +43,14 @@ value_at-push (first ∷ items) pair q none =
         let one : first.key ≡ q = (Decides-same_key first.key q).0 is in
         let two : pair.key ≡ q = (Decides-same_key pair.key q).0 so in
         let here : same_key first.key pair.key ≡ true = (Decides-same_key first.key pair.key).1 (one ∙ sym two) in
-        let held : Some first.value ≡ None = sym (ap (λ b. cond b (Some first.value) (value_at pair.key items)) here)
+        let held : Some (held_in first) ≡ None = sym (ap (λ b. cond b (Some (held_in first)) (value_at pair.key items)) here)
         ∙ none in
         cc
 
     by_test : (b c : Bool) → same_key first.key q ≡ b → same_key pair.key q ≡ c →
-        value_at q (items ++ pair ∷ []) ≡ cond c (Some pair.value) (value_at q items)
-        → cond b (Some first.value) (value_at q (items ++ pair ∷ [])) ≡ cond c (Some pair.value)
-        (cond b (Some first.value) (value_at q items))
+        value_at q (items ++ pair ∷ []) ≡ cond c (Some (held_in pair)) (value_at q items)
+        → cond b (Some (held_in first)) (value_at q (items ++ pair ∷ [])) ≡ cond c (Some (held_in pair))
+        (cond b (Some (held_in first)) (value_at q items))
     by_test false c is_not so rest = rest
     by_test true false is so rest = refl
     by_test true true is so rest = absurd (clash is so)
@@ -57,10 +60,10 @@ none_here : (key : Key) (items : List Pair) → AllByRecursion (λ k. same_key k
     value_at key items ≡ None
 none_here key [] apart = refl
 none_here key (pair ∷ pairs) apart =
-    ap (λ b. cond b (Some pair.value) (value_at key pairs)) (same_key-equiv.symm pair.key key ∙ apart.0)
+    ap (λ b. cond b (Some (held_in pair)) (value_at key pairs)) (same_key-equiv.symm pair.key key ∙ apart.0)
     ∙ none_here key pairs apart.1
 
-none_twice : (b : Bool) (o : Option ℕ) → o ≡ None → o ≡ cond b None o
+none_twice : (b : Bool) (o : Option Session) → o ≡ None → o ≡ cond b None o
 none_twice true o none = none
 none_twice false o none = refl
 
@@ -74,7 +77,7 @@ value_at-without key (pair ∷ pairs) q distinct =
   where
     -- the pair's key is the key
     here : same_key pair.key key ≡ true → (c : Bool) → same_key key q ≡ c →
-        value_at q pairs ≡ cond c None (cond (same_key pair.key q) (Some pair.value) (value_at q pairs))
+        value_at q pairs ≡ cond c None (cond (same_key pair.key q) (Some (held_in pair)) (value_at q pairs))
     here is true so =
         let one : pair.key ≡ key = (Decides-same_key pair.key key).0 is in
         let two : key ≡ q = (Decides-same_key key q).0 so in
@@ -83,12 +86,12 @@ value_at-without key (pair ∷ pairs) q distinct =
     here is false so =
         let one : pair.key ≡ key = (Decides-same_key pair.key key).0 is in
         let other : same_key pair.key q ≡ false = ap (λ (k : Key). same_key k q) one ∙ so in
-        sym (ap (λ b. cond b (Some pair.value) (value_at q pairs)) other)
+        sym (ap (λ b. cond b (Some (held_in pair)) (value_at q pairs)) other)
 
     -- it is not
     swapped : (b c : Bool) → same_key pair.key q ≡ b → same_key key q ≡ c → same_key pair.key key ≡ false →
-        (o : Option ℕ)
-        → cond b (Some pair.value) (cond c None o) ≡ cond c None (cond b (Some pair.value) o)
+        (o : Option Session)
+        → cond b (Some (held_in pair)) (cond c None o) ≡ cond c None (cond b (Some (held_in pair)) o)
     swapped true true is so apart o =
         let one : pair.key ≡ q = (Decides-same_key pair.key q).0 is in
         let two : key ≡ q = (Decides-same_key key q).0 so in
@@ -100,10 +103,10 @@ value_at-without key (pair ∷ pairs) q distinct =
     by_test : (b c : Bool) → same_key pair.key key ≡ b → same_key key q ≡ c →
         value_at q (without key pairs) ≡ cond c None (value_at q pairs)
         → value_at q (cond b pairs (pair ∷ without key pairs)) ≡ cond c None
-        (cond (same_key pair.key q) (Some pair.value) (value_at q pairs))
+        (cond (same_key pair.key q) (Some (held_in pair)) (value_at q pairs))
     by_test true c is so rest = here is c so
     by_test false c apart so rest =
-        ap (cond (same_key pair.key q) (Some pair.value)) rest
+        ap (cond (same_key pair.key q) (Some (held_in pair))) rest
         ∙ swapped (same_key pair.key q) c refl so apart (value_at q pairs)
 
 -- a new key keeps the keys distinct
@@ -149,3 +152,74 @@ length-without key (pair ∷ pairs) = by_test (same_key pair.key key) (length-wi
         length (cond b pairs (pair ∷ without key pairs)) ≤ length (pair ∷ pairs)
     by_test true rest = omega arith
     by_test false rest = omega arith
+
+-- ---- so many bytes more in one pair
+
+-- the keys stay
+pub keys_of-tallied : (key : Key) (amount : ℕ) (items : List Pair) →
+    keys_of (tallied_in key amount items) ≡ keys_of items
+keys_of-tallied key amount [] = refl
+keys_of-tallied key amount (pair ∷ pairs) = by_test (same_key pair.key key) (keys_of-tallied key amount pairs)
+  where
+    by_test : (b : Bool) → keys_of (tallied_in key amount pairs) ≡ keys_of pairs →
+        keys_of (cond b (with_more pair amount ∷ pairs) (pair ∷ tallied_in key amount pairs)) ≡ keys_of (pair ∷ pairs)
+    by_test true rest = refl
+    by_test false rest = ap (λ ks. pair.key ∷ ks) rest
+
+-- so many items stay
+pub length-tallied : (key : Key) (amount : ℕ) (items : List Pair) →
+    length (tallied_in key amount items) ≡ length items
+length-tallied key amount [] = refl
+length-tallied key amount (pair ∷ pairs) = by_test (same_key pair.key key) (length-tallied key amount pairs)
+  where
+    by_test : (b : Bool) → length (tallied_in key amount pairs) ≡ length pairs →
+        length (cond b (with_more pair amount ∷ pairs) (pair ∷ tallied_in key amount pairs)) ≡ length (pair ∷ pairs)
+    by_test true rest = refl
+    by_test false rest = omega (arith, rest)
+
+-- what is held at a key
+pub value_at-tallied : (key : Key) (amount : ℕ) (items : List Pair) (held : Session) (q : Key) →
+    value_at key items ≡ Some held →
+    value_at q (tallied_in key amount items) ≡ cond (same_key key q) (Some (grown held amount)) (value_at q items)
+value_at-tallied key amount [] held q is = cc
+value_at-tallied key amount (pair ∷ pairs) held q is =
+    by_test (same_key pair.key key) refl (same_key key q) refl is (value_at-tallied key amount pairs held q)
+  where
+    -- the pair has the key
+    here : same_key pair.key key ≡ true → (c : Bool) → same_key key q ≡ c → held_in pair ≡ held →
+        cond (same_key pair.key q) (Some (held_in (with_more pair amount))) (value_at q pairs)
+        ≡ cond c (Some (grown held amount)) (cond (same_key pair.key q) (Some (held_in pair)) (value_at q pairs))
+    here is true so own =
+        let one : same_key pair.key q ≡ true = ap (λ (k : Key). same_key k q) ((Decides-same_key pair.key key).0 is)
+        ∙ so in
+        ap (λ b. cond b (Some (held_in (with_more pair amount))) (value_at q pairs)) one
+        ∙ ap (λ (h : Session). Some (grown h amount)) own
+    here is false so own =
+        let other : same_key pair.key q ≡ false = ap (λ (k : Key). same_key k q) ((Decides-same_key pair.key key).0 is)
+        ∙ so in
+        ap (λ b. cond b (Some (held_in (with_more pair amount))) (value_at q pairs)) other
+        ∙ sym (ap (λ b. cond b (Some (held_in pair)) (value_at q pairs)) other)
+
+    -- it has not
+    swapped : (b c : Bool) → same_key pair.key q ≡ b → same_key key q ≡ c → same_key pair.key key ≡ false →
+        (o : Option Session) (x : Session)
+        → cond b (Some (held_in pair)) (cond c (Some x) o) ≡ cond c (Some x) (cond b (Some (held_in pair)) o)
+    swapped true true is so apart o x =
+        let one : pair.key ≡ q = (Decides-same_key pair.key q).0 is in
+        let two : key ≡ q = (Decides-same_key key q).0 so in
+        let same : same_key pair.key key ≡ true = (Decides-same_key pair.key key).1 (one ∙ sym two) in
+        cc
+    swapped true false is so apart o x = refl
+    swapped false c is so apart o x = refl
+
+    by_test : (b : Bool) → same_key pair.key key ≡ b → (c : Bool) → same_key key q ≡ c →
+        cond b (Some (held_in pair)) (value_at key pairs) ≡ Some held →
+        (value_at key pairs ≡ Some held →
+        value_at q (tallied_in key amount pairs) ≡ cond (same_key key q) (Some (grown held amount)) (value_at q pairs))
+        → value_at q (cond b (with_more pair amount ∷ pairs) (pair ∷ tallied_in key amount pairs))
+        ≡ cond (same_key key q) (Some (grown held amount))
+        (cond (same_key pair.key q) (Some (held_in pair)) (value_at q pairs))
+    by_test true is c so own rest = here is (same_key key q) refl (same_Some _ _ own)
+    by_test false apart c so own rest =
+        ap (cond (same_key pair.key q) (Some (held_in pair))) (rest own)
+        ∙ swapped (same_key pair.key q) (same_key key q) refl refl apart (value_at q pairs) (grown held amount)

@@ -1,5 +1,5 @@
 -- The items of a bucket answer as the plain object does.
-use Rattle.std.proofs.Common.{◌≡◌, ◌≢◌, ℕ, ◌+◌, ◌<◌, Bool, true, false, List, [], ◌∷◌, ◌++◌, length, Option, Some, None, refl, sym, ap, ◌∙◌, length-append, arith}
+use Rattle.std.proofs.Common.{◌≡◌, ◌≢◌, ℕ, ◌+◌, ◌<◌, ◌≤◌, Bool, true, false, List, [], ◌∷◌, ◌++◌, length, Option, Some, None, refl, sym, ap, ◌∙◌, length-append, arith, subst}
 use Rattle.std.specs.Prelude.{nat_lt, not, ◌&&◌, is_some}
 use Rattle.std.specs.Option.{option_map_or}
 use Rattle.std.specs.FinMap as finite
@@ -8,13 +8,23 @@ use Rattle.std.proofs.lemmas.Bool.{ltb-true}
 use Rattle.plain_map.specs.declared.keys.Key.{Key}
 use Rattle.plain_map.specs.declared.keys.Pair.{Pair}
 use Rattle.plain_map.specs.declared.rules.Rules.{Rules}
-use Rattle.plain_map.specs.declared.calls.Call.TheVariants.{Insert, Remove, Lookup}
-use Rattle.plain_map.specs.declared.calls.Reply.TheVariants.{Gone, Found, Absent}
-use Rattle.plain_map.specs.PlainObject.{Sessions, has_room, insert_reply, inserted, reply_of, map_after}
-use Rattle.bucket_states.specs.Items.{prefix_of, value_at, without, has_place, appended, reply_in, items_after, overflows}
+use Rattle.plain_map.specs.declared.calls.Call.TheVariants.{Insert, Remove, Lookup, Tally}
+use Rattle.plain_map.specs.declared.calls.Reply.TheVariants.{Absent}
+use Rattle.plain_map.specs.Keys.{Session, pair_of}
+use Rattle.plain_map.specs.PlainObject.{Sessions, new_session, brought, found_in, gone_from, grown, has_room, insert_reply, inserted, reply_of, map_after, sum_of, tallied}
+use Rattle.std.specs.List.{IsDistinct}
+use Rattle.bucket_states.proofs.AnswerLemmas.{tallied-absent}
+use Rattle.bucket_states.specs.Items.{prefix_of, same_key, tallied_in, value_at, without, has_place, appended, items_with, reply_in, items_after, overflows}
 use Rattle.bucket_states.specs.Parts.{HoldsPart, CanAnswer, AnswersAlike, LocalAnswers, OtherPartsStay}
-use Rattle.bucket_states.proofs.ItemLemmas.{value_at-push, value_at-without, HasDistinctKeys-push, HasDistinctKeys-without, length-without}
+use Rattle.bucket_states.proofs.ItemLemmas.{value_at-push, value_at-without, HasDistinctKeys-push, HasDistinctKeys-without, keys_of-tallied, length-tallied, length-without, value_at-tallied}
 use Rattle.bucket_states.proofs.PartLemmas.{changed, elsewhere, room_alike, get-inserted, get-removed}
+
+-- the items stay those of the map's part, after a session has come to a key of the prefix
+pub record BringsAlike (rules : Rules) (prefix depth : ℕ) (items : List Pair) (sessions : Sessions) (key : Key)
+    (new : Session) : Type 0 where
+  pub part : HoldsPart rules prefix depth (items_with rules items (pair_of (key, new)))
+      (brought rules sessions key new)
+  pub few : length (items_with rules items (pair_of (key, new))) ≤ rules.items
 
 module _ (rules : Rules) (prefix depth : ℕ) (items : List Pair) (sessions : Sessions)
     (part : HoldsPart rules prefix depth items sessions) (key : Key) where
@@ -23,107 +33,114 @@ module _ (rules : Rules) (prefix depth : ℕ) (items : List Pair) (sessions : Se
       HoldsPart rules prefix depth left after → HoldsPart rules prefix depth left' after'
   moved left left' after after' as_items as_sessions holds = rw (as_items, as_sessions) holds
 
-  module _ (value : ℕ) where
+  module _ (new : Session) where
     abbrev pair : Pair
-    pair = record { key = key; value = value }
+    pair = pair_of (key, new)
 
-    items_are : (o : Option ℕ) (b : Bool) → value_at key items ≡ o → has_place rules items ≡ b →
-        items_after rules items (Insert key value) ≡ appended items pair o b
-    unfolding items_after
+    items_are : (o : Option Session) (b : Bool) → value_at key items ≡ o → has_place rules items ≡ b →
+        items_with rules items pair ≡ appended items pair o b
     items_are o b is place = ap (λ o. appended items pair o (has_place rules items)) is
         ∙ ap (appended items pair o) place
 
-    reply_is : (o : Option ℕ) (b : Bool) → value_at key items ≡ o → has_place rules items ≡ b →
-        reply_in rules items (Insert key value) ≡ insert_reply o b
-    unfolding reply_in
-    reply_is o b is place = ap (λ o. insert_reply o (has_place rules items)) is ∙ ap (insert_reply o) place
+    sessions_are : (o : Option Session) (b : Bool) → get sessions key ≡ o → has_room rules sessions key ≡ b →
+        brought rules sessions key new ≡ inserted sessions key new o b
+    sessions_are o b is room = ap (λ o. inserted sessions key new o (has_room rules sessions key)) is
+        ∙ ap (inserted sessions key new o) room
 
-    sessions_are : (o : Option ℕ) (b : Bool) → get sessions key ≡ o → has_room rules sessions key ≡ b →
-        map_after rules sessions (Insert key value) ≡ inserted sessions key value o b
-    unfolding map_after
-    sessions_are o b is room = ap (λ o. inserted sessions key value o (has_room rules sessions key)) is
-        ∙ ap (inserted sessions key value o) room
-
-    answer_is : (o : Option ℕ) (b : Bool) → get sessions key ≡ o → has_room rules sessions key ≡ b →
-        reply_of rules sessions (Insert key value) ≡ insert_reply o b
-    unfolding reply_of
-    answer_is o b is room = ap (λ o. insert_reply o (has_room rules sessions key)) is ∙ ap (insert_reply o) room
-
-  fits_more : (o : Option ℕ) → o ≡ None →
+  fits_more : (o : Option Session) → o ≡ None →
       (not (is_some o) && (not (has_place rules items) && nat_lt depth rules.depth)) ≡ false →
       (not (has_place rules items) && nat_lt depth rules.depth) ≡ false
   fits_more (Some held) none fits = cc
   fits_more None none fits = fits
 
   module _ (can : CanAnswer rules depth items) (here : prefix_of rules depth key ≡ prefix) where
-    -- an insert of a held key
-    insert_held : (value held : ℕ) → value_at key items ≡ Some held →
-        AnswersAlike rules prefix depth items sessions (Insert key value)
-    insert_held value held is =
+    -- a session that comes to a held key
+    brings_held : (new held : Session) → value_at key items ≡ Some held →
+        BringsAlike rules prefix depth items sessions key new
+    brings_held new held is =
         let kept : get sessions key ≡ Some held = sym (part.same key here) ∙ is in
-        let same_items = items_are value (Some held) (has_place rules items) is refl in
+        let same_items = items_are new (Some held) (has_place rules items) is refl in
         record {
-          reply = reply_is value (Some held) (has_place rules items) is refl
-              ∙ sym (answer_is value (Some held) (has_room rules sessions key) kept refl);
           part = moved items _ sessions _ same_items
-              (sessions_are value (Some held) (has_room rules sessions key) kept refl) part;
+              (sessions_are new (Some held) (has_room rules sessions key) kept refl) part;
           few = rw same_items can.few;
         }
 
-    -- of a new one, where there is a place
-    insert_new : (value : ℕ) → value_at key items ≡ None → has_place rules items ≡ true →
-        has_room rules sessions key ≡ true → AnswersAlike rules prefix depth items sessions (Insert key value)
-    insert_new value none place room =
-        let new : Pair = record { key = key; value = value } in
+    -- to a new one, where there is a place
+    brings_new : (new : Session) → value_at key items ≡ None → has_place rules items ≡ true →
+        has_room rules sessions key ≡ true → BringsAlike rules prefix depth items sessions key new
+    brings_new new none place room =
+        let one : Pair = pair_of (key, new) in
         let kept : get sessions key ≡ None = sym (part.same key here) ∙ none in
-        let same_items = items_are value None true none place in
+        let same_items = items_are new None true none place in
         let few : length items < rules.items = ltb-true _ _ place in
-        let longer : length (items ++ new ∷ []) ≡ length items + length (new ∷ []) = length-append items (new ∷ []) in
+        let longer : length (items ++ one ∷ []) ≡ length items + length (one ∷ []) = length-append items (one ∷ []) in
         record {
-          reply = reply_is value None true none place ∙ sym (answer_is value None true kept room);
-          part = moved (items ++ new ∷ []) _ (finite.insert sessions key value) _ same_items
-              (sessions_are value None true kept room)
-              (changed rules prefix depth items sessions part key here (Some value) (items ++ new ∷ [])
-              (finite.insert sessions key value) (HasDistinctKeys-push items new part.distinct none)
-              (λ q. value_at-push items new q none) (get-inserted sessions key value));
+          part = moved (items ++ one ∷ []) _ (finite.insert sessions key new) _ same_items
+              (sessions_are new None true kept room)
+              (changed rules prefix depth items sessions part key here (Some new) (items ++ one ∷ [])
+              (finite.insert sessions key new) (HasDistinctKeys-push items one part.distinct none)
+              (λ q. value_at-push items one q none) (get-inserted sessions key new));
           few = rw (same_items, longer) (omega arith);
         }
 
     -- and where there is none
-    insert_full : (value : ℕ) → value_at key items ≡ None → has_place rules items ≡ false →
-        has_room rules sessions key ≡ false → AnswersAlike rules prefix depth items sessions (Insert key value)
-    insert_full value none place room =
+    brings_full : (new : Session) → value_at key items ≡ None → has_place rules items ≡ false →
+        has_room rules sessions key ≡ false → BringsAlike rules prefix depth items sessions key new
+    brings_full new none place room =
         let kept : get sessions key ≡ None = sym (part.same key here) ∙ none in
-        let same_items = items_are value None false none place in
+        let same_items = items_are new None false none place in
         record {
-          reply = reply_is value None false none place ∙ sym (answer_is value None false kept room);
-          part = moved items _ sessions _ same_items (sessions_are value None false kept room) part;
+          part = moved items _ sessions _ same_items (sessions_are new None false kept room) part;
           few = rw same_items can.few;
         }
 
-    insert_alike : (value : ℕ) → overflows rules depth items (Insert key value) ≡ false →
-        AnswersAlike rules prefix depth items sessions (Insert key value)
+    -- the bucket has a place for a new key where the map has room
+    alike_room : (value : ℕ) → overflows rules depth items (Insert key value) ≡ false → value_at key items ≡ None →
+        has_place rules items ≡ has_room rules sessions key
     unfolding overflows
-    insert_alike value fits = by_value (value_at key items) refl
+    alike_room value fits none =
+        room_alike rules prefix depth items sessions part key can here none
+        (fits_more (value_at key items) none fits)
+
+    -- a session that comes to any key
+    brings : (value : ℕ) (new : Session) → overflows rules depth items (Insert key value) ≡ false →
+        BringsAlike rules prefix depth items sessions key new
+    brings value new fits = by_value (value_at key items) refl
       where
         by_place : value_at key items ≡ None → (b : Bool) → has_place rules items ≡ b →
             has_place rules items ≡ has_room rules sessions key →
-            AnswersAlike rules prefix depth items sessions (Insert key value)
-        by_place none true place alike = insert_new value none place (sym alike ∙ place)
-        by_place none false place alike = insert_full value none place (sym alike ∙ place)
+            BringsAlike rules prefix depth items sessions key new
+        by_place none true place alike = brings_new new none place (sym alike ∙ place)
+        by_place none false place alike = brings_full new none place (sym alike ∙ place)
 
-        by_value : (o : Option ℕ) → value_at key items ≡ o →
-            AnswersAlike rules prefix depth items sessions (Insert key value)
-        by_value (Some held) is = insert_held value held is
-        by_value None none =
-            by_place none (has_place rules items) refl
-            (room_alike rules prefix depth items sessions part key can here none
-            (fits_more (value_at key items) none fits))
+        by_value : (o : Option Session) → value_at key items ≡ o →
+            BringsAlike rules prefix depth items sessions key new
+        by_value (Some held) is = brings_held new held is
+        by_value None none = by_place none (has_place rules items) refl (alike_room value fits none)
+
+    -- an insert's reply
+    insert_reply_alike : (o : Option Session) → (o ≡ None → has_place rules items ≡ has_room rules sessions key) →
+        insert_reply o (has_place rules items) ≡ insert_reply o (has_room rules sessions key)
+    insert_reply_alike (Some held) alike = refl
+    insert_reply_alike None alike = ap (insert_reply None) (alike refl)
+
+    insert_alike : (value : ℕ) → overflows rules depth items (Insert key value) ≡ false →
+        AnswersAlike rules prefix depth items sessions (Insert key value)
+    unfolding reply_in items_after reply_of map_after
+    insert_alike value fits =
+        let both = brings value (new_session value) fits in
+        record {
+          reply = insert_reply_alike (value_at key items) (alike_room value fits)
+              ∙ ap (λ o. insert_reply o (has_room rules sessions key)) (part.same key here);
+          part = both.part;
+          few = both.few;
+        }
 
     remove_alike : AnswersAlike rules prefix depth items sessions (Remove key)
     unfolding reply_in items_after reply_of map_after
     remove_alike = record {
-      reply = ap (λ o. option_map_or Gone o Absent) (part.same key here);
+      reply = ap (λ o. option_map_or gone_from o Absent) (part.same key here);
       part = changed rules prefix depth items sessions part key here None (without key items)
           (finite.remove sessions key) (HasDistinctKeys-without key items part.distinct)
           (λ q. value_at-without key items q part.distinct) (get-removed sessions key);
@@ -133,24 +150,66 @@ module _ (rules : Rules) (prefix depth : ℕ) (items : List Pair) (sessions : Se
     lookup_alike : AnswersAlike rules prefix depth items sessions (Lookup key)
     unfolding reply_in items_after reply_of map_after
     lookup_alike = record {
-      reply = ap (λ o. option_map_or Found o Absent) (part.same key here);
+      reply = ap (λ o. option_map_or found_in o Absent) (part.same key here);
       part = part;
       few = can.few;
     }
 
+    tally_held : (amount : ℕ) (held : Session) → value_at key items ≡ Some held →
+        AnswersAlike rules prefix depth items sessions (Tally key amount)
+    unfolding reply_in items_after reply_of map_after
+    tally_held amount held is =
+        let kept : get sessions key ≡ Some held = sym (part.same key here) ∙ is in
+        record {
+          reply = ap (λ o. option_map_or (sum_of amount) o Absent) (part.same key here);
+          part = moved (tallied_in key amount items) _ (finite.insert sessions key (grown held amount)) _ refl
+              (ap (tallied sessions key amount) kept)
+              (changed rules prefix depth items sessions part key here (Some (grown held amount))
+              (tallied_in key amount items) (finite.insert sessions key (grown held amount))
+              (subst (IsDistinct same_key) (sym (keys_of-tallied key amount items)) part.distinct)
+              (λ q. value_at-tallied key amount items held q is) (get-inserted sessions key (grown held amount)));
+          few = rw (length-tallied key amount items) can.few;
+        }
+
+    tally_absent : (amount : ℕ) → value_at key items ≡ None →
+        AnswersAlike rules prefix depth items sessions (Tally key amount)
+    unfolding reply_in items_after reply_of map_after
+    tally_absent amount none =
+        let kept : get sessions key ≡ None = sym (part.same key here) ∙ none in
+        record {
+          reply = ap (λ o. option_map_or (sum_of amount) o Absent) (part.same key here);
+          part = moved items _ sessions _ (tallied-absent key amount items none)
+              (ap (tallied sessions key amount) kept) part;
+          few = rw (length-tallied key amount items) can.few;
+        }
+
+    tally_alike : (amount : ℕ) → AnswersAlike rules prefix depth items sessions (Tally key amount)
+    tally_alike amount = by_value (value_at key items) refl
+      where
+        by_value : (o : Option Session) → value_at key items ≡ o →
+            AnswersAlike rules prefix depth items sessions (Tally key amount)
+        by_value (Some held) is = tally_held amount held is
+        by_value None none = tally_absent amount none
+
+  -- a session that comes to a key of another prefix
+  stays-brought : prefix_of rules depth key ≢ prefix → (new : Session) →
+      HoldsPart rules prefix depth items (brought rules sessions key new)
+  stays-brought away new = by_room (get sessions key) refl (has_room rules sessions key) refl
+    where
+      by_room : (o : Option Session) → get sessions key ≡ o → (b : Bool) → has_room rules sessions key ≡ b →
+          HoldsPart rules prefix depth items (brought rules sessions key new)
+      by_room (Some held) is b room = rw (sessions_are new (Some held) b is room) part
+      by_room None is false room = rw (sessions_are new None false is room) part
+      by_room None is true room =
+          rw (sessions_are new None true is room)
+          (elsewhere rules prefix depth items sessions part key away (Some new) (finite.insert sessions key new)
+          (get-inserted sessions key new))
+
   -- a call with a key of another prefix
   stays-Insert : prefix_of rules depth key ≢ prefix → (value : ℕ) →
       HoldsPart rules prefix depth items (map_after rules sessions (Insert key value))
-  stays-Insert away value = by_room (get sessions key) refl (has_room rules sessions key) refl
-    where
-      by_room : (o : Option ℕ) → get sessions key ≡ o → (b : Bool) → has_room rules sessions key ≡ b →
-          HoldsPart rules prefix depth items (map_after rules sessions (Insert key value))
-      by_room (Some held) is b room = rw (sessions_are value (Some held) b is room) part
-      by_room None is false room = rw (sessions_are value None false is room) part
-      by_room None is true room =
-          rw (sessions_are value None true is room)
-          (elsewhere rules prefix depth items sessions part key away (Some value) (finite.insert sessions key value)
-          (get-inserted sessions key value))
+  unfolding map_after
+  stays-Insert away value = stays-brought away (new_session value)
 
   stays-Remove : prefix_of rules depth key ≢ prefix →
       HoldsPart rules prefix depth items (map_after rules sessions (Remove key))
@@ -162,6 +221,18 @@ module _ (rules : Rules) (prefix depth : ℕ) (items : List Pair) (sessions : Se
   unfolding map_after
   stays-Lookup = part
 
+  stays-Tally : prefix_of rules depth key ≢ prefix → (amount : ℕ) →
+      HoldsPart rules prefix depth items (map_after rules sessions (Tally key amount))
+  unfolding map_after
+  stays-Tally away amount = by_held (get sessions key) refl
+    where
+      by_held : (o : Option Session) → get sessions key ≡ o →
+          HoldsPart rules prefix depth items (tallied sessions key amount o)
+      by_held None is = part
+      by_held (Some held) is =
+          elsewhere rules prefix depth items sessions part key away (Some (grown held amount))
+          (finite.insert sessions key (grown held amount)) (get-inserted sessions key (grown held amount))
+
 -- the items of a bucket answer as the plain object does
 pub local_answers : LocalAnswers
 local_answers rules prefix depth items sessions (Insert key value) can part here fits =
@@ -170,6 +241,8 @@ local_answers rules prefix depth items sessions (Remove key) can part here fits 
     remove_alike rules prefix depth items sessions part key can here
 local_answers rules prefix depth items sessions (Lookup key) can part here fits =
     lookup_alike rules prefix depth items sessions part key can here
+local_answers rules prefix depth items sessions (Tally key amount) can part here fits =
+    tally_alike rules prefix depth items sessions part key can here amount
 
 -- a call leaves the other parts as they are
 pub other_parts_stay : OtherPartsStay
@@ -179,3 +252,20 @@ other_parts_stay rules prefix depth items sessions (Remove key) part away =
     stays-Remove rules prefix depth items sessions part key away
 other_parts_stay rules prefix depth items sessions (Lookup key) part away =
     stays-Lookup rules prefix depth items sessions part key
+other_parts_stay rules prefix depth items sessions (Tally key amount) part away =
+    stays-Tally rules prefix depth items sessions part key away amount
+
+-- a bucket takes a session that comes to a key, as the map does
+pub brings_alike : (rules : Rules) (prefix depth : ℕ) (items : List Pair) (sessions : Sessions) (key : Key)
+    (value : ℕ) (new : Session) → CanAnswer rules depth items → HoldsPart rules prefix depth items sessions →
+    prefix_of rules depth key ≡ prefix → overflows rules depth items (Insert key value) ≡ false →
+    BringsAlike rules prefix depth items sessions key new
+brings_alike rules prefix depth items sessions key value new can part here fits =
+    brings rules prefix depth items sessions part key can here value new fits
+
+-- and the other buckets keep theirs
+pub brought_elsewhere : (rules : Rules) (prefix depth : ℕ) (items : List Pair) (sessions : Sessions) (key : Key)
+    (new : Session) → HoldsPart rules prefix depth items sessions → prefix_of rules depth key ≢ prefix →
+    HoldsPart rules prefix depth items (brought rules sessions key new)
+brought_elsewhere rules prefix depth items sessions key new part away =
+    stays-brought rules prefix depth items sessions part key away new

@@ -13,7 +13,7 @@ use Rattle.hash_bits.specs.Prefix.{first_bits}
 use Rattle.plain_map.specs.declared.keys.Key.{Key}
 use Rattle.plain_map.specs.declared.keys.Pair.{Pair}
 use Rattle.plain_map.specs.declared.rules.Rules.{Rules}
-use Rattle.plain_map.specs.Keys.{hash_of_key}
+use Rattle.plain_map.specs.Keys.{Session, hash_of_key}
 use Rattle.plain_map.specs.PlainObject.{Sessions, InRange, class_of, class_size, has_room}
 use Rattle.plain_map.proofs.KeyLemmas.{keys_total}
 use Rattle.bucket_states.specs.Items.{prefix_of, same_key, value_at, has_place}
@@ -51,11 +51,11 @@ prefix_is_class rules key = refl
 
 -- ---- sizes
 
-pub both_hold : (b : Bool) (o : Option ℕ) → is_some (cond b o None) ≡ true → (b ≡ true) × (is_some o ≡ true)
+pub both_hold : (b : Bool) (o : Option Session) → is_some (cond b o None) ≡ true → (b ≡ true) × (is_some o ≡ true)
 both_hold true o is = (refl, is)
 both_hold false o is = cc
 
-pub some_of : (o : Option ℕ) → is_some o ≡ true → (held : ℕ) × (o ≡ Some held)
+pub some_of : (o : Option Session) → is_some o ≡ true → (held : Session) × (o ≡ Some held)
 some_of (Some held) is = (held, refl)
 some_of None is = cc
 
@@ -105,7 +105,7 @@ module _ (rules : Rules) (prefix depth : ℕ) (items : List Pair) (sessions : Se
 -- ---- a change at one key
 
 -- the sessions after an insert and after a remove, key by key
-pub get-inserted : (m : Sessions) (key : Key) (value : ℕ) (q : Key) →
+pub get-inserted : (m : Sessions) (key : Key) (value : Session) (q : Key) →
     get (finite.insert m key value) q ≡ cond (same_key key q) (Some value) (get m q)
 get-inserted m key value q =
     get-insert keys_total m key value q
@@ -120,7 +120,7 @@ get-removed m key q =
 module _ (rules : Rules) (prefix depth : ℕ) (items : List Pair) (sessions : Sessions)
     (part : HoldsPart rules prefix depth items sessions) (key : Key) where
   -- items and sessions that change alike at a key of the part
-  pub changed : prefix_of rules depth key ≡ prefix → (o : Option ℕ) (left : List Pair) (after : Sessions) →
+  pub changed : prefix_of rules depth key ≡ prefix → (o : Option Session) (left : List Pair) (after : Sessions) →
       HasDistinctKeys left
       → ((q : Key) → value_at q left ≡ cond (same_key key q) o (value_at q items)) →
       ((q : Key) → get after q ≡ cond (same_key key q) o (get sessions q))
@@ -131,14 +131,14 @@ module _ (rules : Rules) (prefix depth : ℕ) (items : List Pair) (sessions : Se
     same = λ q there. by_items q ∙ ap (cond (same_key key q) o) (part.same q there) ∙ sym (by_sessions q);
   }
     where
-      by_test : (q : Key) (held : ℕ) (b : Bool) → same_key key q ≡ b → cond b o (value_at q items) ≡ Some held →
+      by_test : (q : Key) (held : Session) (b : Bool) → same_key key q ≡ b → cond b o (value_at q items) ≡ Some held →
           prefix_of rules depth q ≡ prefix
       by_test q held true so is = subst (λ (k : Key). prefix_of rules depth k ≡ prefix) ((Decides-same_key key q).0 so)
           here
       by_test q held false so is = part.inside q held is
 
   -- sessions that change at another key
-  pub elsewhere : prefix_of rules depth key ≢ prefix → (o : Option ℕ) (after : Sessions) →
+  pub elsewhere : prefix_of rules depth key ≢ prefix → (o : Option Session) (after : Sessions) →
       ((q : Key) → get after q ≡ cond (same_key key q) o (get sessions q))
       → HoldsPart rules prefix depth items after
   elsewhere away o after by_sessions = record {

@@ -6,7 +6,8 @@ use Rattle.std.specs.Option.{MatchOption}
 use Rattle.std.proofs.lemmas.Bool.Decides.{nat_tests}
 use Rattle.plain_map.specs.declared.keys.Key.{Key}
 use Rattle.plain_map.specs.declared.keys.Pair.{Pair}
-use Rattle.bucket_states.specs.Items.{same_key, value_at, without}
+use Rattle.bucket_states.specs.Items.{same_key, value_at, tallied_in, with_more, without}
+use Rattle.plain_map.specs.Keys.{held_in}
 use Rattle.bucket_states.specs.Places.{IsPlaceOf}
 
 -- tests of a place
@@ -26,21 +27,25 @@ module _ (key : Key) where
   here : (pair : Pair) (pairs : List Pair) → has pair ≡ true → IsPlaceOf key (pair ∷ pairs) 0
   here pair pairs is = record {
     in_range = omega arith;
-    value = λ d. ap (λ b. cond b (Some pair.value) (value_at key pairs)) is;
+    value = λ d. ap (λ b. cond b (Some (held_in pair)) (value_at key pairs)) is;
     rest = ap (λ b. cond b pairs (pair ∷ without key pairs)) is;
+    more = λ d amount. ap (λ b. cond b (with_more pair amount ∷ pairs) (pair ∷ tallied_in key amount pairs)) is;
   }
 
   later : (pair : Pair) (pairs : List Pair) (at : ℕ) → has pair ≡ false → IsPlaceOf key pairs at →
       IsPlaceOf key (pair ∷ pairs) (suc at)
   later pair pairs at not_here there = record {
     in_range = omega (arith, there.in_range);
-    value = λ d. ap (λ b. cond b (Some pair.value) (value_at key pairs)) not_here ∙ there.value d;
+    value = λ d. ap (λ b. cond b (Some (held_in pair)) (value_at key pairs)) not_here ∙ there.value d;
     rest = ap (λ b. cond b pairs (pair ∷ without key pairs)) not_here ∙ ap (λ ps. pair ∷ ps) there.rest;
+    more = λ d amount.
+        ap (λ b. cond b (with_more pair amount ∷ pairs) (pair ∷ tallied_in key amount pairs)) not_here
+        ∙ ap (λ ps. pair ∷ ps) (there.more d amount);
   }
 
   none_later : (pair : Pair) (pairs : List Pair) → has pair ≡ false → value_at key pairs ≡ None →
       value_at key (pair ∷ pairs) ≡ None
-  none_later pair pairs not_here none = ap (λ b. cond b (Some pair.value) (value_at key pairs)) not_here ∙ none
+  none_later pair pairs not_here none = ap (λ b. cond b (Some (held_in pair)) (value_at key pairs)) not_here ∙ none
 
   -- what is at the first place, or that there is none
   abbrev Placed : List Pair → Option ℕ → Type 0
@@ -80,5 +85,5 @@ module _ (key : Key) where
 
 -- the value that was read at the key's place
 pub held_at : (key : Key) (items : List Pair) (at : ℕ) (p : Pair) → IsPlaceOf key items at → p ≡ get_or items at p →
-    value_at key items ≡ Some p.value
-held_at key items at p place is = place.value p ∙ ap (λ (q : Pair). Some q.value) (sym is)
+    value_at key items ≡ Some (held_in p)
+held_at key items at p place is = place.value p ∙ ap (λ (q : Pair). Some (held_in q)) (sym is)

@@ -10,7 +10,7 @@ use Rattle.std.specs.FinMap.Entries.{where_key, below_all, is_sorted, is_sorted-
 use Rattle.std.proofs.lemmas.List.Sums.{length-filter}
 use Rattle.plain_map.specs.declared.keys.Key.{Key}
 use Rattle.plain_map.specs.declared.rules.Rules.{Rules}
-use Rattle.plain_map.specs.Keys.{key_cmp}
+use Rattle.plain_map.specs.Keys.{Session, key_cmp}
 use Rattle.plain_map.specs.PlainObject.{Sessions, pairs_of, class_of, class_size}
 use Rattle.plain_map.proofs.KeyLemmas.{exact_keys}
 use Rattle.plain_map.proofs.LocalityLemmas.{count_by-pairs}
@@ -27,8 +27,8 @@ second false b so = absurd so
 
 -- ---- the keys of entries in order
 
-abbrev pub entry_keys : List (Key × ℕ) → List Key
-entry_keys es = map (λ (e : Key × ℕ). e.0) es
+abbrev pub entry_keys : List (Key × Session) → List Key
+entry_keys es = map (λ (e : Key × Session). e.0) es
 
 less_apart : (a b : Key) → T (is_lt (key_cmp a b)) → same_key a b ≡ false
 less_apart a b so = sym (eq_by_cmp-same_key a b) ∙ by (key_cmp a b) so
@@ -38,12 +38,12 @@ less_apart a b so = sym (eq_by_cmp-same_key a b) ∙ by (key_cmp a b) so
     by Equal so = absurd so
     by Greater so = absurd so
 
-below_apart : (x : Key) (es : List (Key × ℕ)) → T (below_all key_cmp x es) →
+below_apart : (x : Key) (es : List (Key × Session)) → T (below_all key_cmp x es) →
     AllByRecursion (λ k. same_key x k ≡ false) (entry_keys es)
 below_apart x [] below = tt
 below_apart x (e ∷ es) below = (less_apart x e.0 (first _ _ below), below_apart x es (second _ _ below))
 
-pub sorted_distinct : (es : List (Key × ℕ)) → T (is_sorted key_cmp es) → IsDistinct same_key (entry_keys es)
+pub sorted_distinct : (es : List (Key × Session)) → T (is_sorted key_cmp es) → IsDistinct same_key (entry_keys es)
 unfolding IsDistinct
 sorted_distinct [] sorted = tt
 sorted_distinct (e ∷ es) sorted = (below_apart e.0 es (first _ _ sorted), sorted_distinct es (second _ _ sorted))
@@ -58,10 +58,10 @@ module _ (rules : Rules) (sessions : Sessions) (class : ℕ) where
   abbrev pub in_class : Key → Bool
   in_class key = class_of rules key == class
 
-  abbrev pub of_class : List (Key × ℕ)
+  abbrev pub of_class : List (Key × Session)
   of_class = where_key key_cmp in_class (entries sessions)
 
-  length-map : (es : List (Key × ℕ)) → length (entry_keys es) ≡ length es
+  length-map : (es : List (Key × Session)) → length (entry_keys es) ≡ length es
   length-map [] = refl
   length-map (e ∷ es) = ap (λ (n : ℕ). suc n) (length-map es)
 
@@ -69,7 +69,7 @@ module _ (rules : Rules) (sessions : Sessions) (class : ℕ) where
   pub class_size-keys : class_size rules sessions class ≡ length (entry_keys of_class)
   unfolding class_size pairs_of
   class_size-keys = count_by-pairs in_class (entries sessions)
-      ∙ sym (length-filter (λ (e : Key × ℕ). in_class e.0) (entries sessions)) ∙ sym (length-map of_class)
+      ∙ sym (length-filter (λ (e : Key × Session). in_class e.0) (entries sessions)) ∙ sym (length-map of_class)
 
   pub distinct_of_class : IsDistinct same_key (entry_keys of_class)
   distinct_of_class = sorted_distinct of_class

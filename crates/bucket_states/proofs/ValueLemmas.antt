@@ -1,5 +1,5 @@
 -- What a bucket holds stays small.
-use Rattle.std.proofs.Common.{◌≡◌, ℕ, suc, ◌+◌, ◌^◌, ◌<◌, ◌≤◌, ◌⊎◌, inl, inr, Bool, true, false, cond, List, [], ◌∷◌, length, Option, Some, None, refl, sym, subst, arith}
+use Rattle.std.proofs.Common.{◌≡◌, ℕ, suc, ◌+◌, ◌^◌, ◌<◌, ◌≤◌, ◌⊎◌, inl, inr, Bool, true, false, cond, List, [], ◌∷◌, length, Option, Some, None, refl, sym, subst, arith, lit<}
 use Rattle.std.specs.List.{All}
 use Rattle.std.specs.Option.{option_map_or}
 use Rattle.std.proofs.lemmas.List.{get_or-set_same, get_or-set_other}
@@ -9,11 +9,14 @@ use Rattle.plain_map.specs.declared.keys.Key.{Key}
 use Rattle.plain_map.specs.declared.keys.Pair.{Pair}
 use Rattle.plain_map.specs.declared.rules.Rules.{Rules}
 use Rattle.plain_map.specs.declared.calls.Call.{Call}
-use Rattle.plain_map.specs.declared.calls.Call.TheVariants.{Insert, Remove, Lookup}
-use Rattle.plain_map.specs.declared.calls.Reply.TheVariants.{Gone, Absent}
-use Rattle.plain_map.specs.PlainObject.{insert_reply}
+use Rattle.plain_map.specs.declared.calls.Call.TheVariants.{Insert, Remove, Lookup, Tally}
+use Rattle.plain_map.specs.declared.calls.Reply.TheVariants.{Absent}
+use Rattle.plain_map.specs.Keys.{Session, held_in, pair_of}
+use Rattle.plain_map.specs.PlainObject.{new_session, gone_from, insert_reply, sum_of}
+use Rattle.plain_map.specs.Updates.{summed, IsSmallPair}
+use Rattle.std.proofs.lemmas.Option.{same_Some}
 use Rattle.bucket_states.specs.declared.ops.Op.{Op}
-use Rattle.bucket_states.specs.Items.{same_key, value_at, without, has_place, appended, reply_in, items_after}
+use Rattle.bucket_states.specs.Items.{same_key, value_at, tallied_in, with_more, without, has_place, appended, items_with, reply_in, items_after}
 use Rattle.bucket_states.specs.States.{BucketState}
 use Rattle.bucket_states.specs.Change.{answered, after_op, after_seats, change}
 use Rattle.bucket_states.specs.Laws.{applied_of, reply_at}
@@ -22,20 +25,26 @@ use Rattle.bucket_states.proofs.StepLemmas.{Outcome, stayed, skipped, froze, too
 use Rattle.bucket_states.proofs.WalkLemmas.{KeepsShape-after_seat}
 
 abbrev pub Small : Pair → Type 0
-Small item = item.value < 2 ^ 61
+Small item = IsSmallPair item
+
+-- what is held is small
+abbrev SmallHeld : Session → Type 0
+SmallHeld held = (held.value < 2 ^ 61) × (held.bytes < 2 ^ 61)
+
+-- bytes are, with whatever is added
+pub summed-small : (bytes amount : ℕ) → summed bytes amount < 2 ^ 61
+summed-small bytes amount = omega arith
 
 -- a value that is held is small
-held_small : (key : Key) (items : List Pair) (held : ℕ) → All Small items → value_at key items ≡ Some held →
-    held < 2 ^ 61
+held_small : (key : Key) (items : List Pair) (held : Session) → All Small items → value_at key items ≡ Some held →
+    SmallHeld held
 held_small key [] held small is = cc
 held_small key (pair ∷ pairs) held small is =
     by_test (same_key pair.key key) is (λ later. held_small key pairs held (All-tail Small pair pairs small) later)
   where
-    by_test : (b : Bool) → cond b (Some pair.value) (value_at key pairs) ≡ Some held →
-        (value_at key pairs ≡ Some held → held < 2 ^ 61) → held < 2 ^ 61
-    by_test true is rest =
-        let same : pair.value ≡ held = cc in
-        subst (λ (n : ℕ). n < 2 ^ 61) same (All-head Small pair pairs small)
+    by_test : (b : Bool) → cond b (Some (held_in pair)) (value_at key pairs) ≡ Some held →
+        (value_at key pairs ≡ Some held → SmallHeld held) → SmallHeld held
+    by_test true is rest = subst SmallHeld (same_Some _ _ is) (All-head Small pair pairs small)
     by_test false is rest = rest is
 
 -- the items but one are small
@@ -48,35 +57,62 @@ without_small key (pair ∷ pairs) small =
     by_test true rest = All-tail Small pair pairs small
     by_test false rest = All-cons Small pair (without key pairs) (All-head Small pair pairs small) rest
 
+-- and so are the items with more bytes in one
+tallied_small : (key : Key) (amount : ℕ) (items : List Pair) → All Small items →
+    All Small (tallied_in key amount items)
+tallied_small key amount [] small = small
+tallied_small key amount (pair ∷ pairs) small =
+    by_test (same_key pair.key key) (tallied_small key amount pairs (All-tail Small pair pairs small))
+  where
+    own : Small pair
+    own = All-head Small pair pairs small
+
+    by_test : (b : Bool) → All Small (tallied_in key amount pairs) →
+        All Small (cond b (with_more pair amount ∷ pairs) (pair ∷ tallied_in key amount pairs))
+    by_test true rest = All-cons Small (with_more pair amount) pairs (own.0, summed-small pair.bytes amount)
+        (All-tail Small pair pairs small)
+    by_test false rest = All-cons Small pair (tallied_in key amount pairs) own rest
+
 module _ (rules : Rules) (items : List Pair) (small : All Small items) where
-  appended_small : (pair : Pair) → Small pair → (o : Option ℕ) (b : Bool) → All Small (appended items pair o b)
+  appended_small : (pair : Pair) → Small pair → (o : Option Session) (b : Bool) → All Small (appended items pair o b)
   appended_small pair fits (Some held) b = small
   appended_small pair fits None true = All-push Small items pair small fits
   appended_small pair fits None false = small
 
+  -- the items are small after a small pair has come
+  pub with_small : (pair : Pair) → Small pair → All Small (items_with rules items pair)
+  with_small pair fits = appended_small pair fits (value_at pair.key items) (has_place rules items)
+
   pub items_small : (call : Call) → IsUpdate call → All Small (items_after rules items call)
   unfolding items_after
   items_small (Insert key value) update =
-      appended_small (record { key = key; value = value }) update (value_at key items) (has_place rules items)
+      with_small (pair_of (key, new_session value)) (update, lit< tt)
   items_small (Remove key) update = without_small key items small
   items_small (Lookup key) update = small
+  items_small (Tally key amount) update = tallied_small key amount items small
 
-  inserts_small : (key : Key) (o : Option ℕ) (b : Bool) → value_at key items ≡ o →
+  inserts_small : (key : Key) (o : Option Session) (b : Bool) → value_at key items ≡ o →
       IsUpdateReply (Some (insert_reply o b))
-  inserts_small key (Some held) b is = held_small key items held small is
+  inserts_small key (Some held) b is = (held_small key items held small is).0
   inserts_small key None true is = tt
   inserts_small key None false is = tt
 
-  removes_small : (key : Key) (o : Option ℕ) → value_at key items ≡ o →
-      IsUpdateReply (Some (option_map_or Gone o Absent))
-  removes_small key (Some held) is = held_small key items held small is
+  removes_small : (key : Key) (o : Option Session) → value_at key items ≡ o →
+      IsUpdateReply (Some (option_map_or gone_from o Absent))
+  removes_small key (Some held) is = (held_small key items held small is).0
   removes_small key None is = tt
+
+  tallies_small : (key : Key) (amount : ℕ) (o : Option Session) →
+      IsUpdateReply (Some (option_map_or (sum_of amount) o Absent))
+  tallies_small key amount (Some held) = summed-small held.bytes amount
+  tallies_small key amount None = tt
 
   reply_small : (call : Call) → IsUpdate call → IsUpdateReply (Some (reply_in rules items call))
   unfolding reply_in
   reply_small (Insert key value) update = inserts_small key (value_at key items) (has_place rules items) refl
   reply_small (Remove key) update = removes_small key (value_at key items) refl
   reply_small (Lookup key) update = absurd update
+  reply_small (Tally key amount) update = tallies_small key amount (value_at key items)
 
 module _ (rules : Rules) where
   pub took_small : (seat : ℕ) (op : Op) (bucket : BucketState) → seat < length bucket.applied →

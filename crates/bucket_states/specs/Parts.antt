@@ -7,6 +7,7 @@ use Rattle.plain_map.specs.declared.keys.Pair.{Pair}
 use Rattle.plain_map.specs.declared.rules.Rules.{Rules}
 use Rattle.plain_map.specs.declared.calls.Call.{Call}
 use Rattle.plain_map.specs.Calls.{key_in}
+use Rattle.plain_map.specs.Keys.{Session}
 use Rattle.plain_map.specs.PlainObject.{InRange, Sessions, reply_of, map_after}
 use Rattle.bucket_states.specs.Items.{prefix_of, same_key, value_at, reply_in, items_after, overflows}
 
@@ -20,7 +21,7 @@ HasDistinctKeys items = IsDistinct same_key (keys_of items)
 
 -- each key that has a value here has the prefix
 abbrev pub HasPrefix : Rules → (prefix depth : ℕ) → List Pair → Type 0
-HasPrefix rules prefix depth items = (key : Key) (held : ℕ) → value_at key items ≡ Some held →
+HasPrefix rules prefix depth items = (key : Key) (held : Session) → value_at key items ≡ Some held →
     prefix_of rules depth key ≡ prefix
 
 -- the items are, in some order, the pairs of the sessions whose keys have the prefix

@@ -2,7 +2,7 @@
 use Rattle.std.specs.Prelude.{ℕ, ◌^◌, ◌<◌, List, Option}
 use Rattle.std.specs.List.{All}
 use Rattle.plain_map.specs.declared.rules.Rules.{Rules}
-pub use Rattle.plain_map.specs.Updates.{value_limit, IsUpdate, IsUpdateReply}
+pub use Rattle.plain_map.specs.Updates.{value_limit, IsSmallPair, IsUpdate, IsUpdateReply}
 use Rattle.bucket_states.specs.declared.ops.Op.{Op}
 use Rattle.bucket_states.specs.States.{BucketState}
 use Rattle.bucket_states.specs.Change.{change}
@@ -14,7 +14,7 @@ AreUpdates ops = (seat : ℕ) (op : Op) → Announces ops seat op → IsUpdate o
 
 -- items, numbers and replies are small
 pub record IsSmall (bucket : BucketState) : Type 0 where
-  pub values : All (λ item. item.value < value_limit) bucket.items
+  pub values : All IsSmallPair bucket.items
   pub numbers : (seat : ℕ) → applied_of bucket seat < 2 ^ 32
   pub replies : (seat : ℕ) → IsUpdateReply (reply_at bucket seat)
 

@@ -2,7 +2,7 @@
 
 ghost use Rattle.std.specs.Prelude.{◌≡◌, ◌≤◌, IfOk, length, vec_capacity};
 ghost use Rattle.plain_map.specs.Rows.{bucket_content};
-ghost use Rattle.bucket_states.specs.Items.{value_at};
+ghost use Rattle.bucket_states.specs.Items.{number_at, reply_in};
 ghost use Rattle.bucket_states.specs.States.{
   state_of,
   empty_state,
@@ -15,8 +15,8 @@ ghost use Rattle.bucket_states.specs.States.{
   RowKeepsRoom,
 };
 
-use crate::items::place_of;
-use plain_map::{BucketRow, Key, Pair, Reply};
+use crate::items::{place_of, reply};
+use plain_map::{BucketRow, Call, Key, Pair, Reply, Rules};
 use std::alloc::{AllocError, Global};
 use step_counts::Settings;
 
@@ -102,14 +102,21 @@ impl Bucket {
         refill(&mut row.replies, &self.replies);
     }
 
-    /// The value that the bucket holds at a key.
+    /// The session number that the bucket holds at a key.
     pub fn find(&self, key: &Key) -> Option<u64>
-        ensures { result ≡ value_at key.now self.now.items.items }
+        ensures { result ≡ number_at key.now self.now.items.items }
     {
         match place_of(&self.items, key) {
             Some(at) => Some(self.items[at].value),
             None => None,
         }
+    }
+
+    /// The answer to a call by the pairs that the bucket holds. They stay as they are.
+    pub fn reply(&self, rules: &Rules, call: &Call) -> Reply
+        ensures { result ≡ reply_in rules.now self.now.items.items call.now }
+    {
+        reply(&self.items, rules, call)
     }
 }
 

@@ -2,11 +2,11 @@
 
 ghost use Rattle.std.specs.Prelude.{◌≡◌, ℕ, ◌≤◌, None, Some, vec_capacity, MatchOption};
 ghost use Rattle.std.specs.List.{position};
-ghost use Rattle.plain_map.specs.declared.calls.Call.TheVariants.{Insert, Remove};
+ghost use Rattle.plain_map.specs.declared.calls.Call.TheVariants.{Insert, Remove, Tally};
 ghost use Rattle.bucket_states.specs.Places.{IsPlaceOf, IsAnswer};
-ghost use Rattle.bucket_states.specs.Items.{same_key, value_at};
+ghost use Rattle.bucket_states.specs.Items.{same_key, reply_in, value_at};
 
-use plain_map::{Call, Key, Pair, Reply, Rules};
+use plain_map::{Call, Key, Pair, Reply, Rules, add_bytes};
 
 // The first place with the key.
 fn first_place(items: &[Pair], key: &Key) -> Option<usize>
@@ -22,9 +22,26 @@ pub(crate) fn place_of(items: &[Pair], key: &Key) -> Option<usize>
     first_place(items, key)
 }
 
+// The answer to a call by the pairs, which stay as they are.
+#[tactic(auto, unfolding(crate::specs::Items::reply_in))]
+pub(crate) fn reply(items: &[Pair], rules: &Rules, call: &Call) -> Reply
+    ensures { result ≡ reply_in rules.now items.now call.now }
+{
+    match (call, place_of(items, call.key())) {
+        (Call::Insert(_, _), Some(at)) => Reply::Old(items[at].value),
+        (Call::Insert(_, _), None) if items.len() < rules.items as usize => Reply::New,
+        (Call::Insert(_, _), None) => Reply::NoRoom,
+        (Call::Remove(_), Some(at)) => Reply::Gone(items[at].value),
+        (Call::Lookup(_), Some(at)) => Reply::Found(items[at].value),
+        (Call::Tally(_, amount), Some(at)) => Reply::Sum(add_bytes(items[at].bytes, *amount)),
+        (_, None) => Reply::Absent,
+    }
+}
+
 // Takes a new pair, or answers why it does not. `None` is for a bucket that has to be split first.
 fn insert(items: &mut Vec<Pair>, rules: &Rules, depth: u32, pair: Pair) -> Option<Reply>
-    requires { rules.now.items ≤ vec_capacity items.old }
+    requires room { rules.now.items ≤ vec_capacity items.old }
+    requires begins { pair.bytes ≡ 0 }
     ensures answer { IsAnswer rules.now depth items.old.items (Insert pair.key pair.value) items.new.items result }
     ensures room { vec_capacity items.new ≡ vec_capacity items.old }
 {
@@ -51,6 +68,22 @@ fn remove(items: &mut Vec<Pair>, key: &Key) -> Reply
     }
 }
 
+// Adds so many bytes to the pair's.
+fn tally(items: &mut Vec<Pair>, key: &Key, amount: u64) -> Reply
+    ensures answer { (rules : Rules) (depth : ℕ) →
+        IsAnswer rules depth items.old.items (Tally key.now amount) items.new.items (Some result) }
+    ensures room { vec_capacity items.new ≡ vec_capacity items.old }
+{
+    match place_of(items, key) {
+        Some(at) => {
+            let bytes = add_bytes(items[at].bytes, amount);
+            items[at].bytes = bytes;
+            Reply::Sum(bytes)
+        }
+        None => Reply::Absent,
+    }
+}
+
 // The answer to a call, with the change that it makes. `None` is for a bucket that has to be split first.
 pub(crate) fn answer(items: &mut Vec<Pair>, rules: &Rules, depth: u32, call: &Call) -> Option<Reply>
     requires { rules.now.items ≤ vec_capacity items.old }
@@ -65,9 +98,11 @@ pub(crate) fn answer(items: &mut Vec<Pair>, rules: &Rules, depth: u32, call: &Ca
             Pair {
                 key: *key,
                 value: *value,
+                bytes: 0,
             },
         ),
         Call::Remove(key) => Some(remove(items, key)),
+        Call::Tally(key, amount) => Some(tally(items, key, *amount)),
         Call::Lookup(key) => match place_of(items, key) {
             Some(at) => Some(Reply::Found(items[at].value)),
             None => Some(Reply::Absent),

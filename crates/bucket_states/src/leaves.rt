@@ -45,7 +45,7 @@ impl Bucket {
                     && self.items.len() >= rules.items as usize
                     && self.depth < rules.depth
             }
-            Call::Remove(_) | Call::Lookup(_) => false,
+            Call::Remove(_) | Call::Lookup(_) | Call::Tally(_, _) => false,
         }
     }
 

@@ -14,13 +14,21 @@ use step_counts::Settings;
 // The key of TCP packets from 10.0.0.1, with this port, to 10.0.0.2, port 80.
 fn key(port: u64) -> Key {
     Key {
-        k0: 0x0a00_0001_0a00_0002,
-        k1: port << 24 | 80 << 8 | 6,
+        k0: 0,
+        k1: 0x0a00_0001,
+        k2: 0,
+        k3: 0x0a00_0002,
+        k4: port << 24 | 80 << 8 | 6,
     }
 }
 
 fn insert(seat: u32, number: u32, port: u64) -> Option<Op> {
     let call = Call::Insert(key(port), port);
+    Some(Op { seat, number, call })
+}
+
+fn tally(seat: u32, number: u32, port: u64) -> Option<Op> {
+    let call = Call::Tally(key(port), port);
     Some(Op { seat, number, call })
 }
 
@@ -52,6 +60,8 @@ fn a_third_key_freezes_or_is_refused(rt: HostRuntime) -> Result<(), Fail> {
         );
         assert_eq!(rt; bucket.find(&key(2)), Some(2), "at {depth}");
         assert_eq!(rt; bucket.find(&key(3)), None, "at {depth}");
+        let tally = Call::Tally(key(2), 5);
+        assert_eq!(rt; bucket.reply(&rules, &tally), Reply::Sum(5), "at {depth}");
     }
     Ok(())
 }
@@ -130,14 +140,14 @@ fn eight_seats_ask_as_one_map(rt: HostRuntime) -> Result<(), Fail> {
         put(17),
         Call::Remove(key(5)),
         Call::Remove(key(5)),
-        put(18),
+        Call::Tally(key(7), 5),
         put(1),
         Call::Lookup(key(7)),
         Call::Lookup(key(17)),
     ];
     ask_both(&rt, &mut bucket, &mut map, 3, &every_kind)?;
-    assert_eq!(rt; map.pairs().len(), 16);
-    assert_eq!(rt; bucket.items.len(), 16);
+    assert_eq!(rt; map.pairs().len(), 15);
+    assert_eq!(rt; bucket.items.len(), 15);
     for pair in map.pairs() {
         assert_eq!(rt; bucket.find(&pair.key), Some(pair.value));
     }
@@ -177,9 +187,10 @@ fn a_full_bucket_is_split(rt: HostRuntime) -> Result<(), Fail> {
     let mut bucket = Bucket::with_room(rt.alloc(), &settings)?;
     bucket.depth = 1;
     bucket.apply_all(&rules, &[insert(0, 1, 1), insert(1, 1, 16384)]);
+    bucket.apply_all(&rules, &[tally(0, 2, 1), tally(1, 2, 16384)]);
     let op = Op {
         seat: 0,
-        number: 2,
+        number: 3,
         call: put(2),
     };
     bucket.apply_all(&rules, &[Some(op), None]);
@@ -202,19 +213,23 @@ fn takes_the_call(rt: &impl Abort, rules: &Rules, half: &mut Bucket, op: &Op, bi
 {
     assert_eq!(rt; [half.prefix, half.depth as u64], [bit, 2]);
     assert!(rt; !half.frozen);
-    assert_eq!(rt; half.items.as_slice(), [pair(port)].as_slice());
-    assert_eq!(rt; half.applied.as_slice(), [1, 1].as_slice());
+    assert_eq!(rt; half.items.as_slice(), [pair(port, port)].as_slice());
+    assert_eq!(rt; half.applied.as_slice(), [2, 2].as_slice());
     assert!(rt; !half.overflows(rules, &op.call));
     assert_eq!(rt; half.replies.len(), 2);
     half.answer(rules, 0, op);
-    assert_eq!(rt; half.items.as_slice(), [pair(port), pair(2)].as_slice());
-    assert_eq!(rt; half.applied.as_slice(), [2, 1].as_slice());
+    assert_eq!(rt;
+        half.items.as_slice(),
+        [pair(port, port), pair(2, 0)].as_slice()
+    );
+    assert_eq!(rt; half.applied.as_slice(), [3, 2].as_slice());
     assert_eq!(rt; half.replies[0], Some(Reply::New));
 }
 
-fn pair(port: u64) -> Pair {
+fn pair(port: u64, bytes: u64) -> Pair {
     Pair {
         key: key(port),
         value: port,
+        bytes,
     }
 }

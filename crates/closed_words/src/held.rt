@@ -102,8 +102,12 @@ fn item_at<W: Words>(starts: &Starts, words: &W, row: u64, i: u64) -> Pair
         key: Key {
             k0: item_word(starts, words, row, i, 0),
             k1: item_word(starts, words, row, i, 1),
+            k2: item_word(starts, words, row, i, 2),
+            k3: item_word(starts, words, row, i, 3),
+            k4: item_word(starts, words, row, i, 4),
         },
-        value: item_word(starts, words, row, i, 2),
+        value: item_word(starts, words, row, i, 5),
+        bytes: item_word(starts, words, row, i, 6),
     }
 }
 

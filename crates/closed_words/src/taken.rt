@@ -63,12 +63,12 @@ fn was_applied<W: Words>(starts: &Starts, words: &W, rows: &[u64], pending: &Pen
     false
 }
 
-// Whether the call is an insert or a remove.
+// Whether the call is an insert, a remove or a tally.
 fn is_update(call: &Call) -> bool
     ensures { result ≡ is_update call.now }
 {
     match call {
-        Call::Insert(_, _) | Call::Remove(_) => true,
+        Call::Insert(_, _) | Call::Remove(_) | Call::Tally(_, _) => true,
         Call::Lookup(_) => false,
     }
 }

@@ -12,8 +12,11 @@ use word_rows::{ClosedRows, Layout};
 
 // The key of 10.0.0.1:1 and 10.0.0.2:80 over TCP.
 const KEY: Key = Key {
-    k0: 0x0a00_0001_0a00_0002,
-    k1: 0x0000_0000_0100_5006,
+    k0: 0,
+    k1: 0x0a00_0001,
+    k2: 0,
+    k3: 0x0a00_0002,
+    k4: 0x0000_0000_0100_5006,
 };
 
 const SMALL_ROWS: SeatRows = SeatRows {
@@ -23,22 +26,28 @@ const SMALL_ROWS: SeatRows = SeatRows {
     directory_rows: 1,
 };
 
-const EMPTY_LEFT: [u64; 13] = [0, 1, 0, 0, 0, 0, 0, 0, 0, 0, 0, 0, 0];
+const EMPTY_LEFT: [u64; 21] = [
+    0, 1, 0, 0, 0, 0, 0, 0, 0, 0, 0, 0, 0, 0, 0, 0, 0, 0, 0, 0, 0,
+];
 
-const EMPTY_RIGHT: [u64; 13] = [1, 1, 0, 0, 0, 0, 0, 0, 0, 0, 0, 0, 0];
+const EMPTY_RIGHT: [u64; 21] = [
+    1, 1, 0, 0, 0, 0, 0, 0, 0, 0, 0, 0, 0, 0, 0, 0, 0, 0, 0, 0, 0,
+];
 
-const FILLED_LEFT: [u64; 13] = [0, 1, 1, 0, 1, KEY.k0, KEY.k1, 1, 0, 0, 0, 1, 1];
+const FILLED_LEFT: [u64; 21] = [
+    0, 1, 1, 0, 1, KEY.k0, KEY.k1, KEY.k2, KEY.k3, KEY.k4, 1, 10, 0, 0, 0, 0, 0, 0, 0, 1, 1,
+];
 
 // The words of a table of one seat, two items and depth 1, after the insert.
 fn small_words(alloc: Global) -> Result<Vec<u64>, AllocError> {
-    let mut words = [0; 98];
+    let mut words = [0; 149];
     words[3] = 2;
     words[4] = 1;
-    words[12..25].copy_from_slice(&EMPTY_LEFT);
-    words[25..38].copy_from_slice(&EMPTY_RIGHT);
-    words[38..51].copy_from_slice(&FILLED_LEFT);
-    words[90] = 1;
-    words[93] = 1;
+    words[15..36].copy_from_slice(&EMPTY_LEFT);
+    words[36..57].copy_from_slice(&EMPTY_RIGHT);
+    words[57..78].copy_from_slice(&FILLED_LEFT);
+    words[141] = 1;
+    words[144] = 1;
     Vec::from_slice(alloc, &words)
 }
 
@@ -98,7 +107,15 @@ fn leaves_of_a_small_table(rt: HostRuntime) -> Result<(), Fail> {
     };
     assert_eq!(rt; leaves.as_slice(), [left, right].as_slice());
     let pairs = closed_pairs(alloc, &starts, &rows)?;
-    assert_eq!(rt; pairs.as_slice(), [Pair { key: KEY, value: 1 }].as_slice());
+    assert_eq!(rt;
+        pairs.as_slice(),
+        [Pair {
+            key: KEY,
+            value: 1,
+            bytes: 10
+        }]
+        .as_slice()
+    );
     let stopped = Pending {
         seat: 0,
         number: 1,

@@ -30,6 +30,7 @@ use Rattle.core_answers.proofs.Options.{none_some}
 use Rattle.core_answers.proofs.Moments.{grows_both}
 use Rattle.core_answers.proofs.Begins.{begin}
 use Rattle.core_answers.proofs.Steps.{went}
+use Rattle.plain_map.specs.Keys.{no_key}
 
 -- what is told of a world, and known of its seats
 pub record Tells (setup : Setup) (w : World) (c : Common) (locals : ℕ → Local) (t : Tale) : Type 0 where
@@ -152,7 +153,7 @@ told_steps setup w c locals t me flight phase f h (inr begins) k tells =
 abbrev pub silence : Tale
 silence = record {
   answers = λ q. 0;
-  call_at = λ q m. Lookup (record { k0 = 0; k1 = 0 });
+  call_at = λ q m. Lookup no_key;
   seen = λ q m a. 0;
   looked = λ q m. None;
   waits = λ q m. None;

@@ -14,7 +14,7 @@ use Rattle.word_rows.proofs.MemoryLemmas.{put_same, put_other, put_at_same, put_
 use Rattle.bucket_states.specs.declared.ops.Op.{Op}
 use Rattle.bucket_states.specs.Values.{IsUpdate}
 use Rattle.bucket_states.specs.Laws.{applied_of}
-use Rattle.plain_map.specs.declared.calls.Call.TheVariants.{Insert, Remove, Lookup}
+use Rattle.plain_map.specs.declared.calls.Call.TheVariants.{Insert, Remove, Lookup, Tally}
 use Rattle.core_model.specs.Setup.{Setup, seats_of}
 use Rattle.core_model.specs.declared.rounds.Aim.TheVariants.{ForLookup}
 use Rattle.core_model.specs.Phases.{SeeDone, StoreOp, Announce, FindRoot, LookWord, StoreDone}
@@ -282,6 +282,7 @@ module _ (setup : Setup) (me : ℕ) (c : Common) (h : me < seats_of setup) (s : 
     kind (Insert key value) u = refl
     kind (Remove key) u = refl
     kind (Lookup key) u = elim u [ ]
+    kind (Tally key amount) u = refl
 
     -- the seat has one more op
     ops_here : (then.used me).op_rows ≡ (c.used me).op_rows + 1

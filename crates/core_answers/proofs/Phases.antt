@@ -4,7 +4,7 @@ use Rattle.std.proofs.Common.{◌≡◌, ℕ, ◌+◌, ◌-◌, ◌*◌, ◌<◌
 use Rattle.step_counts.specs.declared.TheConstants.{ITEM_WORDS}
 use Rattle.step_counts.specs.declared.rows.SeatRows.{SeatRows}
 use Rattle.plain_map.specs.declared.calls.Call.{Call}
-use Rattle.plain_map.specs.declared.calls.Call.TheVariants.{Insert, Remove, Lookup}
+use Rattle.plain_map.specs.declared.calls.Call.TheVariants.{Insert, Remove, Lookup, Tally}
 use Rattle.plain_map.specs.declared.calls.Reply.{Reply}
 use Rattle.plain_map.specs.Calls.{key_in}
 use Rattle.word_rows.specs.BucketWords.{items_of_words, words_of_bucket}
@@ -111,6 +111,7 @@ module _ (setup : Setup) (me : ℕ) (c : Common) (flight : Flight) (h : me < sea
       kind (Insert key value) u = refl
       kind (Remove key) u = refl
       kind (Lookup key) u = elim u [ ]
+      kind (Tally key amount) u = refl
 
   -- ---- what a lookup reads of the items
 

@@ -12,7 +12,7 @@ use Rattle.plain_map.specs.declared.keys.Key.{Key}
 use Rattle.plain_map.specs.declared.keys.Pair.{Pair}
 use Rattle.plain_map.specs.declared.rules.Rules.{Rules}
 use Rattle.plain_map.specs.declared.calls.Call.{Call}
-use Rattle.plain_map.specs.declared.calls.Call.TheVariants.{Insert, Remove, Lookup}
+use Rattle.plain_map.specs.declared.calls.Call.TheVariants.{Insert, Remove, Lookup, Tally}
 use Rattle.word_rows.specs.Memory.{put, put_at}
 use Rattle.word_rows.proofs.MemoryLemmas.{put_same, put_other, put_at_same}
 use Rattle.bucket_states.specs.declared.ops.Op.{Op}
@@ -179,6 +179,7 @@ op_came setup c p j (Insert key value) h lt e =
     inr (record { seat = p; there = h; at = j; old = lt; value = value; call_is = e })
 op_came setup c p j (Remove key) h lt e = tt
 op_came setup c p j (Lookup key) h lt e = tt
+op_came setup c p j (Tally key amount) h lt e = tt
 
 -- what is there is the same
 some_same : {A : Type 0} {x y : A} → Some x ≡ Some y → x ≡ y

@@ -8,11 +8,12 @@ use Rattle.plain_map.specs.declared.keys.Key.{Key}
 use Rattle.plain_map.specs.declared.keys.Pair.{Pair}
 use Rattle.plain_map.specs.declared.rules.Rules.{Rules}
 use Rattle.plain_map.specs.declared.calls.Call.{Call}
-use Rattle.plain_map.specs.declared.calls.Call.TheVariants.{Insert, Remove, Lookup}
+use Rattle.plain_map.specs.declared.calls.Call.TheVariants.{Insert, Remove, Lookup, Tally}
 use Rattle.plain_map.specs.Calls.{key_in}
-use Rattle.plain_map.specs.PlainObject.{InRange}
+use Rattle.plain_map.specs.Keys.{Session, pair_of}
+use Rattle.plain_map.specs.PlainObject.{InRange, new_session}
 use Rattle.bucket_states.specs.declared.ops.Op.{Op}
-use Rattle.bucket_states.specs.Items.{prefix_of, same_key, value_at, has_place, overflows, items_after, appended, without}
+use Rattle.bucket_states.specs.Items.{prefix_of, same_key, value_at, has_place, overflows, items_after, appended, tallied_in, with_more, without}
 use Rattle.bucket_states.specs.Parts.{keys_of, HasDistinctKeys, HasPrefix}
 use Rattle.bucket_states.specs.States.{BucketState}
 use Rattle.bucket_states.specs.Change.{change, after_seats, after_op, frozen, answered}
@@ -68,6 +69,7 @@ abbrev pub CallIn : (Key → Type 0) → Call → Type 0
 CallIn C (Insert key value) = C key
 CallIn C (Remove key) = Unit {0}
 CallIn C (Lookup key) = Unit {0}
+CallIn C (Tally key amount) = Unit {0}
 
 -- ---- items
 
@@ -79,18 +81,29 @@ keys_without C key (pair ∷ items) k = go (same_key pair.key key) (keys_without
     go true rest = k.1
     go false rest = (k.0, rest)
 
+keys_tallied : (C : Key → Type 0) (key : Key) (amount : ℕ) (items : List Pair) → KeysIn C items →
+    KeysIn C (tallied_in key amount items)
+keys_tallied C key amount [] k = tt
+keys_tallied C key amount (pair ∷ items) k = go (same_key pair.key key) (keys_tallied C key amount items k.1)
+  where
+    go : (b : Bool) → KeysIn C (tallied_in key amount items) →
+        KeysIn C (cond b (with_more pair amount ∷ items) (pair ∷ tallied_in key amount items))
+    go true rest = (k.0, k.1)
+    go false rest = (k.0, rest)
+
 -- after a call
 pub keys_after : (C : Key → Type 0) (rules : Rules) (items : List Pair) (call : Call) → CallIn C call → KeysIn C items →
     KeysIn C (items_after rules items call)
 unfolding items_after
 keys_after C rules items (Insert key value) c k = go (value_at key items) (has_place rules items)
   where
-    go : (o : Option ℕ) (b : Bool) → KeysIn C (appended items (record { key = key; value = value }) o b)
+    go : (o : Option Session) (b : Bool) → KeysIn C (appended items (pair_of (key, new_session value)) o b)
     go (Some held) b = k
     go None true = each-append (λ (pair : Pair). C pair.key) items _ k (c, tt)
     go None false = k
 keys_after C rules items (Remove key) c k = keys_without C key items k
 keys_after C rules items (Lookup key) c k = k
+keys_after C rules items (Tally key amount) c k = keys_tallied C key amount items k
 
 -- each item has the prefix
 same_self : (key : Key) → same_key key key ≡ true
@@ -125,7 +138,7 @@ pub overflow_crowd : (C : Key → Type 0) (rules : Rules) (depth prefix : ℕ) (
     Crowd C rules depth prefix
 unfolding overflows
 overflow_crowd C rules depth prefix items (Insert key value) distinct inside keys c for_it over =
-    let pair : Pair = record { key = key; value = value } in
+    let pair : Pair = pair_of (key, new_session value) in
     let absent : value_at key items ≡ None = none (value_at key items) (and_parts _ _ over).0 in
     let many = (overflow_parts rules depth items (Insert key value) over).0 in
     record {
@@ -139,11 +152,12 @@ overflow_crowd C rules depth prefix items (Insert key value) distinct inside key
           ((c, for_it), tt));
     }
   where
-    none : (o : Option ℕ) → not (is_some o) ≡ true → o ≡ None
+    none : (o : Option Session) → not (is_some o) ≡ true → o ≡ None
     none (Some x) e = cc
     none None e = refl
 overflow_crowd C rules depth prefix items (Remove key) distinct inside keys c for_it over = cc
 overflow_crowd C rules depth prefix items (Lookup key) distinct inside keys c for_it over = cc
+overflow_crowd C rules depth prefix items (Tally key amount) distinct inside keys c for_it over = cc
 
 -- ---- the bucket change
 

@@ -12,8 +12,8 @@ use Rattle.std.proofs.lemmas.Map.Made.{length-le_from_is_member}
 use Rattle.plain_map.specs.declared.keys.Key.{Key}
 use Rattle.plain_map.specs.declared.keys.Pair.{Pair}
 use Rattle.plain_map.specs.declared.rules.Rules.{Rules}
-use Rattle.plain_map.specs.Keys.{key_cmp}
-use Rattle.plain_map.specs.PlainObject.{Sessions, class_of, class_size, has_room, inserted, map_after}
+use Rattle.plain_map.specs.Keys.{Session, held_in, key_cmp}
+use Rattle.plain_map.specs.PlainObject.{Sessions, class_of, class_size, brought, has_room, inserted}
 use Rattle.bucket_states.specs.Items.{prefix_of, same_key, value_at}
 use Rattle.bucket_states.specs.Parts.{keys_of, HasDistinctKeys, HoldsPart}
 use Rattle.bucket_states.proofs.ItemLemmas.{is_some-value_at}
@@ -21,7 +21,6 @@ use Rattle.bucket_states.proofs.KeyTests.{Decides-same_key, same_key-equiv}
 use Rattle.bucket_states.proofs.SizeLemmas.{entry_keys, of_class, class_size-keys, distinct_of_class, member_of_class}
 use Rattle.bucket_states.proofs.PartLemmas.{both_hold, get-inserted, some_of}
 use Rattle.core_model.specs.Setup.{HaveRoom, classmates}
-use Rattle.core_model.specs.Opening.{insert_of}
 use Rattle.core_model.specs.Closed.{sessions_with}
 use Rattle.core_model.specs.Needs.{distinct_keys}
 use Rattle.core_bounds.proofs.KeyCounts.{has, no_more}
@@ -98,8 +97,7 @@ module _ (rules : Rules) where
   -- one pair more is held
   one_more : (front rest : List Pair) (pair : Pair) (sessions : Sessions) → HasDistinctKeys (front ++ pair ∷ rest) →
       HaveRoom rules (front ++ pair ∷ rest) → HoldsKeys front sessions →
-      HoldsKeys (front ++ pair ∷ []) (map_after rules sessions (insert_of pair))
-  unfolding map_after
+      HoldsKeys (front ++ pair ∷ []) (brought rules sessions pair.key (held_in pair))
   one_more front rest pair sessions distinct room holds q =
       let absent : is_some (get sessions pair.key) ≡ false = holds pair.key ∙ later_apart front pair rest distinct in
       let free : has_room rules sessions pair.key ≡ true =
@@ -111,22 +109,22 @@ module _ (rules : Rules) where
       keys =
           ap (λ ks. has ks q) (map-append (λ (p : Pair). p.key) front (pair ∷ [])) ∙ has_push (keys_of front) pair.key q
 
-      by : (b : Bool) (o : Option ℕ) → is_some o ≡ has (keys_of front) q →
-          is_some (cond b (Some pair.value) o) ≡ (b || has (keys_of front) q)
+      by : (b : Bool) (o : Option Session) → is_some o ≡ has (keys_of front) q →
+          is_some (cond b (Some (held_in pair)) o) ≡ (b || has (keys_of front) q)
       by true o e = refl
       by false o e = e
 
-      go : (o : Option ℕ) → is_some o ≡ false → (b : Bool) → b ≡ true →
-          is_some (get (inserted sessions pair.key pair.value o b) q) ≡ has (keys_of (front ++ pair ∷ [])) q
+      go : (o : Option Session) → is_some o ≡ false → (b : Bool) → b ≡ true →
+          is_some (get (inserted sessions pair.key (held_in pair) o b) q) ≡ has (keys_of (front ++ pair ∷ [])) q
       go (Some held) e b f = cc
-      go None e true f = ap is_some (get-inserted sessions pair.key pair.value q)
+      go None e true f = ap is_some (get-inserted sessions pair.key (held_in pair) q)
           ∙ by (same_key pair.key q) (get sessions q) (holds q) ∙ sym keys
       go None e false f = cc
 
   -- and so all of them, one after the other
   all_held : (front rest : List Pair) (sessions : Sessions) → HasDistinctKeys (front ++ rest) →
       HaveRoom rules (front ++ rest) → HoldsKeys front sessions →
-      HoldsKeys (front ++ rest) (fold (λ m pair. map_after rules m (insert_of pair)) sessions rest)
+      HoldsKeys (front ++ rest) (fold (λ m pair. brought rules m pair.key (held_in pair)) sessions rest)
   all_held front [] sessions distinct room holds = λ q. holds q ∙ ap (λ xs. has (keys_of xs) q) (sym (append_nil front))
     where
       append_nil : (xs : List Pair) → xs ++ [] ≡ xs
@@ -135,10 +133,10 @@ module _ (rules : Rules) where
   all_held front (pair ∷ rest) sessions distinct room holds =
       let same : (front ++ pair ∷ []) ++ rest ≡ front ++ pair ∷ rest = append_assoc front (pair ∷ []) rest in
       let next = one_more front rest pair sessions distinct room holds in
-      let all = all_held (front ++ pair ∷ []) rest (map_after rules sessions (insert_of pair))
+      let all = all_held (front ++ pair ∷ []) rest (brought rules sessions pair.key (held_in pair))
       (subst HasDistinctKeys (sym same) distinct) (subst (HaveRoom rules) (sym same) room) next in
-      subst (λ xs. HoldsKeys xs (fold (λ m p. map_after rules m (insert_of p))
-      (map_after rules sessions (insert_of pair)) rest)) same all
+      subst (λ xs. HoldsKeys xs (fold (λ m p. brought rules m p.key (held_in p))
+      (brought rules sessions pair.key (held_in pair)) rest)) same all
 
   -- all first pairs are held, and nothing else
   pub first_held : (first : List Pair) → HasDistinctKeys first → HaveRoom rules first →

@@ -6,7 +6,7 @@ use Rattle.std.proofs.lemmas.List.{append_assoc}
 use Rattle.std.specs.Option.{option_map_or}
 use Rattle.step_counts.specs.declared.rows.SeatRows.{SeatRows}
 use Rattle.plain_map.specs.declared.calls.Call.{Call}
-use Rattle.plain_map.specs.declared.calls.Call.TheVariants.{Insert, Remove, Lookup}
+use Rattle.plain_map.specs.declared.calls.Call.TheVariants.{Insert, Remove, Lookup, Tally}
 use Rattle.plain_map.specs.declared.full.Full.{Full}
 use Rattle.plain_map.specs.declared.keys.Key.{Key}
 use Rattle.plain_map.specs.declared.records.Record.{Record}
@@ -143,6 +143,7 @@ abbrev pub KeyGiven : List Key → Call → Type 0
 KeyGiven keys (Insert key value) = has keys key ≡ true
 KeyGiven keys (Remove key) = Unit {0}
 KeyGiven keys (Lookup key) = Unit {0}
+KeyGiven keys (Tally key amount) = Unit {0}
 
 -- the keys of all its inserts are among these
 abbrev pub Known : List Key → SeatState → Type 0
@@ -171,17 +172,20 @@ given_left : (xs ys : List Key) (call : Call) → KeyGiven xs call → KeyGiven 
 given_left xs ys (Insert key value) k = has_left xs ys key k
 given_left xs ys (Remove key) k = tt
 given_left xs ys (Lookup key) k = tt
+given_left xs ys (Tally key amount) k = tt
 
 given_right : (xs ys : List Key) (call : Call) → KeyGiven ys call → KeyGiven (xs ++ ys) call
 given_right xs ys (Insert key value) k = has_right xs ys key k
 given_right xs ys (Remove key) k = tt
 given_right xs ys (Lookup key) k = tt
+given_right xs ys (Tally key amount) k = tt
 
 -- the key of a call itself
 given_own : (call : Call) → KeyGiven (inserted_by call) call
 given_own (Insert key value) = ap (λ b. b || false) ((Decides-same_key key key).1 refl)
 given_own (Remove key) = tt
 given_own (Lookup key) = tt
+given_own (Tally key amount) = tt
 
 -- a step brings no call
 calls_after : (setup : Setup) (me : ℕ) (account : Account) (flight : Flight) (phase : Phase) (word : ℕ) (call : Call) →

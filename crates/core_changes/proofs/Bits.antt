@@ -6,7 +6,6 @@ use Rattle.std.proofs.lemmas.Nat.{shr-shr}
 use Rattle.std.proofs.Math.Nat.{div-div-eq-div-mul, pow-suc}
 use Rattle.hash_bits.specs.Prefix.{first_bits}
 use Rattle.hash_bits.proofs.PrefixLemmas.{first_bits-suc, div-first_bits_suc}
-use Rattle.hash_bits.proofs.HashLemmas.{hash-within}
 use Rattle.plain_map.specs.declared.keys.Key.{Key}
 use Rattle.plain_map.specs.declared.rules.Rules.{Rules}
 use Rattle.plain_map.specs.Keys.{hash_of_key}
@@ -15,6 +14,7 @@ use Rattle.bucket_states.specs.Halves.{half}
 use Rattle.core_model.specs.Leaves.{NewLeaf, is_in}
 use Rattle.core_model.specs.DirectoryLaws.{takes_hash}
 use Rattle.core_changes.proofs.Totals.{one_if}
+use Rattle.plain_map.proofs.KeyLemmas.{hash_of_key-within}
 
 -- fewer bits of a hash
 pub first_bits-fewer : (h d e : ℕ) → e ≤ d → d ≤ 64 → first_bits h d / 2 ^ (d - e) ≡ first_bits h e
@@ -28,7 +28,7 @@ hash_in rules key = hash_of_key rules.hashing key
 
 -- the hash of a key has 64 bits
 pub hash_in-small : (rules : Rules) (key : Key) → hash_in rules key < 2 ^ 64
-hash_in-small rules key = hash-within rules.hashing key.k0 key.k1
+hash_in-small rules key = hash_of_key-within rules.hashing key
 
 -- a leaf has a key exactly where it takes its hash
 pub is_in-takes : (rules : Rules) (key : Key) (leaf : NewLeaf) →

@@ -12,7 +12,7 @@ use Rattle.std.proofs.lemmas.Map.Made.{length-le_from_is_member}
 use Rattle.plain_map.specs.declared.keys.Key.{Key}
 use Rattle.plain_map.specs.declared.keys.Pair.{Pair}
 use Rattle.plain_map.specs.declared.rules.Rules.{Rules}
-use Rattle.plain_map.specs.Keys.{key_cmp, pair_of}
+use Rattle.plain_map.specs.Keys.{key_cmp, pair_of, Session}
 use Rattle.plain_map.specs.PlainObject.{Sessions, pairs_of}
 use Rattle.plain_map.proofs.KeyLemmas.{exact_keys}
 use Rattle.bucket_states.specs.Items.{prefix_of, same_key, value_at}
@@ -25,27 +25,27 @@ use Rattle.bucket_states.proofs.PartLemmas.{both_hold, some_of}
 
 module _ (test : Key → Bool) (sessions : Sessions) where
   -- the entries whose keys pass
-  abbrev of_test : List (Key × ℕ)
+  abbrev of_test : List (Key × Session)
   of_test = where_key key_cmp test (entries sessions)
 
   -- as many pairs pass as entries
-  counted-pairs : (es : List (Key × ℕ)) →
-      count_by (λ (p : Pair). test p.key) (map pair_of es) ≡ count_by (λ (e : Key × ℕ). test e.0) es
+  counted-pairs : (es : List (Key × Session)) →
+      count_by (λ (p : Pair). test p.key) (map pair_of es) ≡ count_by (λ (e : Key × Session). test e.0) es
   counted-pairs [] = refl
   counted-pairs (e ∷ es) =
       sum_by-cons (λ (p : Pair). cond (test p.key) 1 0) (pair_of e) (map pair_of es)
       ∙ ap (λ (n : ℕ). cond (test e.0) 1 0 + n) (counted-pairs es)
-      ∙ sym (sum_by-cons (λ (e : Key × ℕ). cond (test e.0) 1 0) e es)
+      ∙ sym (sum_by-cons (λ (e : Key × Session). cond (test e.0) 1 0) e es)
 
   -- there are as many keys as entries
-  keys-long : (es : List (Key × ℕ)) → length (entry_keys es) ≡ length es
+  keys-long : (es : List (Key × Session)) → length (entry_keys es) ≡ length es
   keys-long [] = refl
   keys-long (e ∷ es) = ap (λ (n : ℕ). suc n) (keys-long es)
 
   -- as many pairs pass as there are keys that do
   counted-keys : count_by (λ (p : Pair). test p.key) (pairs_of sessions) ≡ length (entry_keys of_test)
   unfolding pairs_of
-  counted-keys = counted-pairs (entries sessions) ∙ sym (length-filter (λ (e : Key × ℕ). test e.0) (entries sessions))
+  counted-keys = counted-pairs (entries sessions) ∙ sym (length-filter (λ (e : Key × Session). test e.0) (entries sessions))
       ∙ sym (keys-long of_test)
 
   -- no key that passes stands twice

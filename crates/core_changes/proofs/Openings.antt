@@ -35,9 +35,9 @@ use Rattle.std.proofs.Math.Nat.{pow-suc}
 use lib.Pow.{pow-add}
 use Rattle.plain_map.specs.declared.keys.Pair.{Pair}
 use Rattle.plain_map.specs.declared.leaves.Leaf.{Leaf}
-use Rattle.plain_map.specs.Keys.{key_cmp}
-use Rattle.plain_map.specs.PlainObject.{Sessions, map_after}
-use Rattle.bucket_states.specs.Items.{items_after}
+use Rattle.plain_map.specs.Keys.{held_in, key_cmp}
+use Rattle.plain_map.specs.PlainObject.{Sessions, brought}
+use Rattle.bucket_states.specs.Items.{items_with}
 use Rattle.bucket_states.specs.Parts.{HoldsPart}
 use Rattle.core_model.specs.Leaves.{split}
 use Rattle.core_model.specs.Opening.{empty_leaf, empty_leaves, insert_of, with_pair, opening_leaves, opening_directory}
@@ -46,13 +46,14 @@ use Rattle.core_model.specs.Closed.{FilledByFirst, FilledByCalls, keys_with_pref
 use Rattle.core_model.specs.OpeningLaws.{IsOpening, OpeningIsRight, OpeningDepthIsOfOne}
 use Rattle.core_changes.proofs.Totals.{many-count}
 use Rattle.bucket_states.proofs.GoodLemmas.{can_answer}
-use Rattle.bucket_states.proofs.ValueLemmas.{items_small}
-use Rattle.bucket_states.proofs.LocalLemmas.{local_answers, other_parts_stay}
+use Rattle.bucket_states.proofs.ValueLemmas.{with_small}
+use Rattle.bucket_states.proofs.LocalLemmas.{brings_alike, brought_elsewhere}
 use Rattle.core_changes.proofs.Counts.{keys-of-part}
 use Rattle.core_changes.proofs.Parts.{parts_hold_all}
 use Rattle.core_changes.proofs.Steps.{splits-one, splits-keep, others-each}
 use Rattle.core_changes.proofs.Splits.{split-apart}
 use Rattle.core_changes.proofs.Directories.{leaf-stands, got, now-each, now-of-one}
+use Rattle.plain_map.specs.Updates.{IsSmallPair}
 
 -- ---- lists made of a range
 
@@ -108,7 +109,7 @@ none_in (suc n) (suc q) = none_in n q
 -- ---- what is known of the leaves after some of the pairs
 
 abbrev AreSmallPairs : List Pair → Type 0
-AreSmallPairs first = All (λ pair. pair.value < 2 ^ 61) first
+AreSmallPairs first = All IsSmallPair first
 
 -- one leaf
 record Opens (rules : Rules) (seats start : ℕ) (first : List Pair) (now : Sessions) (leaf : NewLeaf) : Type 0 where
@@ -173,7 +174,7 @@ module _ (rules : Rules) (seats start : ℕ) (first : List Pair) (can : CanOpen 
     from = refl;
     unused = λ seat. same_in seats seat 0;
     small = λ _. record {
-      values = All-from_recursion (λ (item : Pair). item.value < 2 ^ 61) [] tt;
+      values = All-from_recursion IsSmallPair [] tt;
       numbers = λ seat. omega (arith, same_in seats seat 0);
       replies = λ seat. subst IsUpdateReply (sym (none_in seats seat)) tt;
     };
@@ -309,19 +310,23 @@ module _ (rules : Rules) (seats start : ℕ) (first : List Pair) (can : CanOpen 
 
     -- ---- and its place
 
-    module _ (pair : Pair) (small_pair : AreSmallPairs first → pair.value < 2 ^ 61) where
+    module _ (pair : Pair) (small_pair : AreSmallPairs first → IsSmallPair pair) where
       abbrev call : Call
       call = insert_of pair
 
       abbrev with_it : NewLeaf → NewLeaf
-      with_it leaf = record leaf { bucket = record leaf.bucket { items = items_after rules leaf.bucket.items call } }
+      with_it leaf = record leaf { bucket = record leaf.bucket { items = items_with rules leaf.bucket.items pair } }
+
+      -- what is held with the pair
+      abbrev more : Sessions
+      more = brought rules now pair.key (held_in pair)
 
       put-open : (leaf : NewLeaf) → is_in rules pair.key leaf.bucket ≡ true →
           overflows rules leaf.bucket.depth leaf.bucket.items call ≡ false → Open now leaf →
-          Open (map_after rules now call) (with_it leaf)
+          Open more (with_it leaf)
       put-open leaf inside fits k =
-          let alike = local_answers rules leaf.bucket.prefix leaf.bucket.depth leaf.bucket.items now call
-          (can_answer rules can.range seats leaf.bucket k.good) k.part
+          let alike = brings_alike rules leaf.bucket.prefix leaf.bucket.depth leaf.bucket.items now pair.key pair.value
+          (held_in pair) (can_answer rules can.range seats leaf.bucket k.good) k.part
           (eqb-true (prefix_of rules leaf.bucket.depth pair.key) leaf.bucket.prefix inside) fits in
           record {
             good = record {
@@ -340,7 +345,7 @@ module _ (rules : Rules) (seats start : ℕ) (first : List Pair) (can : CanOpen 
             unused = k.unused;
             small = λ pairs. (let s = k.small pairs in
                 record {
-                  values = items_small rules leaf.bucket.items s.values call (small_pair pairs);
+                  values = with_small rules leaf.bucket.items s.values pair (small_pair pairs);
                   numbers = s.numbers;
                   replies = s.replies;
                 });
@@ -352,8 +357,7 @@ module _ (rules : Rules) (seats start : ℕ) (first : List Pair) (can : CanOpen 
           both_tests : (b : Bool) → b ≡ true → b ≡ false → ⊥
           both_tests b e f = cc
 
-      pair-open : (leaves : List NewLeaf) → Leaves now leaves →
-          Leaves (map_after rules now call) (with_pair rules leaves pair)
+      pair-open : (leaves : List NewLeaf) → Leaves now leaves → Leaves more (with_pair rules leaves pair)
       pair-open leaves all =
           let ready = split_for rules call rules.depth leaves in
           let walked = splits-open call rules.depth leaves all in
@@ -365,7 +369,7 @@ module _ (rules : Rules) (seats start : ℕ) (first : List Pair) (can : CanOpen 
             each = at-each rules pair.key (λ leaf. with_it leaf ∷ [])
                 (λ leaf. Open now leaf × (is_in rules pair.key leaf.bucket ≡ true →
                 overflows rules leaf.bucket.depth leaf.bucket.items call ≡ false))
-                (Open (map_after rules now call)) ready ready
+                (Open more) ready ready
                 (one-key rules can.range pair.key ready parted) refl
                 (λ leaf inside found p. (put-open leaf inside (p.1 inside) p.0, tt))
                 (λ leaf outside p. record {
@@ -374,8 +378,9 @@ module _ (rules : Rules) (seats start : ℕ) (first : List Pair) (can : CanOpen 
                   from = p.0.from;
                   unused = p.0.unused;
                   small = p.0.small;
-                  part = other_parts_stay rules leaf.bucket.prefix leaf.bucket.depth leaf.bucket.items now call
-                      p.0.part (eqb-false (prefix_of rules leaf.bucket.depth pair.key) leaf.bucket.prefix outside);
+                  part = brought_elsewhere rules leaf.bucket.prefix leaf.bucket.depth leaf.bucket.items now pair.key
+                      (held_in pair) p.0.part
+                      (eqb-false (prefix_of rules leaf.bucket.depth pair.key) leaf.bucket.prefix outside);
                   deep = p.0.deep;
                   cause = p.0.cause;
                 })
@@ -390,17 +395,21 @@ module _ (rules : Rules) (seats start : ℕ) (first : List Pair) (can : CanOpen 
 
   -- ---- all pairs
 
+  -- what is held after one more pair
+  abbrev with_one : Sessions → Pair → Sessions
+  with_one sessions pair = brought rules sessions pair.key (held_in pair)
+
   rest-open : (front rest : List Pair) (now : Sessions) (leaves : List NewLeaf) → first ≡ front ++ rest →
-      sessions_with rules front ≡ now → (AreSmallPairs first → Each (λ pair. pair.value < 2 ^ 61) rest) →
+      sessions_with rules front ≡ now → (AreSmallPairs first → Each IsSmallPair rest) →
       Leaves now leaves
-      → Leaves (fold (λ sessions pair. map_after rules sessions (insert_of pair)) now rest)
+      → Leaves (fold (λ sessions pair. brought rules sessions pair.key (held_in pair)) now rest)
       (fold (with_pair rules) leaves rest)
   rest-open front [] now leaves stage are small all = all
   rest-open front (pair ∷ rest) now leaves stage are small all =
-      rest-open (front ++ pair ∷ []) rest (map_after rules now (insert_of pair)) (with_pair rules leaves pair)
+      rest-open (front ++ pair ∷ []) rest (with_one now pair) (with_pair rules leaves pair)
       (stage ∙ sym (append_assoc front (pair ∷ []) rest))
-      (fold-append (λ sessions pair. map_after rules sessions (insert_of pair)) empty front (pair ∷ [])
-      ∙ ap (λ m. map_after rules m (insert_of pair)) are)
+      (fold-append (λ sessions pair. brought rules sessions pair.key (held_in pair)) empty front (pair ∷ [])
+      ∙ ap (λ m. with_one m pair) are)
       (λ pairs. (small pairs).1)
       (pair-open front (pair ∷ rest) stage now are pair (λ pairs. (small pairs).0) leaves all)
 

@@ -10,6 +10,8 @@ use Rattle.hash_bits.proofs.PrefixLemmas.{div-first_bits_suc}
 use Rattle.plain_map.specs.declared.keys.Key.{Key}
 use Rattle.plain_map.specs.declared.keys.Pair.{Pair}
 use Rattle.plain_map.specs.declared.rules.Rules.{Rules}
+use Rattle.plain_map.specs.Keys.{Session, held_in}
+use Rattle.plain_map.specs.Updates.{IsSmallPair}
 use Rattle.plain_map.specs.PlainObject.{InRange}
 use Rattle.bucket_states.specs.Items.{prefix_of, same_key, value_at}
 use Rattle.bucket_states.specs.Parts.{keys_of, HasDistinctKeys, HoldsPart}
@@ -56,7 +58,7 @@ module _ (test : Key → Bool) where
       value_at key (kept items) ≡ cond (test key) (value_at key items) None
   kept-value key [] = go (test key) None
     where
-      go : (b : Bool) (o : Option ℕ) → o ≡ cond b o o
+      go : (b : Bool) (o : Option Session) → o ≡ cond b o o
       go true o = refl
       go false o = refl
   kept-value key (pair ∷ items) = go (test pair.key) refl (same_key pair.key key) refl (kept-value key items)
@@ -67,12 +69,12 @@ module _ (test : Key → Bool) where
       go : (b : Bool) → test pair.key ≡ b → (s : Bool) → same_key pair.key key ≡ s →
           value_at key (kept items) ≡ cond (test key) (value_at key items) None
           → value_at key (cond b (pair ∷ kept items) (kept items)) ≡ cond (test key)
-          (cond s (Some pair.value) (value_at key items)) None
-      go true t true e rest = ap (λ x. cond x (Some pair.value) (value_at key (kept items))) e
-          ∙ ap (λ x. cond x (Some pair.value) None) (sym t ∙ at_key true e refl)
-      go true t false e rest = ap (λ x. cond x (Some pair.value) (value_at key (kept items))) e ∙ rest
+          (cond s (Some (held_in pair)) (value_at key items)) None
+      go true t true e rest = ap (λ x. cond x (Some (held_in pair)) (value_at key (kept items))) e
+          ∙ ap (λ x. cond x (Some (held_in pair)) None) (sym t ∙ at_key true e refl)
+      go true t false e rest = ap (λ x. cond x (Some (held_in pair)) (value_at key (kept items))) e ∙ rest
       go false t true e rest = (let off : test key ≡ false = sym (at_key true e refl) ∙ t in rest
-          ∙ ap (λ x. cond x (value_at key items) None) off ∙ sym (ap (λ x. cond x (Some pair.value) None) off))
+          ∙ ap (λ x. cond x (value_at key items) None) off ∙ sym (ap (λ x. cond x (Some (held_in pair)) None) off))
       go false t false e rest = rest
 
   -- they are no more than all
@@ -116,7 +118,7 @@ parts_hold_all rules bit prefix depth sessions bucket range small below part = r
     test : Key → Bool
     test key = prefix_of rules (suc bucket.depth) key == 2 * bucket.prefix + bit
 
-    by_test : (key : Key) (b : Bool) → test key ≡ b → (held : ℕ) →
+    by_test : (key : Key) (b : Bool) → test key ≡ b → (held : Session) →
         cond (test key) (value_at key bucket.items) None ≡ Some held →
         prefix_of rules (suc bucket.depth) key ≡ 2 * bucket.prefix + bit
     by_test key true t held e = eqb-true (prefix_of rules (suc bucket.depth) key) (2 * bucket.prefix + bit) t
@@ -158,7 +160,7 @@ pub half-small : (rules : Rules) (bit : ℕ) (bucket : BucketState) → IsSmall 
 unfolding half
 half-small rules bit bucket small = record {
   values = All-from_recursion _ _ (kept-small (λ key. prefix_of rules (suc bucket.depth) key ==
-      2 * bucket.prefix + bit) (λ item. item.value < 2 ^ 61) bucket.items (recursion_from_All _ bucket.items
+      2 * bucket.prefix + bit) IsSmallPair bucket.items (recursion_from_All _ bucket.items
       small.values));
   numbers = small.numbers;
   replies = small.replies;

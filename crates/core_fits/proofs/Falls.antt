@@ -188,7 +188,7 @@ module _ (setup : Setup) (me : ℕ) (c : Common) (used : SeatRows) (flight : Fli
   -- the seen done words
   see : (f : Flight) (u : Bool) → length flight.seen < seats_of setup →
       suc (rest setup f (cond u (StoreOp 0) (FindRoot ForLookup))) ≤ (seats_of setup - length flight.seen) + cond u
-      (9 + tries_rest setup + (3 + tries_rest setup + last_rest setup)) (3 + look_rest setup)
+      (OP_WORDS + 4 + tries_rest setup + (3 + tries_rest setup + last_rest setup)) (3 + look_rest setup)
   see f true n = omega (arith, n)
   see f false n = omega (arith, n)
 
@@ -201,9 +201,9 @@ module _ (setup : Setup) (me : ℕ) (c : Common) (used : SeatRows) (flight : Fli
   -- the rest once a directory is loaded
   entries_rest : (f : Flight) (round : Round) (turn first root depth : ℕ) (words : List ℕ) →
       rest setup f (after_entries setup flight round turn first root depth words) ≤ (2 ^ depth - length
-      words) + 6 * seats_of setup + load_all setup + leaf_all setup + wide setup + 1 + dir_tail setup round turn
+      words) + (1 + OP_WORDS) * seats_of setup + load_all setup + leaf_all setup + wide setup + 1 + dir_tail setup round turn
   entries_rest f round turn first root depth words =
-      let P : Phase → Type 0 = λ ph. rest setup f ph ≤ (2 ^ depth - length words) + 6 * seats_of setup + load_all
+      let P : Phase → Type 0 = λ ph. rest setup f ph ≤ (2 ^ depth - length words) + (1 + OP_WORDS) * seats_of setup + load_all
       setup + leaf_all setup + wide setup + 1 + dir_tail setup round turn in
       let attempt : DirectoryTry = record {
         turn = turn;
@@ -234,12 +234,12 @@ module _ (setup : Setup) (me : ℕ) (c : Common) (used : SeatRows) (flight : Fli
   -- the rest once all ops are found
   dir_found_rest : (f : Flight) (round : Round) (attempt : DirectoryTry) (found : List (Option Op)) →
       length found ≤ seats_of setup →
-      rest setup f (after_dir_found setup round attempt found) ≤ 6 * (seats_of setup - length found) + load_all
+      rest setup f (after_dir_found setup round attempt found) ≤ (1 + OP_WORDS) * (seats_of setup - length found) + load_all
       setup + leaf_all setup + wide setup + 1 + dir_tail setup round attempt.turn
   dir_found_rest f round attempt found most =
       cond_both (ltb (length found) (seats_of setup)) (DirAnnouncement round attempt found)
       (after_loaded setup round attempt found [])
-      (λ ph. rest setup f ph ≤ 6 * (seats_of setup - length found) + load_all setup + leaf_all setup + wide
+      (λ ph. rest setup f ph ≤ (1 + OP_WORDS) * (seats_of setup - length found) + load_all setup + leaf_all setup + wide
       setup + 1 + dir_tail setup round attempt.turn) (λ e. omega arith)
       (λ e. (let r = loaded_rest f round attempt found [] in let few = lacking_most setup attempt found in
       omega (

@@ -37,11 +37,11 @@ times k x = k * x
 
 -- the steps of a bucket try, of a directory try, and of all tries of a round
 abbrev pub tb : Setup → ℕ
-tb setup = 2 * width setup + 6 * seats_of setup + 2
+tb setup = 2 * width setup + (1 + OP_WORDS) * seats_of setup + 2
 
 -- of a directory try
 abbrev pub td : Setup → ℕ
-td setup = 2 * wide setup + 6 * seats_of setup + load_all setup + leaf_all setup + 1
+td setup = 2 * wide setup + (1 + OP_WORDS) * seats_of setup + load_all setup + leaf_all setup + 1
 
 -- the last look, a round, and what comes after a round
 abbrev pub last_rest : Setup → ℕ
@@ -86,7 +86,7 @@ dir_tail setup round turn = times (2 - turn) (td setup) + then_rest setup round.
 -- the most steps that are left, phase by phase, with the step to come
 abbrev pub rest : Setup → Flight → Phase → ℕ
 rest setup flight SeeDone = (seats_of setup - length flight.seen) + cond (is_update flight.call)
-    (9 + tries_rest setup + (3 + tries_rest setup + last_rest setup)) (3 + look_rest setup)
+    (OP_WORDS + 4 + tries_rest setup + (3 + tries_rest setup + last_rest setup)) (3 + look_rest setup)
 rest setup flight (StoreOp i) = (OP_WORDS - i) + 4 + tries_rest setup + (3 + tries_rest setup + last_rest setup)
 rest setup flight Announce = 4 + tries_rest setup + (3 + tries_rest setup + last_rest setup)
 rest setup flight (FindRoot aim) = 3 + aim_rest setup aim
@@ -100,22 +100,22 @@ rest setup flight (TryWord round turn first) =
 rest setup flight (TryRow round turn first row words) =
     times (3 - turn) (tb setup) + (width setup - length words) + 2 * td setup + then_rest setup round.turn
 rest setup flight (TryAnnouncement round attempt found) =
-    6 * (seats_of setup - length found) + width setup + 1 + bucket_tail setup round attempt.turn
+    (1 + OP_WORDS) * (seats_of setup - length found) + width setup + 1 + bucket_tail setup round attempt.turn
 rest setup flight (TryOp round attempt found op words) =
-    (OP_WORDS - length words) + 6 * (seats_of setup - length found - 1) + width setup + 1 + bucket_tail setup round
+    (OP_WORDS - length words) + (1 + OP_WORDS) * (seats_of setup - length found - 1) + width setup + 1 + bucket_tail setup round
     attempt.turn
 rest setup flight (TryStore round attempt found i) = (width setup - i) + 1 + bucket_tail setup round attempt.turn
 rest setup flight (TryExchange round attempt found) = 1 + bucket_tail setup round attempt.turn
 rest setup flight (DirRoot round turn first) = times (3 - turn) (td setup) + then_rest setup round.turn
 rest setup flight (DirDepth round turn first root) = td setup - 1 + dir_tail setup round turn
 rest setup flight (DirEntries round turn first root depth words) =
-    (2 ^ depth - length words) + 6 * seats_of setup + load_all setup + leaf_all setup + wide setup + 1 + dir_tail
+    (2 ^ depth - length words) + (1 + OP_WORDS) * seats_of setup + load_all setup + leaf_all setup + wide setup + 1 + dir_tail
     setup round turn
 rest setup flight (DirAnnouncement round attempt found) =
-    6 * (seats_of setup - length found) + load_all setup + leaf_all setup + wide setup + 1 + dir_tail setup round
+    (1 + OP_WORDS) * (seats_of setup - length found) + load_all setup + leaf_all setup + wide setup + 1 + dir_tail setup round
     attempt.turn
 rest setup flight (DirOp round attempt found op words) =
-    (OP_WORDS - length words) + 6 * (seats_of setup - length found - 1) + load_all setup + leaf_all setup + wide
+    (OP_WORDS - length words) + (1 + OP_WORDS) * (seats_of setup - length found - 1) + load_all setup + leaf_all setup + wide
     setup + 1 + dir_tail setup round attempt.turn
 rest setup flight (DirWord round attempt found loaded bucket) =
     times (lacks setup attempt found loaded) (1 + width setup) + leaf_all setup + wide setup + 1 + dir_tail setup
@@ -132,7 +132,7 @@ rest setup flight (StoreDone reply at) = 1
 rest setup flight Stuck = 0
 
 -- all is the bound
-pub bound_is : (setup : Setup) → step_bound (settings_of setup) ≡ seats_of setup + 9 + tries_rest
+pub bound_is : (setup : Setup) → step_bound (settings_of setup) ≡ seats_of setup + (OP_WORDS + 4) + tries_rest
     setup + (3 + tries_rest setup + last_rest setup)
 unfolding wide load_all leaf_all width
 bound_is setup = omega arith
@@ -197,12 +197,12 @@ module _ (setup : Setup) (me : ℕ) (c : Common) (used : SeatRows) (flight : Fli
 
   -- the rest once an op is found
   pub found_rest : (f : Flight) (round : Round) (attempt : BucketTry) (found : List (Option Op)) →
-      rest setup f (after_found setup round attempt found) ≤ 6 * (seats_of setup - length found) + width
+      rest setup f (after_found setup round attempt found) ≤ (1 + OP_WORDS) * (seats_of setup - length found) + width
       setup + 1 + bucket_tail setup round attempt.turn
   found_rest f round attempt found =
       cond_both (ltb (length found) (seats_of setup)) (TryAnnouncement round attempt found)
       (TryStore round attempt found 0)
-      (λ ph. rest setup f ph ≤ 6 * (seats_of setup - length found) + width setup + 1 + bucket_tail setup round
+      (λ ph. rest setup f ph ≤ (1 + OP_WORDS) * (seats_of setup - length found) + width setup + 1 + bucket_tail setup round
       attempt.turn) (λ e. omega arith) (λ e. omega arith)
 
   -- the rest after the exchange of a bucket word

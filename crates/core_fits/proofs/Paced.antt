@@ -14,6 +14,7 @@ use Rattle.core_rounds.proofs.Runs.{found_in}
 use Rattle.core_model.specs.Fits.{most_steps}
 use Rattle.core_fits.proofs.Pace.{tries_rest, last_rest, look_rest, rest, times, bound_is, look_is}
 use Rattle.core_fits.proofs.Falls.{falls_begin, times_mono, wide_is, load_is, leaf_is}
+use Rattle.step_counts.specs.declared.TheConstants.{OP_WORDS}
 
 -- a seat's steps and its rest are at most the bound, and there is a rest
 abbrev pub PacedStand : Setup → Stand → Type 0
@@ -26,14 +27,14 @@ pub begun_paced : (setup : Setup) (account : Account) (packet : ℕ) (call : Cal
     PacedStand setup (InFlight (begun account packet call) SeeDone)
 begun_paced setup account packet call = go (is_update call)
   where
-    go : (b : Bool) → 0 + ((seats_of setup - 0) + cond b (9 + tries_rest
+    go : (b : Bool) → 0 + ((seats_of setup - 0) + cond b (OP_WORDS + 4 + tries_rest
         setup + (3 + tries_rest setup + last_rest setup)) (3 + look_rest
         setup)) ≤ cond b (step_bound (settings_of setup)) (lookup_steps (settings_of setup) (settings_of setup).items)
     go true = omega (arith, bound_is setup)
     go false = omega (arith, look_is setup)
 
 -- the bounds are small
-width_few : (setup : Setup) → width setup ≤ 69
+width_few : (setup : Setup) → width setup ≤ 133
 unfolding width
 width_few setup = omega arith
 

@@ -7,7 +7,6 @@ use Rattle.std.proofs.Math.Nat.{mul-lt-mul_of_pos_right, mul-div_cancel}
 use Rattle.std.proofs.lemmas.Nat.{pow_pos, pow-add}
 use Rattle.std.proofs.lemmas.List.{take_more, take_all, length_push}
 use Rattle.step_counts.specs.StepCounts.{bucket_row_words}
-use Rattle.hash_bits.proofs.HashLemmas.{hash-within}
 use Rattle.hash_bits.proofs.PrefixLemmas.{first_bits-within}
 use Rattle.plain_map.specs.declared.keys.Key.{Key}
 use Rattle.plain_map.specs.Keys.{hash_of_key}
@@ -18,6 +17,7 @@ use Rattle.core_model.specs.Directories.{DirectoryState}
 use Rattle.core_model.specs.DirectoryChange.{LoadedBucket, is_bucket, buckets_of, next_bucket}
 use Rattle.core_model.specs.Setup.{Setup}
 use Rattle.core_history.proofs.Ghost.{Common, Moves, Recalls, LoadedOnce, bits, width}
+use Rattle.plain_map.proofs.KeyLemmas.{hash_of_key-within}
 
 -- one more word of a list that is loaded from its front, and the whole of it
 pub seen_more : (ws seen : List ℕ) (w : ℕ) → length seen < length ws → seen ≡ take (length seen) ws →
@@ -46,7 +46,7 @@ pub bits_below : (setup : Setup) (depth : ℕ) (key : Key) → depth ≤ setup.s
 unfolding prefix_of
 bits_below setup depth key h =
     let few : depth ≤ 64 = omega arith in
-    first_bits-within (hash_of_key setup.hashing key) depth (hash-within setup.hashing key.k0 key.k1) few
+    first_bits-within (hash_of_key setup.hashing key) depth (hash_of_key-within setup.hashing key) few
 
 -- an event that changes nothing that is shared
 pub moves_none : (setup : Setup) (me : ℕ) (c : Common) → Moves setup me c c

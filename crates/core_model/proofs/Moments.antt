@@ -285,7 +285,7 @@ have_room rules front (pair ∷ pairs) =
 
 abbrev pub holds_all : List Pair → List Pair → Bool
 holds_all held pairs =
-    list_all (λ pair. option_map_or (λ value. value == pair.value) (value_at pair.key held) false) pairs
+    list_all (λ pair. option_map_or (λ held. (held.value == pair.value) && (held.bytes == pair.bytes)) (value_at pair.key held) false) pairs
 
 abbrev pub do_pairs_reopen : Setup → World → Bool
 do_pairs_reopen setup world =

@@ -18,7 +18,7 @@ use Rattle.core_model.specs.Worlds.{opening_words}
 use Rattle.core_model.specs.Stores.{directory_puts}
 use Rattle.core_model.specs.Order.{placing_of}
 use Rattle.core_model.specs.Needs.{crowded}
-use Rattle.core_model.proofs.Plays.{key}
+use Rattle.core_model.proofs.Plays.{in_turn, key}
 use Rattle.core_model.proofs.Moments.{play_faults, segment_faults}
 use Rattle.core_model.proofs.WorkedRows.{one_insert_setup, third_insert_splits_setup, three_of_one_class_setup, other_seat_answers_setup, lookup_of_a_split_bucket_setup, lookup_after_insert_setup, remove_makes_room_setup, seats_in_turn_setup, other_seat_answers_a_stopped_one_setup, no_depth_to_split_setup, lost_exchange_was_helped_setup}
 use Rattle.core_model.proofs.RarePaths.{third_look_shows_applied_setup, third_look_shows_frozen_setup, helpers_change_applies_setup, second_round_finds_applied_setup, second_root_leaves_round_setup, second_root_exchange_happens_setup, two_lost_root_exchanges_setup, last_look_shows_applied_setup, root_exchange_in_round_two_setup, number_in_two_leaves_setup, two_buckets_in_one_change_setup}
@@ -27,7 +27,7 @@ use Rattle.core_model.proofs.RarePaths.{third_look_shows_applied_setup, third_lo
 one_insert_keeps :
     play_faults one_insert_setup
     (((1, Insert (key 1) 1) ∷ []) ∷ [])
-    ((0, 45) ∷ []) ≡ 0
+    ((0, 67) ∷ []) ≡ 0
 unfolding class_of opening_words number_after blocks next_number half split apply change_leaves with_leaves
     opening_leaves directory_puts placing_of prefix_of reply_in items_after overflows after_op change first_bits hash_of
     spread crowded
@@ -37,7 +37,7 @@ one_insert_keeps = refl
 third_insert_splits_keeps :
     play_faults third_insert_splits_setup
     (((1, Insert (key 1) 1) ∷ (2, Insert (key 16384) 2) ∷ (3, Insert (key 32768) 3) ∷ []) ∷ [])
-    ((0, 191) ∷ []) ≡ 0
+    ((0, 284) ∷ []) ≡ 0
 unfolding class_of opening_words number_after blocks next_number half split apply change_leaves with_leaves
     opening_leaves directory_puts placing_of prefix_of reply_in items_after overflows after_op change first_bits hash_of
     spread crowded
@@ -47,7 +47,7 @@ third_insert_splits_keeps = refl
 three_of_one_class_keeps :
     segment_faults three_of_one_class_setup
     (((1, Insert (key 1) 1) ∷ (2, Insert (key 2) 2) ∷ (3, Insert (key 3) 3) ∷ []) ∷ [])
-    ((0, 207) ∷ []) ≡ 0
+    ((0, 308) ∷ []) ≡ 0
 unfolding class_of opening_words number_after blocks next_number half split apply change_leaves with_leaves
     opening_leaves directory_puts placing_of prefix_of reply_in items_after overflows after_op change first_bits hash_of
     spread crowded
@@ -57,7 +57,7 @@ three_of_one_class_keeps = refl
 other_seat_answers_keeps :
     segment_faults other_seat_answers_setup
     (((1, Insert (key 1) 1) ∷ []) ∷ ((2, Insert (key 2) 2) ∷ []) ∷ [])
-    ((0, 8) ∷ (1, 56) ∷ (0, 20) ∷ []) ≡ 0
+    ((0, 11) ∷ (1, 81) ∷ (0, 28) ∷ []) ≡ 0
 unfolding class_of opening_words number_after blocks next_number half split apply change_leaves with_leaves
     opening_leaves directory_puts placing_of prefix_of reply_in items_after overflows after_op change first_bits hash_of
     spread crowded
@@ -68,7 +68,7 @@ lookup_of_a_split_bucket_keeps :
     segment_faults lookup_of_a_split_bucket_setup
     (((1, Insert (key 1) 1) ∷ (3, Lookup (key 32768)) ∷ []) ∷ ((2, Insert (key 16384) 2) ∷ (4, Insert (key 32768) 4)
     ∷ []) ∷ [])
-    ((0, 51) ∷ (1, 56) ∷ (0, 5) ∷ (1, 124) ∷ (0, 9) ∷ []) ≡ 0
+    ((0, 73) ∷ (1, 81) ∷ (0, 5) ∷ (1, 179) ∷ (0, 17) ∷ []) ≡ 0
 unfolding class_of opening_words number_after blocks next_number half split apply change_leaves with_leaves
     opening_leaves directory_puts placing_of prefix_of reply_in items_after overflows after_op change first_bits hash_of
     spread crowded
@@ -78,7 +78,7 @@ lookup_of_a_split_bucket_keeps = refl
 lookup_after_insert_keeps :
     segment_faults lookup_after_insert_setup
     (((1, Lookup (key 1)) ∷ []) ∷ ((2, Insert (key 1) 2) ∷ []) ∷ [])
-    ((1, 51) ∷ (0, 11) ∷ []) ≡ 0
+    ((1, 73) ∷ (0, 15) ∷ []) ≡ 0
 unfolding class_of opening_words number_after blocks next_number half split apply change_leaves with_leaves
     opening_leaves directory_puts placing_of prefix_of reply_in items_after overflows after_op change first_bits hash_of
     spread crowded
@@ -89,7 +89,7 @@ remove_makes_room_keeps :
     segment_faults remove_makes_room_setup
     (((1, Insert (key 1) 1) ∷ (2, Insert (key 2) 2) ∷ (3, Insert (key 3) 3) ∷ (4, Remove (key 1))
     ∷ (5, Insert (key 3) 5) ∷ []) ∷ [])
-    ((0, 297) ∷ []) ≡ 0
+    ((0, 442) ∷ []) ≡ 0
 unfolding class_of opening_words number_after blocks next_number half split apply change_leaves with_leaves
     opening_leaves directory_puts placing_of prefix_of reply_in items_after overflows after_op change first_bits hash_of
     spread crowded
@@ -99,15 +99,7 @@ remove_makes_room_keeps = refl
 seats_in_turn_keeps :
     segment_faults seats_in_turn_setup
     (((1, Insert (key 1) 1) ∷ []) ∷ ((2, Insert (key 2) 2) ∷ []) ∷ [])
-    ((0, 1) ∷ (1, 1) ∷ (0, 1) ∷ (1, 1) ∷ (0, 1) ∷ (1, 1) ∷ (0, 1) ∷ (1, 1) ∷ (0, 1) ∷ (1, 1) ∷ (0, 1) ∷ (1, 1) ∷ (0, 1)
-    ∷ (1, 1) ∷ (0, 1) ∷ (1, 1) ∷ (0, 1) ∷ (1, 1) ∷ (0, 1) ∷ (1, 1) ∷ (0, 1) ∷ (1, 1) ∷ (0, 1) ∷ (1, 1) ∷ (0, 1) ∷ (1, 1)
-    ∷ (0, 1) ∷ (1, 1) ∷ (0, 1) ∷ (1, 1) ∷ (0, 1) ∷ (1, 1) ∷ (0, 1) ∷ (1, 1) ∷ (0, 1) ∷ (1, 1) ∷ (0, 1) ∷ (1, 1) ∷ (0, 1)
-    ∷ (1, 1) ∷ (0, 1) ∷ (1, 1) ∷ (0, 1) ∷ (1, 1) ∷ (0, 1) ∷ (1, 1) ∷ (0, 1) ∷ (1, 1) ∷ (0, 1) ∷ (1, 1) ∷ (0, 1) ∷ (1, 1)
-    ∷ (0, 1) ∷ (1, 1) ∷ (0, 1) ∷ (1, 1) ∷ (0, 1) ∷ (1, 1) ∷ (0, 1) ∷ (1, 1) ∷ (0, 1) ∷ (1, 1) ∷ (0, 1) ∷ (1, 1) ∷ (0, 1)
-    ∷ (1, 1) ∷ (0, 1) ∷ (1, 1) ∷ (0, 1) ∷ (1, 1) ∷ (0, 1) ∷ (1, 1) ∷ (0, 1) ∷ (1, 1) ∷ (0, 1) ∷ (1, 1) ∷ (0, 1) ∷ (1, 1)
-    ∷ (0, 1) ∷ (1, 1) ∷ (0, 1) ∷ (1, 1) ∷ (0, 1) ∷ (1, 1) ∷ (0, 1) ∷ (1, 1) ∷ (0, 1) ∷ (1, 1) ∷ (0, 1) ∷ (1, 1) ∷ (0, 1)
-    ∷ (1, 1) ∷ (0, 1) ∷ (1, 1) ∷ (0, 1) ∷ (1, 1) ∷ (0, 1) ∷ (1, 1) ∷ (0, 1) ∷ (1, 1) ∷ (0, 1) ∷ (1, 1) ∷ (0, 1) ∷ (1, 1)
-    ∷ (0, 1) ∷ (1, 1) ∷ (0, 1) ∷ (1, 1) ∷ (0, 1) ∷ (1, 1) ∷ (0, 1) ∷ (1, 1) ∷ (1, 16) ∷ []) ≡ 0
+    (in_turn 81 ((1, 24) ∷ [])) ≡ 0
 unfolding class_of opening_words number_after blocks next_number half split apply change_leaves with_leaves
     opening_leaves directory_puts placing_of prefix_of reply_in items_after overflows after_op change first_bits hash_of
     spread crowded
@@ -117,7 +109,7 @@ seats_in_turn_keeps = refl
 other_seat_answers_a_stopped_one_keeps :
     segment_faults other_seat_answers_a_stopped_one_setup
     (((1, Insert (key 1) 1) ∷ []) ∷ ((2, Insert (key 2) 2) ∷ []) ∷ [])
-    ((0, 8) ∷ (1, 56) ∷ []) ≡ 0
+    ((0, 11) ∷ (1, 81) ∷ []) ≡ 0
 unfolding class_of opening_words number_after blocks next_number half split apply change_leaves with_leaves
     opening_leaves directory_puts placing_of prefix_of reply_in items_after overflows after_op change first_bits hash_of
     spread crowded
@@ -127,7 +119,7 @@ other_seat_answers_a_stopped_one_keeps = refl
 no_depth_to_split_keeps :
     segment_faults no_depth_to_split_setup
     (((1, Insert (key 1) 1) ∷ (2, Insert (key 2) 2) ∷ []) ∷ [])
-    ((0, 78) ∷ []) ≡ 0
+    ((0, 106) ∷ []) ≡ 0
 unfolding class_of opening_words number_after blocks next_number half split apply change_leaves with_leaves
     opening_leaves directory_puts placing_of prefix_of reply_in items_after overflows after_op change first_bits hash_of
     spread crowded
@@ -137,7 +129,7 @@ no_depth_to_split_keeps = refl
 lost_exchange_was_helped_keeps :
     segment_faults lost_exchange_was_helped_setup
     (((1, Insert (key 1) 1) ∷ []) ∷ ((2, Insert (key 2) 2) ∷ []) ∷ [])
-    ((0, 49) ∷ (1, 56) ∷ (0, 18) ∷ []) ≡ 0
+    ((0, 71) ∷ (1, 81) ∷ (0, 26) ∷ []) ≡ 0
 unfolding class_of opening_words number_after blocks next_number half split apply change_leaves with_leaves
     opening_leaves directory_puts placing_of prefix_of reply_in items_after overflows after_op change first_bits hash_of
     spread crowded
@@ -147,7 +139,7 @@ lost_exchange_was_helped_keeps = refl
 third_look_shows_applied_keeps :
     segment_faults third_look_shows_applied_setup
     (((1, Insert (key 2) 1) ∷ []) ∷ ((11, Insert (key 1) 11) ∷ (12, Remove (key 1)) ∷ []) ∷ [])
-    ((1, 49) ∷ (0, 54) ∷ (1, 9) ∷ (0, 44) ∷ (1, 48) ∷ (0, 17) ∷ (0, 1) ∷ (1, 1) ∷ []) ≡ 0
+    ((1, 71) ∷ (0, 79) ∷ (1, 12) ∷ (0, 66) ∷ (1, 70) ∷ (0, 25) ∷ (0, 1) ∷ (1, 1) ∷ []) ≡ 0
 unfolding class_of opening_words number_after blocks next_number half split apply change_leaves with_leaves
     opening_leaves directory_puts placing_of prefix_of reply_in items_after overflows after_op change first_bits hash_of
     spread crowded
@@ -158,7 +150,7 @@ third_look_shows_frozen_keeps :
     segment_faults third_look_shows_frozen_setup
     (((1, Insert (key 1) 1) ∷ (2, Remove (key 1)) ∷ (3, Insert (key 32769) 3) ∷ []) ∷ ((11, Insert (key 2) 11) ∷ [])
     ∷ [])
-    ((0, 88) ∷ (1, 48) ∷ (0, 9) ∷ (1, 38) ∷ (0, 42) ∷ (1, 14) ∷ (0, 1) ∷ (1, 60) ∷ []) ≡ 0
+    ((0, 116) ∷ (1, 65) ∷ (0, 12) ∷ (1, 52) ∷ (0, 56) ∷ (1, 18) ∷ (0, 1) ∷ (1, 78) ∷ []) ≡ 0
 unfolding class_of opening_words number_after blocks next_number half split apply change_leaves with_leaves
     opening_leaves directory_puts placing_of prefix_of reply_in items_after overflows after_op change first_bits hash_of
     spread crowded
@@ -168,7 +160,7 @@ third_look_shows_frozen_keeps = refl
 helpers_change_applies_keeps :
     segment_faults helpers_change_applies_setup
     (((1, Insert (key 2) 1) ∷ []) ∷ ((11, Insert (key 1) 11) ∷ (12, Insert (key 32769) 12) ∷ []) ∷ [])
-    ((1, 43) ∷ (0, 49) ∷ (1, 14) ∷ (0, 1) ∷ (1, 110) ∷ []) ≡ 0
+    ((1, 57) ∷ (0, 66) ∷ (1, 18) ∷ (0, 1) ∷ (1, 145) ∷ []) ≡ 0
 unfolding class_of opening_words number_after blocks next_number half split apply change_leaves with_leaves
     opening_leaves directory_puts placing_of prefix_of reply_in items_after overflows after_op change first_bits hash_of
     spread crowded
@@ -178,7 +170,7 @@ helpers_change_applies_keeps = refl
 second_round_finds_applied_keeps :
     segment_faults second_round_finds_applied_setup
     (((1, Insert (key 1) 1) ∷ (2, Insert (key 32769) 2) ∷ []) ∷ ((11, Insert (key 2) 11) ∷ []) ∷ [])
-    ((0, 89) ∷ (1, 98) ∷ (0, 6) ∷ (0, 17) ∷ (1, 1) ∷ []) ≡ 0
+    ((0, 117) ∷ (1, 127) ∷ (0, 6) ∷ (0, 21) ∷ (1, 1) ∷ []) ≡ 0
 unfolding class_of opening_words number_after blocks next_number half split apply change_leaves with_leaves
     opening_leaves directory_puts placing_of prefix_of reply_in items_after overflows after_op change first_bits hash_of
     spread crowded
@@ -189,7 +181,7 @@ second_root_leaves_round_keeps :
     segment_faults second_root_leaves_round_setup
     (((1, Insert (key 1) 1) ∷ (2, Insert (key 2) 2) ∷ []) ∷ ((11, Insert (key 32769) 11) ∷ (12, Insert (key 49153) 12)
     ∷ (13, Insert (key 40961) 13) ∷ []) ∷ [])
-    ((1, 145) ∷ (0, 217) ∷ (1, 11) ∷ (0, 1) ∷ (1, 152) ∷ []) ≡ 0
+    ((1, 188) ∷ (0, 285) ∷ (1, 11) ∷ (0, 1) ∷ (1, 195) ∷ []) ≡ 0
 unfolding class_of opening_words number_after blocks next_number half split apply change_leaves with_leaves
     opening_leaves directory_puts placing_of prefix_of reply_in items_after overflows after_op change first_bits hash_of
     spread crowded
@@ -200,7 +192,7 @@ second_root_exchange_happens_keeps :
     segment_faults second_root_exchange_happens_setup
     (((1, Insert (key 1) 1) ∷ (2, Insert (key 2) 2) ∷ []) ∷ ((11, Insert (key 32769) 11) ∷ (12, Insert (key 49153) 12)
     ∷ (13, Insert (key 40961) 13) ∷ []) ∷ [])
-    ((1, 145) ∷ (0, 216) ∷ (1, 1) ∷ (0, 95) ∷ (0, 1) ∷ (1, 136) ∷ []) ≡ 0
+    ((1, 188) ∷ (0, 284) ∷ (1, 1) ∷ (0, 121) ∷ (0, 1) ∷ (1, 175) ∷ []) ≡ 0
 unfolding class_of opening_words number_after blocks next_number half split apply change_leaves with_leaves
     opening_leaves directory_puts placing_of prefix_of reply_in items_after overflows after_op change first_bits hash_of
     spread crowded
@@ -211,7 +203,7 @@ two_lost_root_exchanges_keeps :
     segment_faults two_lost_root_exchanges_setup
     (((1, Insert (key 1) 1) ∷ (2, Insert (key 2) 2) ∷ []) ∷ ((11, Insert (key 32769) 11) ∷ (12, Insert (key 49153) 12)
     ∷ (13, Insert (key 40961) 13) ∷ []) ∷ [])
-    ((1, 145) ∷ (0, 216) ∷ (1, 9) ∷ (0, 94) ∷ (1, 162) ∷ (0, 1) ∷ (0, 17) ∷ (1, 1) ∷ []) ≡ 0
+    ((1, 188) ∷ (0, 284) ∷ (1, 12) ∷ (0, 120) ∷ (1, 210) ∷ (0, 1) ∷ (0, 21) ∷ (1, 1) ∷ []) ≡ 0
 unfolding class_of opening_words number_after blocks next_number half split apply change_leaves with_leaves
     opening_leaves directory_puts placing_of prefix_of reply_in items_after overflows after_op change first_bits hash_of
     spread crowded
@@ -222,7 +214,7 @@ last_look_shows_applied_keeps :
     segment_faults last_look_shows_applied_setup
     (((1, Insert (key 1) 1) ∷ (2, Insert (key 32769) 2) ∷ (3, Insert (key 16385) 3) ∷ [])
     ∷ ((11, Insert (key 2) 11) ∷ []) ∷ [])
-    ((0, 142) ∷ (1, 24) ∷ (0, 13) ∷ (1, 45) ∷ (0, 75) ∷ (1, 6) ∷ (0, 1) ∷ (1, 17) ∷ []) ≡ 0
+    ((0, 185) ∷ (1, 31) ∷ (0, 16) ∷ (1, 59) ∷ (0, 97) ∷ (1, 6) ∷ (0, 1) ∷ (1, 21) ∷ []) ≡ 0
 unfolding class_of opening_words number_after blocks next_number half split apply change_leaves with_leaves
     opening_leaves directory_puts placing_of prefix_of reply_in items_after overflows after_op change first_bits hash_of
     spread crowded
@@ -233,7 +225,7 @@ root_exchange_in_round_two_keeps :
     segment_faults root_exchange_in_round_two_setup
     (((1, Insert (key 1) 1) ∷ (2, Insert (key 32769) 2) ∷ (3, Insert (key 16385) 3) ∷ [])
     ∷ ((11, Insert (key 2) 11) ∷ []) ∷ [])
-    ((0, 142) ∷ (1, 24) ∷ (0, 1) ∷ (1, 120) ∷ (0, 51) ∷ (1, 1) ∷ []) ≡ 0
+    ((0, 185) ∷ (1, 31) ∷ (0, 1) ∷ (1, 156) ∷ (0, 68) ∷ (1, 1) ∷ []) ≡ 0
 unfolding class_of opening_words number_after blocks next_number half split apply change_leaves with_leaves
     opening_leaves directory_puts placing_of prefix_of reply_in items_after overflows after_op change first_bits hash_of
     spread crowded
@@ -243,7 +235,7 @@ root_exchange_in_round_two_keeps = refl
 number_in_two_leaves_keeps :
     segment_faults number_in_two_leaves_setup
     (((1, Insert (key 1) 1) ∷ (2, Insert (key 1) 2) ∷ []) ∷ ((11, Insert (key 2) 11) ∷ []) ∷ [])
-    ((1, 8) ∷ (0, 148) ∷ (0, 1) ∷ (1, 17) ∷ []) ≡ 0
+    ((1, 11) ∷ (0, 194) ∷ (0, 1) ∷ (1, 21) ∷ []) ≡ 0
 unfolding class_of opening_words number_after blocks next_number half split apply change_leaves with_leaves
     opening_leaves directory_puts placing_of prefix_of reply_in items_after overflows after_op change first_bits hash_of
     spread crowded
@@ -254,7 +246,7 @@ two_buckets_in_one_change_keeps :
     segment_faults two_buckets_in_one_change_setup
     (((1, Insert (key 1) 1) ∷ (2, Insert (key 2) 2) ∷ []) ∷ ((11, Insert (key 32769) 11) ∷ (12, Insert (key 32770) 12)
     ∷ []) ∷ [])
-    ((1, 89) ∷ (0, 200) ∷ (0, 1) ∷ (1, 23) ∷ []) ≡ 0
+    ((1, 117) ∷ (0, 264) ∷ (0, 1) ∷ (1, 27) ∷ []) ≡ 0
 unfolding class_of opening_words number_after blocks next_number half split apply change_leaves with_leaves
     opening_leaves directory_puts placing_of prefix_of reply_in items_after overflows after_op change first_bits hash_of
     spread crowded

@@ -4,7 +4,7 @@ use Rattle.std.specs.Prelude.{Option, None, slice_get, slice_index_or, take}
 use Rattle.plain_map.specs.declared.keys.Key.{Key}
 use Rattle.plain_map.specs.declared.calls.Call.{Call}
 use Rattle.plain_map.specs.declared.calls.Reply.{Reply}
-use Rattle.plain_map.specs.declared.calls.Reply.TheVariants.{New, Old, NoRoom, Gone, Found, Absent}
+use Rattle.plain_map.specs.declared.calls.Reply.TheVariants.{New, Old, NoRoom, Gone, Found, Absent, Sum}
 use Rattle.plain_map.specs.declared.records.Record.{Record}
 use Rattle.plain_map.specs.declared.leaves.Leaf.{Leaf}
 use Rattle.plain_map.specs.History.{packet_of}
@@ -13,11 +13,12 @@ use Rattle.std.specs.List.{list_all, range_with_len}
 use Rattle.plain_map.specs.declared.rules.Rules.{Rules}
 use Rattle.std.specs.Prelude.{nat_lt}
 use Rattle.std.specs.Option.{option_map_or}
-use Rattle.plain_map.specs.declared.calls.Call.TheVariants.{Insert, Remove, Lookup}
+use Rattle.plain_map.specs.declared.calls.Call.TheVariants.{Insert, Remove, Lookup, Tally}
 use Rattle.plain_map.specs.declared.keys.Pair.{Pair}
-use Rattle.plain_map.specs.PlainObject.{insert_reply}
+use Rattle.plain_map.specs.PlainObject.{found_in, gone_from, insert_reply, new_session, sum_of}
+use Rattle.plain_map.specs.Keys.{pair_of}
 use Rattle.word_rows.specs.Shape.{Shape}
-use Rattle.bucket_states.specs.Items.{value_at, without, appended}
+use Rattle.bucket_states.specs.Items.{value_at, tallied_in, without, appended}
 use Rattle.plain_map.specs.History.{Placed, answered, pending, seat_of, number_of, call_in}
 use Rattle.core_model.specs.Setup.{rules_of, classmates}
 use Rattle.core_model.specs.Order.{is_next, is_call, effects_of}
@@ -29,7 +30,12 @@ use Rattle.core_model.specs.Closed.{closing_of, records_of, closed_leaves, close
 
 -- the key of the low port
 abbrev pub key : ℕ → Key
-key port = record { k0 = 0x0a0000010a000002; k1 = port * 2 ^ 24 + 0x5006 }
+key port = record { k0 = 0; k1 = 0x0a000001; k2 = 0; k3 = 0x0a000002; k4 = port * 2 ^ 24 + 0x5006 }
+
+-- two seats in turn, one step each, so many times, and then the rest
+abbrev pub in_turn : ℕ → List (ℕ × ℕ) → List (ℕ × ℕ)
+in_turn zero rest = rest
+in_turn (suc times) rest = (0, 1) ∷ (1, 1) ∷ in_turn times rest
 
 module _ (setup : Setup) (calls : List (List (ℕ × Call))) where
   -- the call that an idle seat begins
@@ -70,6 +76,7 @@ code NoRoom = (3, 0)
 code (Gone value) = (4, value)
 code (Found value) = (6, value)
 code Absent = (5, 0)
+code (Sum total) = (7, total)
 
 abbrev pub same_code : ℕ × ℕ → ℕ × ℕ → Bool
 same_code a b = (a.0 == b.0) && (a.1 == b.1)
@@ -80,14 +87,16 @@ plain_room rules pairs key = nat_lt (classmates rules key pairs) rules.items
 
 abbrev pub plain_reply : Rules → List Pair → Call → Reply
 plain_reply rules pairs (Insert key value) = insert_reply (value_at key pairs) (plain_room rules pairs key)
-plain_reply rules pairs (Remove key) = option_map_or Gone (value_at key pairs) Absent
-plain_reply rules pairs (Lookup key) = option_map_or Found (value_at key pairs) Absent
+plain_reply rules pairs (Remove key) = option_map_or gone_from (value_at key pairs) Absent
+plain_reply rules pairs (Lookup key) = option_map_or found_in (value_at key pairs) Absent
+plain_reply rules pairs (Tally key amount) = option_map_or (sum_of amount) (value_at key pairs) Absent
 
 abbrev pub plain_after : Rules → List Pair → Call → List Pair
 plain_after rules pairs (Insert key value) =
-    appended pairs (record { key = key; value = value }) (value_at key pairs) (plain_room rules pairs key)
+    appended pairs (pair_of (key, new_session value)) (value_at key pairs) (plain_room rules pairs key)
 plain_after rules pairs (Remove key) = without key pairs
 plain_after rules pairs (Lookup key) = pairs
+plain_after rules pairs (Tally key amount) = tallied_in key amount pairs
 
 -- whether an order is legal, by comparing each reply
 abbrev pub has_reply : Rules → List Pair → Placed → Bool
@@ -151,6 +160,7 @@ kind NoRoom = 3
 kind (Gone value) = 4
 kind (Found value) = 6
 kind Absent = 5
+kind (Sum total) = 7
 
 -- the same in short: steps, kinds of replies, order, how many leaves, depth, and failing checks
 abbrev pub brief : Setup → World → List ℕ × List ℕ × List ℕ × ℕ × ℕ × ℕ

@@ -51,8 +51,8 @@ third_look_shows_applied :
     brief third_look_shows_applied_setup
     (played third_look_shows_applied_setup
     (((1, Insert (key 2) 1) ∷ []) ∷ ((11, Insert (key 1) 11) ∷ (12, Remove (key 1)) ∷ []) ∷ [])
-    ((1, 49) ∷ (0, 54) ∷ (1, 9) ∷ (0, 44) ∷ (1, 48) ∷ (0, 17) ∷ (0, 1) ∷ (1, 1) ∷ []))
-    ≡ (116 ∷ 51 ∷ 56 ∷ [], 1 ∷ 1 ∷ 4 ∷ [], 11 ∷ 1 ∷ 12 ∷ [], 2, 1, 0)
+    ((1, 71) ∷ (0, 79) ∷ (1, 12) ∷ (0, 66) ∷ (1, 70) ∷ (0, 25) ∷ (0, 1) ∷ (1, 1) ∷ []))
+    ≡ (171 ∷ 73 ∷ 81 ∷ [], 1 ∷ 1 ∷ 4 ∷ [], 11 ∷ 1 ∷ 12 ∷ [], 2, 1, 0)
 unfolding class_of opening_words number_after blocks next_number half split apply change_leaves with_leaves
     opening_leaves directory_puts placing_of prefix_of reply_in items_after overflows after_op change first_bits hash_of
     spread
@@ -86,8 +86,8 @@ third_look_shows_frozen :
     (played third_look_shows_frozen_setup
     (((1, Insert (key 1) 1) ∷ (2, Remove (key 1)) ∷ (3, Insert (key 32769) 3) ∷ []) ∷ ((11, Insert (key 2) 11) ∷ [])
     ∷ [])
-    ((0, 88) ∷ (1, 48) ∷ (0, 9) ∷ (1, 38) ∷ (0, 42) ∷ (1, 14) ∷ (0, 1) ∷ (1, 60) ∷ []))
-    ≡ (45 ∷ 45 ∷ 50 ∷ 160 ∷ [], 1 ∷ 4 ∷ 1 ∷ 1 ∷ [], 1 ∷ 2 ∷ 3 ∷ 11 ∷ [], 2, 1, 0)
+    ((0, 116) ∷ (1, 65) ∷ (0, 12) ∷ (1, 52) ∷ (0, 56) ∷ (1, 18) ∷ (0, 1) ∷ (1, 78) ∷ []))
+    ≡ (59 ∷ 59 ∷ 67 ∷ 213 ∷ [], 1 ∷ 4 ∷ 1 ∷ 1 ∷ [], 1 ∷ 2 ∷ 3 ∷ 11 ∷ [], 2, 1, 0)
 unfolding class_of opening_words number_after blocks next_number half split apply change_leaves with_leaves
     opening_leaves directory_puts placing_of prefix_of reply_in items_after overflows after_op change first_bits hash_of
     spread
@@ -120,8 +120,8 @@ helpers_change_applies :
     brief helpers_change_applies_setup
     (played helpers_change_applies_setup
     (((1, Insert (key 2) 1) ∷ []) ∷ ((11, Insert (key 1) 11) ∷ (12, Insert (key 32769) 12) ∷ []) ∷ [])
-    ((1, 43) ∷ (0, 49) ∷ (1, 14) ∷ (0, 1) ∷ (1, 110) ∷ []))
-    ≡ (50 ∷ 117 ∷ 50 ∷ [], 1 ∷ 3 ∷ 1 ∷ [], 1 ∷ 11 ∷ 12 ∷ [], 2, 1, 0)
+    ((1, 57) ∷ (0, 66) ∷ (1, 18) ∷ (0, 1) ∷ (1, 145) ∷ []))
+    ≡ (67 ∷ 153 ∷ 67 ∷ [], 1 ∷ 3 ∷ 1 ∷ [], 1 ∷ 11 ∷ 12 ∷ [], 2, 1, 0)
 unfolding class_of opening_words number_after blocks next_number half split apply change_leaves with_leaves
     opening_leaves directory_puts placing_of prefix_of reply_in items_after overflows after_op change first_bits hash_of
     spread
@@ -154,8 +154,8 @@ second_round_finds_applied :
     brief second_round_finds_applied_setup
     (played second_round_finds_applied_setup
     (((1, Insert (key 1) 1) ∷ (2, Insert (key 32769) 2) ∷ []) ∷ ((11, Insert (key 2) 11) ∷ []) ∷ [])
-    ((0, 89) ∷ (1, 98) ∷ (0, 6) ∷ (0, 17) ∷ (1, 1) ∷ []))
-    ≡ (45 ∷ 67 ∷ 99 ∷ [], 1 ∷ 1 ∷ 3 ∷ [], 1 ∷ 2 ∷ 11 ∷ [], 3, 2, 0)
+    ((0, 117) ∷ (1, 127) ∷ (0, 6) ∷ (0, 21) ∷ (1, 1) ∷ []))
+    ≡ (59 ∷ 85 ∷ 128 ∷ [], 1 ∷ 1 ∷ 3 ∷ [], 1 ∷ 2 ∷ 11 ∷ [], 3, 2, 0)
 unfolding class_of opening_words number_after blocks next_number half split apply change_leaves with_leaves
     opening_leaves directory_puts placing_of prefix_of reply_in items_after overflows after_op change first_bits hash_of
     spread
@@ -189,8 +189,8 @@ second_root_leaves_round :
     (played second_root_leaves_round_setup
     (((1, Insert (key 1) 1) ∷ (2, Insert (key 2) 2) ∷ []) ∷ ((11, Insert (key 32769) 11) ∷ (12, Insert (key 49153) 12)
     ∷ (13, Insert (key 40961) 13) ∷ []) ∷ [])
-    ((1, 145) ∷ (0, 217) ∷ (1, 11) ∷ (0, 1) ∷ (1, 152) ∷ []))
-    ≡ (50 ∷ 168 ∷ 45 ∷ 128 ∷ 135 ∷ [], 1 ∷ 3 ∷ 1 ∷ 1 ∷ 1 ∷ [], 11 ∷ 1 ∷ 2 ∷ 12 ∷ 13 ∷ [], 6, 3, 0)
+    ((1, 188) ∷ (0, 285) ∷ (1, 11) ∷ (0, 1) ∷ (1, 195) ∷ []))
+    ≡ (67 ∷ 219 ∷ 59 ∷ 161 ∷ 174 ∷ [], 1 ∷ 3 ∷ 1 ∷ 1 ∷ 1 ∷ [], 11 ∷ 1 ∷ 2 ∷ 12 ∷ 13 ∷ [], 6, 3, 0)
 unfolding class_of opening_words number_after blocks next_number half split apply change_leaves with_leaves
     opening_leaves directory_puts placing_of prefix_of reply_in items_after overflows after_op change first_bits hash_of
     spread
@@ -224,8 +224,8 @@ second_root_exchange_happens :
     (played second_root_exchange_happens_setup
     (((1, Insert (key 1) 1) ∷ (2, Insert (key 2) 2) ∷ []) ∷ ((11, Insert (key 32769) 11) ∷ (12, Insert (key 49153) 12)
     ∷ (13, Insert (key 40961) 13) ∷ []) ∷ [])
-    ((1, 145) ∷ (0, 216) ∷ (1, 1) ∷ (0, 95) ∷ (0, 1) ∷ (1, 136) ∷ []))
-    ≡ (50 ∷ 262 ∷ 45 ∷ 102 ∷ 135 ∷ [], 1 ∷ 3 ∷ 1 ∷ 1 ∷ 1 ∷ [], 11 ∷ 1 ∷ 12 ∷ 2 ∷ 13 ∷ [], 6, 3, 0)
+    ((1, 188) ∷ (0, 284) ∷ (1, 1) ∷ (0, 121) ∷ (0, 1) ∷ (1, 175) ∷ []))
+    ≡ (67 ∷ 339 ∷ 59 ∷ 131 ∷ 174 ∷ [], 1 ∷ 3 ∷ 1 ∷ 1 ∷ 1 ∷ [], 11 ∷ 1 ∷ 12 ∷ 2 ∷ 13 ∷ [], 6, 3, 0)
 unfolding class_of opening_words number_after blocks next_number half split apply change_leaves with_leaves
     opening_leaves directory_puts placing_of prefix_of reply_in items_after overflows after_op change first_bits hash_of
     spread
@@ -259,8 +259,8 @@ two_lost_root_exchanges :
     (played two_lost_root_exchanges_setup
     (((1, Insert (key 1) 1) ∷ (2, Insert (key 2) 2) ∷ []) ∷ ((11, Insert (key 32769) 11) ∷ (12, Insert (key 49153) 12)
     ∷ (13, Insert (key 40961) 13) ∷ []) ∷ [])
-    ((1, 145) ∷ (0, 216) ∷ (1, 9) ∷ (0, 94) ∷ (1, 162) ∷ (0, 1) ∷ (0, 17) ∷ (1, 1) ∷ []))
-    ≡ (50 ∷ 278 ∷ 45 ∷ 102 ∷ 170 ∷ [], 1 ∷ 3 ∷ 1 ∷ 1 ∷ 1 ∷ [], 11 ∷ 1 ∷ 12 ∷ 2 ∷ 13 ∷ [], 6, 3, 0)
+    ((1, 188) ∷ (0, 284) ∷ (1, 12) ∷ (0, 120) ∷ (1, 210) ∷ (0, 1) ∷ (0, 21) ∷ (1, 1) ∷ []))
+    ≡ (67 ∷ 359 ∷ 59 ∷ 131 ∷ 221 ∷ [], 1 ∷ 3 ∷ 1 ∷ 1 ∷ 1 ∷ [], 11 ∷ 1 ∷ 12 ∷ 2 ∷ 13 ∷ [], 6, 3, 0)
 unfolding class_of opening_words number_after blocks next_number half split apply change_leaves with_leaves
     opening_leaves directory_puts placing_of prefix_of reply_in items_after overflows after_op change first_bits hash_of
     spread
@@ -294,8 +294,8 @@ last_look_shows_applied :
     (played last_look_shows_applied_setup
     (((1, Insert (key 1) 1) ∷ (2, Insert (key 32769) 2) ∷ (3, Insert (key 16385) 3) ∷ [])
     ∷ ((11, Insert (key 2) 11) ∷ []) ∷ [])
-    ((0, 142) ∷ (1, 24) ∷ (0, 13) ∷ (1, 45) ∷ (0, 75) ∷ (1, 6) ∷ (0, 1) ∷ (1, 17) ∷ []))
-    ≡ (45 ∷ 99 ∷ 87 ∷ 92 ∷ [], 1 ∷ 1 ∷ 1 ∷ 3 ∷ [], 1 ∷ 2 ∷ 3 ∷ 11 ∷ [], 3, 2, 0)
+    ((0, 185) ∷ (1, 31) ∷ (0, 16) ∷ (1, 59) ∷ (0, 97) ∷ (1, 6) ∷ (0, 1) ∷ (1, 21) ∷ []))
+    ≡ (59 ∷ 128 ∷ 112 ∷ 117 ∷ [], 1 ∷ 1 ∷ 1 ∷ 3 ∷ [], 1 ∷ 2 ∷ 3 ∷ 11 ∷ [], 3, 2, 0)
 unfolding class_of opening_words number_after blocks next_number half split apply change_leaves with_leaves
     opening_leaves directory_puts placing_of prefix_of reply_in items_after overflows after_op change first_bits hash_of
     spread
@@ -329,8 +329,8 @@ root_exchange_in_round_two :
     (played root_exchange_in_round_two_setup
     (((1, Insert (key 1) 1) ∷ (2, Insert (key 32769) 2) ∷ (3, Insert (key 16385) 3) ∷ [])
     ∷ ((11, Insert (key 2) 11) ∷ []) ∷ [])
-    ((0, 142) ∷ (1, 24) ∷ (0, 1) ∷ (1, 120) ∷ (0, 51) ∷ (1, 1) ∷ []))
-    ≡ (45 ∷ 99 ∷ 50 ∷ 145 ∷ [], 1 ∷ 1 ∷ 1 ∷ 3 ∷ [], 1 ∷ 2 ∷ 11 ∷ 3 ∷ [], 3, 2, 0)
+    ((0, 185) ∷ (1, 31) ∷ (0, 1) ∷ (1, 156) ∷ (0, 68) ∷ (1, 1) ∷ []))
+    ≡ (59 ∷ 128 ∷ 67 ∷ 188 ∷ [], 1 ∷ 1 ∷ 1 ∷ 3 ∷ [], 1 ∷ 2 ∷ 11 ∷ 3 ∷ [], 3, 2, 0)
 unfolding class_of opening_words number_after blocks next_number half split apply change_leaves with_leaves
     opening_leaves directory_puts placing_of prefix_of reply_in items_after overflows after_op change first_bits hash_of
     spread
@@ -363,8 +363,8 @@ number_in_two_leaves :
     brief number_in_two_leaves_setup
     (played number_in_two_leaves_setup
     (((1, Insert (key 1) 1) ∷ (2, Insert (key 1) 2) ∷ []) ∷ ((11, Insert (key 2) 11) ∷ []) ∷ [])
-    ((1, 8) ∷ (0, 148) ∷ (0, 1) ∷ (1, 17) ∷ []))
-    ≡ (50 ∷ 99 ∷ 25 ∷ [], 1 ∷ 2 ∷ 3 ∷ [], 1 ∷ 2 ∷ 11 ∷ [], 3, 2, 0)
+    ((1, 11) ∷ (0, 194) ∷ (0, 1) ∷ (1, 21) ∷ []))
+    ≡ (67 ∷ 128 ∷ 32 ∷ [], 1 ∷ 2 ∷ 3 ∷ [], 1 ∷ 2 ∷ 11 ∷ [], 3, 2, 0)
 unfolding class_of opening_words number_after blocks next_number half split apply change_leaves with_leaves
     opening_leaves directory_puts placing_of prefix_of reply_in items_after overflows after_op change first_bits hash_of
     spread
@@ -398,8 +398,8 @@ two_buckets_in_one_change :
     (played two_buckets_in_one_change_setup
     (((1, Insert (key 1) 1) ∷ (2, Insert (key 2) 2) ∷ []) ∷ ((11, Insert (key 32769) 11) ∷ (12, Insert (key 32770) 12)
     ∷ []) ∷ [])
-    ((1, 89) ∷ (0, 200) ∷ (0, 1) ∷ (1, 23) ∷ []))
-    ≡ (50 ∷ 151 ∷ 45 ∷ 67 ∷ [], 1 ∷ 3 ∷ 1 ∷ 3 ∷ [], 11 ∷ 1 ∷ 2 ∷ 12 ∷ [], 4, 2, 0)
+    ((1, 117) ∷ (0, 264) ∷ (0, 1) ∷ (1, 27) ∷ []))
+    ≡ (67 ∷ 198 ∷ 59 ∷ 85 ∷ [], 1 ∷ 3 ∷ 1 ∷ 3 ∷ [], 11 ∷ 1 ∷ 2 ∷ 12 ∷ [], 4, 2, 0)
 unfolding class_of opening_words number_after blocks next_number half split apply change_leaves with_leaves
     opening_leaves directory_puts placing_of prefix_of reply_in items_after overflows after_op change first_bits hash_of
     spread

@@ -48,7 +48,7 @@ to_end seat = record { seat = seat; slots = None }
 
 -- without a schedule the one seat goes in turn, to the end of its call
 one_call_to_the_end :
-    play_told (play_of one_insert_setup (((1, Insert (key 1) 1) ∷ []) ∷ []) [] []) ≡ (45, 1 ∷ [], 0, 0)
+    play_told (play_of one_insert_setup (((1, Insert (key 1) 1) ∷ []) ∷ []) [] []) ≡ (67, 1 ∷ [], 0, 0)
 unfolding class_of opening_words number_after blocks next_number half split apply change_leaves with_leaves
     opening_leaves directory_puts play_of prefix_of reply_in items_after overflows after_op change first_bits hash_of
     spread crowded
@@ -65,20 +65,20 @@ one_call_stopped = refl
 
 -- stopped as its first call is answered: the next one, which would be refused, is not begun
 next_call_is_not_begun :
-    play_told (play_of one_insert_setup (((1, Insert (key 1) 1) ∷ (2, Insert (key 2) 2) ∷ []) ∷ []) (Some 45 ∷ [])
+    play_told (play_of one_insert_setup (((1, Insert (key 1) 1) ∷ (2, Insert (key 2) 2) ∷ []) ∷ []) (Some 67 ∷ [])
     (to_end 0 ∷ []))
-    ≡ (45, 1 ∷ [], 0, 1)
+    ≡ (67, 1 ∷ [], 0, 1)
 unfolding class_of opening_words number_after blocks next_number half split apply change_leaves with_leaves
     opening_leaves directory_puts play_of prefix_of reply_in items_after overflows after_op change first_bits hash_of
     spread crowded
 next_call_is_not_begun = refl
 
--- rows for one update: two further ones are refused, and the lookup begins in the same slot, the 46th
+-- rows for one update: two further ones are refused, and the lookup begins in the same slot, the 68th
 refused_in_one_slot :
     play_told (play_of one_insert_setup
     (((1, Insert (key 1) 1) ∷ (2, Insert (key 2) 2) ∷ (3, Remove (key 2)) ∷ (4, Lookup (key 1)) ∷ []) ∷ [])
-    (Some 46 ∷ [])
-    (segment 0 46 ∷ [])) ≡ (48, 1 ∷ [], 1, 0)
+    (Some 68 ∷ [])
+    (segment 0 68 ∷ [])) ≡ (70, 1 ∷ [], 1, 0)
 unfolding class_of opening_words number_after blocks next_number half split apply change_leaves with_leaves
     opening_leaves directory_puts play_of prefix_of reply_in items_after overflows after_op change first_bits hash_of
     spread crowded

@@ -22,7 +22,7 @@ use Rattle.core_model.specs.Opening.{opening_leaves}
 use Rattle.core_model.specs.Worlds.{opening_words}
 use Rattle.core_model.specs.Stores.{directory_puts}
 use Rattle.core_model.specs.Order.{placing_of}
-use Rattle.core_model.proofs.Plays.{key, played, summary}
+use Rattle.core_model.proofs.Plays.{in_turn, key, played, summary}
 
 abbrev pub one_insert_settings : Settings
 one_insert_settings = record {
@@ -51,9 +51,9 @@ one_insert :
     summary one_insert_setup
     (played one_insert_setup
     (((1, Insert (key 1) 1) ∷ []) ∷ [])
-    ((0, 45) ∷ []))
+    ((0, 67) ∷ []))
     ≡ (
-      (1, New, 45, 0 ∷ 0 ∷ []) ∷ [],
+      (1, New, 67, 0 ∷ 0 ∷ []) ∷ [],
       1 ∷ [],
       (0, 1) ∷ (1, 1) ∷ [],
       1,
@@ -91,9 +91,9 @@ third_insert_splits :
     summary third_insert_splits_setup
     (played third_insert_splits_setup
     (((1, Insert (key 1) 1) ∷ (2, Insert (key 16384) 2) ∷ (3, Insert (key 32768) 3) ∷ []) ∷ [])
-    ((0, 191) ∷ []))
+    ((0, 284) ∷ []))
     ≡ (
-      (1, New, 45, 0 ∷ 0 ∷ []) ∷ (2, New, 45, 1 ∷ 0 ∷ []) ∷ (3, New, 101, 2 ∷ 0 ∷ []) ∷ [],
+      (1, New, 67, 0 ∷ 0 ∷ []) ∷ (2, New, 67, 1 ∷ 0 ∷ []) ∷ (3, New, 150, 2 ∷ 0 ∷ []) ∷ [],
       1 ∷ 2 ∷ 3 ∷ [],
       (0, 1) ∷ (1, 1) ∷ [],
       1,
@@ -131,9 +131,9 @@ three_of_one_class :
     summary three_of_one_class_setup
     (played three_of_one_class_setup
     (((1, Insert (key 1) 1) ∷ (2, Insert (key 2) 2) ∷ (3, Insert (key 3) 3) ∷ []) ∷ [])
-    ((0, 207) ∷ []))
+    ((0, 308) ∷ []))
     ≡ (
-      (1, New, 45, 0 ∷ 0 ∷ []) ∷ (2, New, 45, 1 ∷ 0 ∷ []) ∷ (3, NoRoom, 117, 2 ∷ 0 ∷ []) ∷ [],
+      (1, New, 67, 0 ∷ 0 ∷ []) ∷ (2, New, 67, 1 ∷ 0 ∷ []) ∷ (3, NoRoom, 174, 2 ∷ 0 ∷ []) ∷ [],
       1 ∷ 2 ∷ 3 ∷ [],
       (0, 2) ∷ (1, 2) ∷ (1, 1) ∷ [],
       2,
@@ -171,9 +171,9 @@ other_seat_answers :
     summary other_seat_answers_setup
     (played other_seat_answers_setup
     (((1, Insert (key 1) 1) ∷ []) ∷ ((2, Insert (key 2) 2) ∷ []) ∷ [])
-    ((0, 8) ∷ (1, 56) ∷ (0, 20) ∷ []))
+    ((0, 11) ∷ (1, 81) ∷ (0, 28) ∷ []))
     ≡ (
-      (1, New, 28, 0 ∷ 0 ∷ []) ∷ (2, New, 56, 0 ∷ 0 ∷ []) ∷ [],
+      (1, New, 39, 0 ∷ 0 ∷ []) ∷ (2, New, 81, 0 ∷ 0 ∷ []) ∷ [],
       1 ∷ 2 ∷ [],
       (0, 1) ∷ (1, 1) ∷ [],
       1,
@@ -212,9 +212,9 @@ lookup_of_a_split_bucket :
     (played lookup_of_a_split_bucket_setup
     (((1, Insert (key 1) 1) ∷ (3, Lookup (key 32768)) ∷ []) ∷ ((2, Insert (key 16384) 2) ∷ (4, Insert (key 32768) 4)
     ∷ []) ∷ [])
-    ((0, 51) ∷ (1, 56) ∷ (0, 5) ∷ (1, 124) ∷ (0, 9) ∷ []))
+    ((0, 73) ∷ (1, 81) ∷ (0, 5) ∷ (1, 179) ∷ (0, 17) ∷ []))
     ≡ (
-      (1, New, 51, 0 ∷ 0 ∷ []) ∷ (3, Absent, 14, 1 ∷ 1 ∷ []) ∷ (2, New, 56, 1 ∷ 0 ∷ []) ∷ (4, New, 124, 1 ∷ 1 ∷ [])
+      (1, New, 73, 0 ∷ 0 ∷ []) ∷ (3, Absent, 22, 1 ∷ 1 ∷ []) ∷ (2, New, 81, 1 ∷ 0 ∷ []) ∷ (4, New, 179, 1 ∷ 1 ∷ [])
           ∷ [],
       1 ∷ 2 ∷ 3 ∷ 4 ∷ [],
       (0, 1) ∷ (1, 1) ∷ [],
@@ -253,9 +253,9 @@ lookup_after_insert :
     summary lookup_after_insert_setup
     (played lookup_after_insert_setup
     (((1, Lookup (key 1)) ∷ []) ∷ ((2, Insert (key 1) 2) ∷ []) ∷ [])
-    ((1, 51) ∷ (0, 11) ∷ []))
+    ((1, 73) ∷ (0, 15) ∷ []))
     ≡ (
-      (1, (Found 2), 11, 0 ∷ 1 ∷ []) ∷ (2, New, 51, 0 ∷ 0 ∷ []) ∷ [],
+      (1, (Found 2), 15, 0 ∷ 1 ∷ []) ∷ (2, New, 73, 0 ∷ 0 ∷ []) ∷ [],
       2 ∷ 1 ∷ [],
       (0, 1) ∷ (1, 1) ∷ [],
       1,
@@ -294,10 +294,10 @@ remove_makes_room :
     (played remove_makes_room_setup
     (((1, Insert (key 1) 1) ∷ (2, Insert (key 2) 2) ∷ (3, Insert (key 3) 3) ∷ (4, Remove (key 1))
     ∷ (5, Insert (key 3) 5) ∷ []) ∷ [])
-    ((0, 297) ∷ []))
+    ((0, 442) ∷ []))
     ≡ (
-      (1, New, 45, 0 ∷ 0 ∷ []) ∷ (2, New, 45, 1 ∷ 0 ∷ []) ∷ (3, NoRoom, 117, 2 ∷ 0 ∷ []) ∷ (4, (Gone 1), 45, 3 ∷ 0 ∷ [])
-          ∷ (5, New, 45, 4 ∷ 0 ∷ []) ∷ [],
+      (1, New, 67, 0 ∷ 0 ∷ []) ∷ (2, New, 67, 1 ∷ 0 ∷ []) ∷ (3, NoRoom, 174, 2 ∷ 0 ∷ []) ∷ (4, (Gone 1), 67, 3 ∷ 0 ∷ [])
+          ∷ (5, New, 67, 4 ∷ 0 ∷ []) ∷ [],
       1 ∷ 2 ∷ 3 ∷ 4 ∷ 5 ∷ [],
       (0, 2) ∷ (1, 2) ∷ (1, 1) ∷ [],
       2,
@@ -335,17 +335,9 @@ seats_in_turn :
     summary seats_in_turn_setup
     (played seats_in_turn_setup
     (((1, Insert (key 1) 1) ∷ []) ∷ ((2, Insert (key 2) 2) ∷ []) ∷ [])
-    ((0, 1) ∷ (1, 1) ∷ (0, 1) ∷ (1, 1) ∷ (0, 1) ∷ (1, 1) ∷ (0, 1) ∷ (1, 1) ∷ (0, 1) ∷ (1, 1) ∷ (0, 1) ∷ (1, 1) ∷ (0, 1)
-    ∷ (1, 1) ∷ (0, 1) ∷ (1, 1) ∷ (0, 1) ∷ (1, 1) ∷ (0, 1) ∷ (1, 1) ∷ (0, 1) ∷ (1, 1) ∷ (0, 1) ∷ (1, 1) ∷ (0, 1) ∷ (1, 1)
-    ∷ (0, 1) ∷ (1, 1) ∷ (0, 1) ∷ (1, 1) ∷ (0, 1) ∷ (1, 1) ∷ (0, 1) ∷ (1, 1) ∷ (0, 1) ∷ (1, 1) ∷ (0, 1) ∷ (1, 1) ∷ (0, 1)
-    ∷ (1, 1) ∷ (0, 1) ∷ (1, 1) ∷ (0, 1) ∷ (1, 1) ∷ (0, 1) ∷ (1, 1) ∷ (0, 1) ∷ (1, 1) ∷ (0, 1) ∷ (1, 1) ∷ (0, 1) ∷ (1, 1)
-    ∷ (0, 1) ∷ (1, 1) ∷ (0, 1) ∷ (1, 1) ∷ (0, 1) ∷ (1, 1) ∷ (0, 1) ∷ (1, 1) ∷ (0, 1) ∷ (1, 1) ∷ (0, 1) ∷ (1, 1) ∷ (0, 1)
-    ∷ (1, 1) ∷ (0, 1) ∷ (1, 1) ∷ (0, 1) ∷ (1, 1) ∷ (0, 1) ∷ (1, 1) ∷ (0, 1) ∷ (1, 1) ∷ (0, 1) ∷ (1, 1) ∷ (0, 1) ∷ (1, 1)
-    ∷ (0, 1) ∷ (1, 1) ∷ (0, 1) ∷ (1, 1) ∷ (0, 1) ∷ (1, 1) ∷ (0, 1) ∷ (1, 1) ∷ (0, 1) ∷ (1, 1) ∷ (0, 1) ∷ (1, 1) ∷ (0, 1)
-    ∷ (1, 1) ∷ (0, 1) ∷ (1, 1) ∷ (0, 1) ∷ (1, 1) ∷ (0, 1) ∷ (1, 1) ∷ (0, 1) ∷ (1, 1) ∷ (0, 1) ∷ (1, 1) ∷ (0, 1) ∷ (1, 1)
-    ∷ (0, 1) ∷ (1, 1) ∷ (0, 1) ∷ (1, 1) ∷ (0, 1) ∷ (1, 1) ∷ (0, 1) ∷ (1, 1) ∷ (1, 16) ∷ []))
+    (in_turn 81 ((1, 24) ∷ [])))
     ≡ (
-      (1, New, 56, 0 ∷ 0 ∷ []) ∷ (2, New, 72, 0 ∷ 0 ∷ []) ∷ [],
+      (1, New, 81, 0 ∷ 0 ∷ []) ∷ (2, New, 105, 0 ∷ 0 ∷ []) ∷ [],
       1 ∷ 2 ∷ [],
       (0, 1) ∷ (1, 1) ∷ [],
       1,
@@ -383,9 +375,9 @@ other_seat_answers_a_stopped_one :
     summary other_seat_answers_a_stopped_one_setup
     (played other_seat_answers_a_stopped_one_setup
     (((1, Insert (key 1) 1) ∷ []) ∷ ((2, Insert (key 2) 2) ∷ []) ∷ [])
-    ((0, 8) ∷ (1, 56) ∷ []))
+    ((0, 11) ∷ (1, 81) ∷ []))
     ≡ (
-      (2, New, 56, 0 ∷ 0 ∷ []) ∷ [],
+      (2, New, 81, 0 ∷ 0 ∷ []) ∷ [],
       1 ∷ 2 ∷ [],
       (0, 1) ∷ (1, 1) ∷ [],
       1,
@@ -423,9 +415,9 @@ no_depth_to_split :
     summary no_depth_to_split_setup
     (played no_depth_to_split_setup
     (((1, Insert (key 1) 1) ∷ (2, Insert (key 2) 2) ∷ []) ∷ [])
-    ((0, 78) ∷ []))
+    ((0, 106) ∷ []))
     ≡ (
-      (1, New, 39, 0 ∷ 0 ∷ []) ∷ (2, NoRoom, 39, 1 ∷ 0 ∷ []) ∷ [],
+      (1, New, 53, 0 ∷ 0 ∷ []) ∷ (2, NoRoom, 53, 1 ∷ 0 ∷ []) ∷ [],
       1 ∷ 2 ∷ [],
       (0, 0) ∷ [],
       0,
@@ -463,9 +455,9 @@ lost_exchange_was_helped :
     summary lost_exchange_was_helped_setup
     (played lost_exchange_was_helped_setup
     (((1, Insert (key 1) 1) ∷ []) ∷ ((2, Insert (key 2) 2) ∷ []) ∷ [])
-    ((0, 49) ∷ (1, 56) ∷ (0, 18) ∷ []))
+    ((0, 71) ∷ (1, 81) ∷ (0, 26) ∷ []))
     ≡ (
-      (1, New, 67, 0 ∷ 0 ∷ []) ∷ (2, New, 56, 0 ∷ 0 ∷ []) ∷ [],
+      (1, New, 97, 0 ∷ 0 ∷ []) ∷ (2, New, 81, 0 ∷ 0 ∷ []) ∷ [],
       1 ∷ 2 ∷ [],
       (0, 1) ∷ (1, 1) ∷ [],
       1,
@@ -502,7 +494,8 @@ opening_of_three_setup = record {
 opening_of_three :
     map {B = ℕ × ℕ × ℕ} (λ leaf. (leaf.bucket.prefix, leaf.bucket.depth, length leaf.bucket.items))
     (opening_leaves (rules_of opening_of_three_setup) 1 0
-    (record { key = key 1; value = 1 } ∷ record { key = key 16384; value = 2 } ∷ record { key = key 32768; value = 3 }
+    (record { key = key 1; value = 1; bytes = 0 } ∷ record { key = key 16384; value = 2; bytes = 0 }
+    ∷ record { key = key 32768; value = 3; bytes = 0 }
     ∷ []))
     ≡ (0, 1, 2) ∷ (1, 1, 1) ∷ []
 unfolding class_of opening_words number_after blocks next_number half split apply change_leaves with_leaves
@@ -533,11 +526,13 @@ words_at_opening_setup = record {
 }
 
 -- the words of the layout's example
-words_at_opening : (played words_at_opening_setup (((1, Insert (key 1) 1) ∷ []) ∷ []) ([])).words ≡ 0 ∷ 0 ∷ 0 ∷ 0 ∷ 1
-    ∷ 0 ∷ 0 ∷ 0 ∷ 0 ∷ 0 ∷ 0 ∷ 0 ∷ 0 ∷ 1 ∷ 0 ∷ 0 ∷ 0 ∷ 0 ∷ 0 ∷ 0 ∷ 0 ∷ 0 ∷ 0 ∷ 0 ∷ 0 ∷ 1 ∷ 1 ∷ 0 ∷ 0 ∷ 0 ∷ 0 ∷ 0 ∷ 0 ∷ 0
-    ∷ 0 ∷ 0 ∷ 0 ∷ 0 ∷ 0 ∷ 0 ∷ 0 ∷ 0 ∷ 0 ∷ 0 ∷ 0 ∷ 0 ∷ 0 ∷ 0 ∷ 0 ∷ 0 ∷ 0 ∷ 0 ∷ 0 ∷ 0 ∷ 0 ∷ 0 ∷ 0 ∷ 0 ∷ 0 ∷ 0 ∷ 0 ∷ 0 ∷ 0
-    ∷ 0 ∷ 0 ∷ 0 ∷ 0 ∷ 0 ∷ 0 ∷ 0 ∷ 0 ∷ 0 ∷ 0 ∷ 0 ∷ 0 ∷ 0 ∷ 0 ∷ 0 ∷ 0 ∷ 0 ∷ 0 ∷ 0 ∷ 0 ∷ 0 ∷ 0 ∷ 0 ∷ 0 ∷ 0 ∷ 0 ∷ 0 ∷ 1 ∷ 0
-    ∷ 0 ∷ 1 ∷ 0 ∷ 0 ∷ 0 ∷ 0 ∷ []
+words_at_opening : (played words_at_opening_setup (((1, Insert (key 1) 1) ∷ []) ∷ []) ([])).words ≡
+    0 ∷ 0 ∷ 0 ∷ 0 ∷ 1 ∷ 0 ∷ 0 ∷ 0 ∷ 0 ∷ 0 ∷ 0 ∷ 0 ∷ 0 ∷ 0 ∷ 0 ∷ 0 ∷ 1 ∷ 0 ∷ 0 ∷ 0 ∷ 0 ∷ 0 ∷ 0 ∷ 0 ∷ 0 ∷ 0 ∷ 0 ∷ 0 ∷
+    0 ∷ 0 ∷ 0 ∷ 0 ∷ 0 ∷ 0 ∷ 0 ∷ 0 ∷ 1 ∷ 1 ∷ 0 ∷ 0 ∷ 0 ∷ 0 ∷ 0 ∷ 0 ∷ 0 ∷ 0 ∷ 0 ∷ 0 ∷ 0 ∷ 0 ∷ 0 ∷ 0 ∷ 0 ∷ 0 ∷ 0 ∷ 0 ∷
+    0 ∷ 0 ∷ 0 ∷ 0 ∷ 0 ∷ 0 ∷ 0 ∷ 0 ∷ 0 ∷ 0 ∷ 0 ∷ 0 ∷ 0 ∷ 0 ∷ 0 ∷ 0 ∷ 0 ∷ 0 ∷ 0 ∷ 0 ∷ 0 ∷ 0 ∷ 0 ∷ 0 ∷ 0 ∷ 0 ∷ 0 ∷ 0 ∷
+    0 ∷ 0 ∷ 0 ∷ 0 ∷ 0 ∷ 0 ∷ 0 ∷ 0 ∷ 0 ∷ 0 ∷ 0 ∷ 0 ∷ 0 ∷ 0 ∷ 0 ∷ 0 ∷ 0 ∷ 0 ∷ 0 ∷ 0 ∷ 0 ∷ 0 ∷ 0 ∷ 0 ∷ 0 ∷ 0 ∷ 0 ∷ 0 ∷
+    0 ∷ 0 ∷ 0 ∷ 0 ∷ 0 ∷ 0 ∷ 0 ∷ 0 ∷ 0 ∷ 0 ∷ 0 ∷ 0 ∷ 0 ∷ 0 ∷ 0 ∷ 0 ∷ 0 ∷ 0 ∷ 0 ∷ 0 ∷ 0 ∷ 0 ∷ 0 ∷ 0 ∷ 0 ∷ 0 ∷ 0 ∷ 0 ∷
+    0 ∷ 1 ∷ 0 ∷ 0 ∷ 1 ∷ 0 ∷ 0 ∷ 0 ∷ 0 ∷ []
 unfolding class_of opening_words number_after blocks next_number half split apply change_leaves with_leaves
     opening_leaves directory_puts placing_of prefix_of reply_in items_after overflows after_op change first_bits hash_of
     spread
@@ -566,12 +561,14 @@ words_after_insert_setup = record {
 }
 
 -- the words of the layout's example
-words_after_insert : (played words_after_insert_setup (((1, Insert (key 1) 1) ∷ []) ∷ []) ((0, 45) ∷ [])).words ≡ 0 ∷ 1
-    ∷ 1 ∷ 2 ∷ 1 ∷ 0 ∷ 0 ∷ 1 ∷ 1 ∷ 0x0a0000010a000002 ∷ 0x0000000001005006 ∷ 1 ∷ 0 ∷ 1 ∷ 0 ∷ 0 ∷ 0 ∷ 0 ∷ 0 ∷ 0 ∷ 0 ∷ 0
-    ∷ 0 ∷ 0 ∷ 0 ∷ 1 ∷ 1 ∷ 0 ∷ 0 ∷ 0 ∷ 0 ∷ 0 ∷ 0 ∷ 0 ∷ 0 ∷ 0 ∷ 0 ∷ 0 ∷ 0 ∷ 1 ∷ 1 ∷ 0 ∷ 1 ∷ 0x0a0000010a000002
-    ∷ 0x0000000001005006 ∷ 1 ∷ 0 ∷ 0 ∷ 0 ∷ 1 ∷ 1 ∷ 0 ∷ 0 ∷ 0 ∷ 0 ∷ 0 ∷ 0 ∷ 0 ∷ 0 ∷ 0 ∷ 0 ∷ 0 ∷ 0 ∷ 0 ∷ 0 ∷ 0 ∷ 0 ∷ 0 ∷ 0
-    ∷ 0 ∷ 0 ∷ 0 ∷ 0 ∷ 0 ∷ 0 ∷ 0 ∷ 0 ∷ 0 ∷ 0 ∷ 0 ∷ 0 ∷ 0 ∷ 0 ∷ 0 ∷ 0 ∷ 0 ∷ 0 ∷ 0 ∷ 0 ∷ 0 ∷ 1 ∷ 0 ∷ 0 ∷ 1 ∷ 0 ∷ 0 ∷ 0 ∷ 0
-    ∷ []
+words_after_insert : (played words_after_insert_setup (((1, Insert (key 1) 1) ∷ []) ∷ []) ((0, 67) ∷ [])).words ≡
+    0 ∷ 1 ∷ 1 ∷ 2 ∷ 1 ∷ 0 ∷ 0 ∷ 1 ∷ 1 ∷ 0 ∷ 0x0a000001 ∷ 0 ∷ 0x0a000002 ∷ 0x0000000001005006 ∷ 1 ∷ 0 ∷ 1 ∷ 0 ∷ 0 ∷
+    0 ∷ 0 ∷ 0 ∷ 0 ∷ 0 ∷ 0 ∷ 0 ∷ 0 ∷ 0 ∷ 0 ∷ 0 ∷ 0 ∷ 0 ∷ 0 ∷ 0 ∷ 0 ∷ 0 ∷ 1 ∷ 1 ∷ 0 ∷ 0 ∷ 0 ∷ 0 ∷ 0 ∷ 0 ∷ 0 ∷ 0 ∷ 0 ∷
+    0 ∷ 0 ∷ 0 ∷ 0 ∷ 0 ∷ 0 ∷ 0 ∷ 0 ∷ 0 ∷ 0 ∷ 0 ∷ 1 ∷ 1 ∷ 0 ∷ 1 ∷ 0 ∷ 0x0a000001 ∷ 0 ∷ 0x0a000002 ∷
+    0x0000000001005006 ∷ 1 ∷ 0 ∷ 0 ∷ 0 ∷ 0 ∷ 0 ∷ 0 ∷ 0 ∷ 0 ∷ 1 ∷ 1 ∷ 0 ∷ 0 ∷ 0 ∷ 0 ∷ 0 ∷ 0 ∷ 0 ∷ 0 ∷ 0 ∷ 0 ∷ 0 ∷ 0 ∷
+    0 ∷ 0 ∷ 0 ∷ 0 ∷ 0 ∷ 0 ∷ 0 ∷ 0 ∷ 0 ∷ 0 ∷ 0 ∷ 0 ∷ 0 ∷ 0 ∷ 0 ∷ 0 ∷ 0 ∷ 0 ∷ 0 ∷ 0 ∷ 0 ∷ 0 ∷ 0 ∷ 0 ∷ 0 ∷ 0 ∷ 0 ∷ 0 ∷
+    0 ∷ 0 ∷ 0 ∷ 0 ∷ 0 ∷ 0 ∷ 0 ∷ 0 ∷ 0 ∷ 0 ∷ 0 ∷ 0 ∷ 0 ∷ 0 ∷ 0 ∷ 0 ∷ 0 ∷ 0 ∷ 0 ∷ 0 ∷ 0 ∷ 0 ∷ 0 ∷ 1 ∷ 0 ∷ 0 ∷ 1 ∷ 0 ∷
+    0 ∷ 0 ∷ 0 ∷ []
 unfolding class_of opening_words number_after blocks next_number half split apply change_leaves with_leaves
     opening_leaves directory_puts placing_of prefix_of reply_in items_after overflows after_op change first_bits hash_of
     spread

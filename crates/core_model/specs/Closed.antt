@@ -7,12 +7,12 @@ use Rattle.plain_map.specs.declared.rules.Rules.{Rules}
 use Rattle.plain_map.specs.declared.records.Record.{Record}
 use Rattle.plain_map.specs.declared.records.Pending.{Pending}
 use Rattle.plain_map.specs.declared.leaves.Leaf.{Leaf}
-use Rattle.plain_map.specs.PlainObject.{Sessions, pairs_of, map_after}
+use Rattle.plain_map.specs.PlainObject.{Sessions, pairs_of, brought}
+use Rattle.plain_map.specs.Keys.{held_in}
 use Rattle.plain_map.specs.History.{Placed, sessions_after}
 use Rattle.std.specs.FinMap.{empty}
 use Rattle.word_rows.specs.Shape.{Shape}
 use Rattle.bucket_states.specs.Items.{prefix_of}
-use Rattle.core_model.specs.Opening.{insert_of}
 use Rattle.core_model.specs.SeatStates.{Stand, Idle, InFlight, pending_of}
 use Rattle.core_model.specs.Worlds.{World}
 use Rattle.core_model.specs.Reading.{each_once_first, directory_at, root_of, row_of, bucket_at}
@@ -69,7 +69,7 @@ greatest_depth leaves = fold (λ depth leaf. max depth leaf.depth) 0 leaves
 
 -- what is held after these pairs came, one after the other
 abbrev pub sessions_with : Rules → List Pair → Sessions
-sessions_with rules first = fold (λ sessions pair. map_after rules sessions (insert_of pair)) empty first
+sessions_with rules first = fold (λ sessions pair. brought rules sessions pair.key (held_in pair)) empty first
 
 -- how many keys that are held have this prefix
 abbrev pub keys_with_prefix : Rules → (depth prefix : ℕ) → Sessions → ℕ

@@ -9,7 +9,7 @@ use Rattle.step_counts.specs.declared.rows.SeatRows.{SeatRows}
 use Rattle.step_counts.specs.declared.settings.Settings.{Settings}
 use Rattle.step_counts.specs.StepCounts.{new_leaves, automatic_rows_of}
 use Rattle.plain_map.specs.declared.calls.Call.{Call}
-use Rattle.plain_map.specs.declared.calls.Call.TheVariants.{Insert, Remove, Lookup}
+use Rattle.plain_map.specs.declared.calls.Call.TheVariants.{Insert, Remove, Lookup, Tally}
 use Rattle.plain_map.specs.declared.keys.Key.{Key}
 use Rattle.plain_map.specs.declared.rules.Rules.{Rules}
 use Rattle.bucket_states.specs.Items.{prefix_of, same_key}
@@ -50,6 +50,7 @@ abbrev pub inserted_by : Call → List Key
 inserted_by (Insert key value) = key ∷ []
 inserted_by (Remove key) = []
 inserted_by (Lookup key) = []
+inserted_by (Tally key amount) = []
 
 -- the keys of the inserts that these events give
 abbrev pub inserted_in : List Event → List Key

@@ -6,7 +6,7 @@ use Rattle.plain_map.specs.declared.keys.Pair.{Pair}
 use Rattle.plain_map.specs.declared.rules.Rules.{Rules}
 use Rattle.plain_map.specs.declared.calls.Call.{Call}
 use Rattle.plain_map.specs.declared.calls.Call.TheVariants.{Insert}
-use Rattle.bucket_states.specs.Items.{items_after}
+use Rattle.bucket_states.specs.Items.{items_with}
 use Rattle.bucket_states.specs.States.{empty_state}
 use Rattle.core_model.specs.Directories.{DirectoryState}
 use Rattle.core_model.specs.Leaves.{NewLeaf, at_leaf, split_for}
@@ -21,7 +21,7 @@ empty_leaf seats depth prefix =
 abbrev pub empty_leaves : (seats depth : ℕ) → List NewLeaf
 empty_leaves seats depth = map (empty_leaf seats depth) (range_with_len 0 (2 ^ depth))
 
--- the call that brings a pair
+-- a call that finds room where the pair does
 abbrev pub insert_of : Pair → Call
 insert_of pair = Insert pair.key pair.value
 
@@ -31,8 +31,7 @@ put_in rules pair leaves =
     at_leaf rules pair.key
     (λ leaf. record leaf {
       bucket = record leaf.bucket {
-        items = items_after rules leaf.bucket.items
-            (insert_of pair);
+        items = items_with rules leaf.bucket.items pair;
       };
     } ∷ [])
     leaves

@@ -4,7 +4,7 @@ use Rattle.plain_map.specs.declared.keys.Pair.{Pair}
 use Rattle.plain_map.specs.declared.rules.Rules.{Rules}
 use Rattle.plain_map.specs.declared.leaves.Leaf.{Leaf}
 use Rattle.plain_map.specs.PlainObject.{InRange}
-use Rattle.plain_map.specs.Updates.{value_limit}
+use Rattle.plain_map.specs.Updates.{IsSmallPair}
 use Rattle.bucket_states.specs.Parts.{HasDistinctKeys, HoldsPart}
 use Rattle.bucket_states.specs.Values.{IsSmall}
 use Rattle.bucket_states.specs.Laws.{IsGood, applied_of}
@@ -30,7 +30,7 @@ pub record IsOpening (rules : Rules) (seats start : ℕ) (first : List Pair) (le
   pub cover : Cover (map place_of leaves)
   pub good : All (λ leaf. IsGood rules seats leaf.bucket × (leaf.bucket.frozen ≡ false) × (leaf.from ≡ None)) leaves
   pub unused : All (λ leaf. (seat : ℕ) → applied_of leaf.bucket seat ≡ 0) leaves
-  pub small : All (λ pair. pair.value < value_limit) first → All (λ leaf. IsSmall leaf.bucket) leaves
+  pub small : All IsSmallPair first → All (λ leaf. IsSmall leaf.bucket) leaves
   pub holds : All (λ leaf. HoldsPart rules leaf.bucket.prefix leaf.bucket.depth leaf.bucket.items
       (sessions_with rules first)) leaves
   pub few : length leaves ≤ 2 ^ rules.depth

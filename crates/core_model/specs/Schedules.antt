@@ -9,9 +9,10 @@ use Rattle.plain_map.specs.declared.calls.Call.{Call}
 use Rattle.plain_map.specs.Calls.{key_in}
 use Rattle.plain_map.specs.Serving.{IsAskable}
 use Rattle.core_model.specs.declared.events.Event.{Event}
-use Rattle.core_model.specs.Setup.{Setup, IsSetup, IsKey, settings_of, seats_of}
+use Rattle.core_model.specs.Setup.{Setup, IsSetup, settings_of, seats_of}
 use Rattle.core_model.specs.SeatStates.{Account, Stand, Idle, InFlight}
 use Rattle.core_model.specs.Worlds.{World, IsRun, opening_world, world_after, happens, seat_in, refusal_of}
+use Rattle.plain_map.specs.Keys.{IsKey}
 
 -- so many slots of a seat, or as many as it needs to the end of its calls
 pub record Segment : Type 0 where

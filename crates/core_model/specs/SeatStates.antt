@@ -2,7 +2,7 @@
 use Rattle.std.specs.Prelude.{ℕ, ◌+◌, ◌-◌, Bool, true, false, List, [], ◌++◌, length, replicate}
 use Rattle.step_counts.specs.declared.rows.SeatRows.{SeatRows}
 use Rattle.plain_map.specs.declared.calls.Call.{Call}
-use Rattle.plain_map.specs.declared.calls.Call.TheVariants.{Insert, Remove, Lookup}
+use Rattle.plain_map.specs.declared.calls.Call.TheVariants.{Insert, Remove, Lookup, Tally}
 use Rattle.plain_map.specs.declared.calls.Reply.{Reply}
 use Rattle.plain_map.specs.declared.records.TheConstants.{MOST_SEATS}
 use Rattle.plain_map.specs.declared.records.Seen.{Seen}
@@ -43,6 +43,7 @@ abbrev pub is_update : Call → Bool
 is_update (Insert key value) = true
 is_update (Remove key) = true
 is_update (Lookup key) = false
+is_update (Tally key amount) = true
 
 -- the seen counts as they stand in a record, 0 from the last one on
 abbrev pub seen_counts : List ℕ → Seen

@@ -8,9 +8,10 @@ use Rattle.plain_map.specs.declared.keys.Key.{Key}
 use Rattle.plain_map.specs.declared.keys.Pair.{Pair}
 use Rattle.plain_map.specs.declared.rules.Rules.{Rules}
 use Rattle.plain_map.specs.PlainObject.{class_of}
-use Rattle.plain_map.specs.Updates.{value_limit}
+use Rattle.plain_map.specs.Updates.{IsSmallPair}
 use Rattle.word_rows.specs.Shape.{Shape, IsShape, AreBelow, of_kind, first_number}
 use Rattle.bucket_states.specs.Parts.{HasDistinctKeys}
+use Rattle.plain_map.specs.Keys.{IsKey}
 
 -- the settings and each seat's ranges, the hashing, and the pairs that the table begins with
 pub record Setup : Type 0 where
@@ -37,15 +38,10 @@ rules_of setup = record {
 unfoldable pub next_number : Setup → (seat : ℕ) → FullKind → (used : SeatRows) → ℕ
 next_number setup seat kind used = first_number setup.shape seat kind + of_kind kind used
 
--- a key of two words of 64 bits
-pub record IsKey (key : Key) : Type 0 where
-  pub k0 : key.k0 < 2 ^ 64
-  pub k1 : key.k1 < 2 ^ 64
-
 -- a pair that can be kept
 pub record IsPair (pair : Pair) : Type 0 where
   pub key : IsKey pair.key
-  pub value : pair.value < value_limit
+  pub small : IsSmallPair pair
 
 -- how many of these pairs are in the class of the key
 abbrev pub classmates : Rules → Key → List Pair → ℕ

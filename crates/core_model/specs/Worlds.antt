@@ -12,7 +12,7 @@ use Rattle.word_rows.specs.declared.addresses.Address.{Address}
 use Rattle.word_rows.specs.declared.addresses.Address.TheVariants.{DirectoryWord}
 use Rattle.word_rows.specs.Places.{place, word_count}
 use Rattle.core_model.specs.declared.events.Event.{Event}
-use Rattle.core_model.specs.Setup.{Setup, IsSetup, IsKey, settings_of, seats_of, rules_of}
+use Rattle.core_model.specs.Setup.{Setup, IsSetup, settings_of, seats_of, rules_of}
 use Rattle.core_model.specs.Leaves.{NewLeaf}
 use Rattle.core_model.specs.Opening.{opening_leaves, opening_directory}
 use Rattle.core_model.specs.Phases.{Phase, SeeDone}
@@ -20,6 +20,7 @@ use Rattle.core_model.specs.SeatStates.{Account, Flight, Stand, Idle, InFlight, 
 use Rattle.core_model.specs.Stores.{with_puts, row_puts, leaf_puts, directory_words}
 use Rattle.core_model.specs.Asks.{Ask, Nothing, Load, Store, Exchange, ask_in}
 use Rattle.core_model.specs.Goes.{state_after}
+use Rattle.plain_map.specs.Keys.{IsKey}
 
 -- all words, by their numbers, and the state of each seat
 pub record World : Type 0 where

@@ -2,21 +2,21 @@
 use Rattle.std.proofs.Common.{◌≡◌, ℕ, zero, suc, ◌+◌, Bool, true, false, cond, List, [], ◌∷◌, get_or, set, Option, Some, None, inl, inr, refl, sym, ap, ◌∙◌, subst, lt-ltb}
 use Rattle.std.specs.Prelude.{fold, replicate}
 use Rattle.std.specs.List.{enumerate_from}
-use Rattle.std.specs.FinMap.{get}
+use Rattle.std.specs.FinMap.{get, insert}
 use Rattle.plain_map.specs.declared.keys.Key.{Key}
 use Rattle.plain_map.specs.declared.rules.Rules.{Rules}
 use Rattle.plain_map.specs.declared.calls.Call.{Call}
-use Rattle.plain_map.specs.declared.calls.Call.TheVariants.{Insert, Remove, Lookup}
+use Rattle.plain_map.specs.declared.calls.Call.TheVariants.{Insert, Remove, Lookup, Tally}
 use Rattle.plain_map.specs.declared.full.Full.{Full}
 use Rattle.plain_map.specs.declared.records.Record.{Record}
 use Rattle.plain_map.specs.declared.records.Pending.{Pending}
 use Rattle.plain_map.specs.Calls.{key_in}
-use Rattle.plain_map.specs.PlainObject.{Sessions, has_room, inserted, map_after}
+use Rattle.plain_map.specs.PlainObject.{Sessions, new_session, brought, grown, has_room, inserted, map_after, tallied}
 use Rattle.bucket_states.specs.Items.{same_key}
 use Rattle.bucket_states.proofs.KeyTests.{Decides-same_key}
 use Rattle.bucket_states.proofs.PartLemmas.{get-inserted, get-removed}
 use Rattle.core_model.specs.declared.events.Event.{Event}
-use Rattle.core_model.specs.Setup.{Setup, IsKey, seats_of}
+use Rattle.core_model.specs.Setup.{Setup, seats_of}
 use Rattle.core_model.specs.Phases.{Phase, SeeDone, StoreOp, Announce, FindRoot, FindDepth, FindEntry, LookWord, LookCount, LookItems, TryWord, TryRow, TryAnnouncement, TryOp, TryStore, TryExchange, DirRoot, DirDepth, DirEntries, DirAnnouncement, DirOp, DirWord, DirRow, DirStore, DirExchange, LastWord, LastRow, StoreDone, Stuck}
 use Rattle.core_model.specs.SeatStates.{Account, Flight, Stand, Idle, InFlight, SeatState, fresh_seat, begun}
 use Rattle.core_model.specs.Asks.{ask_in}
@@ -24,6 +24,7 @@ use Rattle.core_model.specs.Goes.{state_after}
 use Rattle.core_model.specs.Worlds.{World, seat_in, found_by, step_of, act, begin_or_refuse, refusal_of, happens, opening_world, FitsStand, AreEvents}
 use Rattle.core_model.specs.Closed.{records_of, begun_of, begun_by}
 use Rattle.core_placing.proofs.Lists.{In, in_both, in_flat_map}
+use Rattle.plain_map.specs.Keys.{IsKey, Session}
 
 -- ---- the calls of a world
 
@@ -170,25 +171,40 @@ begun_good w all u m =
 
 -- each key that is held is such a key
 abbrev pub KeysAreGood : Sessions → Type 0
-KeysAreGood sessions = (key : Key) (value : ℕ) → get sessions key ≡ Some value → IsKey key
+KeysAreGood sessions = (key : Key) (held : Session) → get sessions key ≡ Some held → IsKey key
+
+-- after such a key has got a session, over whatever was held
+keys_set : (sessions : Sessions) (key : Key) (new : Session) → KeysAreGood sessions → IsKey key →
+    KeysAreGood (insert sessions key new)
+keys_set sessions key new good is = λ q v h. by q v (same_key key q) refl (sym (get-inserted sessions key new q) ∙ h)
+  where
+    by : (q : Key) (v : Session) (b : Bool) → same_key key q ≡ b → cond b (Some new) (get sessions q) ≡ Some v → IsKey q
+    by q v true e h = subst IsKey ((Decides-same_key key q).0 e) is
+    by q v false e h = good q v h
+
+-- after a session has come to such a key
+pub keys_brought : (rules : Rules) (sessions : Sessions) (key : Key) (new : Session) → KeysAreGood sessions →
+    IsKey key → KeysAreGood (brought rules sessions key new)
+keys_brought rules sessions key new good is = go (get sessions key) (has_room rules sessions key)
+  where
+    go : (held : Option Session) (room : Bool) → KeysAreGood (inserted sessions key new held room)
+    go (Some held) room = good
+    go None true = keys_set sessions key new good is
+    go None false = good
 
 -- after a call with such a key
 pub keys_after : (rules : Rules) (sessions : Sessions) (call : Call) → KeysAreGood sessions → IsKey (key_in call) →
     KeysAreGood (map_after rules sessions call)
 unfolding map_after
-keys_after rules sessions (Insert key value) good is = go (get sessions key) (has_room rules sessions key)
-  where
-    by : (q : Key) (v : ℕ) (b : Bool) → same_key key q ≡ b → cond b (Some value) (get sessions q) ≡ Some v → IsKey q
-    by q v true e h = subst IsKey ((Decides-same_key key q).0 e) is
-    by q v false e h = good q v h
-
-    go : (held : Option ℕ) (room : Bool) → KeysAreGood (inserted sessions key value held room)
-    go (Some held) room = good
-    go None true = λ q v h. by q v (same_key key q) refl (sym (get-inserted sessions key value q) ∙ h)
-    go None false = good
+keys_after rules sessions (Insert key value) good is = keys_brought rules sessions key (new_session value) good is
 keys_after rules sessions (Remove key) good is = λ q v h. by q v (same_key key q) (sym (get-removed sessions key q) ∙ h)
   where
-    by : (q : Key) (v : ℕ) (b : Bool) → cond b None (get sessions q) ≡ Some v → IsKey q
+    by : (q : Key) (v : Session) (b : Bool) → cond b None (get sessions q) ≡ Some v → IsKey q
     by q v true h = cc
     by q v false h = good q v h
 keys_after rules sessions (Lookup key) good is = good
+keys_after rules sessions (Tally key amount) good is = go (get sessions key)
+  where
+    go : (held : Option Session) → KeysAreGood (tallied sessions key amount held)
+    go (Some held) = keys_set sessions key (grown held amount) good is
+    go None = good

@@ -11,7 +11,7 @@ use Rattle.std.specs.FinMap.Entries.{below_all, find}
 use Rattle.std.proofs.lemmas.List.Sorted.{ranks_by, sorted_far}
 use Rattle.plain_map.specs.declared.keys.Key.{Key}
 use Rattle.plain_map.specs.declared.keys.Pair.{Pair}
-use Rattle.plain_map.specs.Keys.{key_cmp, entry_of}
+use Rattle.plain_map.specs.Keys.{entry_of, held_in, key_cmp}
 use Rattle.plain_map.specs.Places.{IsInKeyOrder}
 use Rattle.plain_map.specs.Held.{sessions_of}
 use Rattle.plain_map.specs.PlainObject.{Sessions, pairs_of}
@@ -77,9 +77,9 @@ in_key_order (p ∷ ps) sorted distinct = both _ _ (first_below p ps sorted dist
 find_at : (key : Key) (ps : List Pair) → find key_cmp key (map entry_of ps) ≡ value_at key ps
 find_at key [] = refl
 find_at key (p ∷ ps) =
-    ap (λ b. cond b (Some p.value) (find key_cmp key (map entry_of ps)))
+    ap (λ b. cond b (Some (held_in p)) (find key_cmp key (map entry_of ps)))
     (eq_by_cmp-same_key key p.key ∙ same_key-equiv.symm key p.key)
-    ∙ ap (cond (same_key p.key key) (Some p.value)) (find_at key ps)
+    ∙ ap (cond (same_key p.key key) (Some (held_in p))) (find_at key ps)
 
 -- pairs of the sessions, in another order, that are sorted by their keys are the pairs of the sessions
 pub sorted_is_held : (held : Sessions) (pairs : List Pair) → IsPermutation (pairs_of held) pairs → IsSorted pairs →

@@ -12,8 +12,8 @@ use Rattle.std.proofs.lemmas.Map.Keys.{IsDistinct-IsPermutation}
 use Rattle.plain_map.specs.declared.keys.Key.{Key}
 use Rattle.plain_map.specs.declared.keys.Pair.{Pair}
 use Rattle.plain_map.specs.declared.rules.Rules.{Rules}
-use Rattle.plain_map.specs.Keys.{key_cmp}
-use Rattle.plain_map.specs.PlainObject.{Sessions, pairs_of, class_of, class_size, has_room, inserted, map_after}
+use Rattle.plain_map.specs.Keys.{Session, held_in, key_cmp, pair_of}
+use Rattle.plain_map.specs.PlainObject.{Sessions, pairs_of, class_of, brought, class_size, has_room, inserted}
 use Rattle.plain_map.proofs.KeyLemmas.{keys_total, exact_keys}
 use Rattle.bucket_states.specs.Items.{same_key, value_at}
 use Rattle.bucket_states.specs.Parts.{keys_of, HasDistinctKeys}
@@ -21,10 +21,9 @@ use Rattle.bucket_states.proofs.KeyTests.{same_key-equiv}
 use Rattle.bucket_states.proofs.ItemLemmas.{value_at-push}
 use Rattle.bucket_states.proofs.PartLemmas.{get-inserted}
 use Rattle.core_model.specs.Setup.{HaveRoom}
-use Rattle.core_model.specs.Opening.{insert_of}
 use Rattle.core_model.specs.Closed.{sessions_with}
 use Rattle.core_placing.proofs.Lists.{In, Once, in_right, in_cut, in_middle}
-use Rattle.core_reading.proofs.ClosedPairs.{value_in}
+use Rattle.core_reading.proofs.ClosedPairs.{held_there}
 use Rattle.core_reading.proofs.HeldPairs.{items_distinct, pairs_are_held, pairs_distinct, apart_from}
 use Rattle.core_orders.proofs.Calls.{in_at, at_in}
 
@@ -72,7 +71,8 @@ was_in xs ys x moved m =
     subst (λ z. In z xs) (sym at.2) (All-permutation (λ z. In z xs) xs ys moved (λ k d h. in_at xs k d h) at.0 x at.1)
 
 -- two options that have the same values
-same_option : (a b : Option ℕ) → ((v : ℕ) → a ≡ Some v → b ≡ Some v) → ((v : ℕ) → b ≡ Some v → a ≡ Some v) → a ≡ b
+same_option : {A : Type 0} (a b : Option A) → ((v : A) → a ≡ Some v → b ≡ Some v) →
+    ((v : A) → b ≡ Some v → a ≡ Some v) → a ≡ b
 same_option (Some v) b there back = sym (there v refl)
 same_option None None there back = refl
 same_option None (Some v) there back = back v refl
@@ -87,11 +87,11 @@ module _ (held : Sessions) (pairs : List Pair) (moved : IsPermutation (pairs_of 
   -- and at each key what is held
   pub value_is : (key : Key) → get held key ≡ value_at key pairs
   value_is key = same_option (get held key) (value_at key pairs)
-      (λ v e. (items_distinct pairs keys_apart).there (record { key = key; value = v })
-      (was_in pairs (pairs_of held) (record { key = key; value = v }) (IsPermutation-sym (pairs_of held) pairs moved)
-      ((pairs_are_held held).back (record { key = key; value = v }) e)))
-      (λ v e. (pairs_are_held held).there (record { key = key; value = v })
-      (was_in (pairs_of held) pairs (record { key = key; value = v }) moved (value_in pairs key v e)))
+      (λ v e. (items_distinct pairs keys_apart).there (pair_of (key, v))
+      (was_in pairs (pairs_of held) (pair_of (key, v)) (IsPermutation-sym (pairs_of held) pairs moved)
+      ((pairs_are_held held).back (pair_of (key, v)) e)))
+      (λ v e. (pairs_are_held held).there (pair_of (key, v))
+      (was_in (pairs_of held) pairs (pair_of (key, v)) moved (held_there pairs key v e)))
 
   module _ (rules : Rules) (few : (key : Key) → class_size rules held (class_of rules key) ≤ rules.items) where
     -- each pair finds room
@@ -119,15 +119,15 @@ module _ (rules : Rules) where
   unfolding IsDistinct
   absent [] rest pair distinct = refl
   absent (p ∷ front) rest pair distinct =
-      cond-false (same_key p.key pair.key) (Some p.value) (value_at pair.key front)
+      cond-false (same_key p.key pair.key) (Some (held_in p)) (value_at pair.key front)
       (apart_from p.key (front ++ pair ∷ rest) pair distinct.0 (in_right pair front (pair ∷ rest) (inl refl)))
       ∙ absent front rest pair distinct.1
 
   -- so one pair more is held
   one_more : (front rest : List Pair) (pair : Pair) (m : Sessions) → HasDistinctKeys (front ++ pair ∷ rest) →
       HaveRoom rules (front ++ pair ∷ rest) → ((q : Key) → get m q ≡ value_at q front) →
-      (q : Key) → get (map_after rules m (insert_of pair)) q ≡ value_at q (front ++ pair ∷ [])
-  unfolding map_after class_size
+      (q : Key) → get (brought rules m pair.key (held_in pair)) q ≡ value_at q (front ++ pair ∷ [])
+  unfolding class_size
   one_more front rest pair m distinct room holds q =
       go (get m pair.key) (holds pair.key ∙ none) (has_room rules m pair.key) free
     where
@@ -139,27 +139,27 @@ module _ (rules : Rules) where
 
       few : count_by test (pairs_of m) ≤ count_by test front
       few = count_few test (pairs_of m) front (pairs_are_held m).once (λ x there passes.
-          value_in front x.key x.value (sym (holds x.key) ∙ (pairs_are_held m).there x there))
+          held_there front x.key (held_in x) (sym (holds x.key) ∙ (pairs_are_held m).there x there))
 
       free : has_room rules m pair.key ≡ true
       free = lt-ltb (class_size rules m (class_of rules pair.key)) rules.items
           (omega (arith, few, room front rest pair refl))
 
-      go : (o : Option ℕ) → o ≡ None → (b : Bool) → b ≡ true →
-          get (inserted m pair.key pair.value o b) q ≡ value_at q (front ++ pair ∷ [])
+      go : (o : Option Session) → o ≡ None → (b : Bool) → b ≡ true →
+          get (inserted m pair.key (held_in pair) o b) q ≡ value_at q (front ++ pair ∷ [])
       go (Some v) e b f = cc
       go None e false f = cc
-      go None e true f = get-inserted m pair.key pair.value q
-          ∙ ap (cond (same_key pair.key q) (Some pair.value)) (holds q) ∙ sym (value_at-push front pair q none)
+      go None e true f = get-inserted m pair.key (held_in pair) q
+          ∙ ap (cond (same_key pair.key q) (Some (held_in pair))) (holds q) ∙ sym (value_at-push front pair q none)
 
   -- and so all of them
   all_more : (front rest : List Pair) (m : Sessions) → HasDistinctKeys (front ++ rest) →
       HaveRoom rules (front ++ rest) → ((q : Key) → get m q ≡ value_at q front) →
-      (q : Key) → get (fold (λ s pair. map_after rules s (insert_of pair)) m rest) q ≡ value_at q (front ++ rest)
+      (q : Key) → get (fold (λ s pair. brought rules s pair.key (held_in pair)) m rest) q ≡ value_at q (front ++ rest)
   all_more front [] m distinct room holds q = holds q ∙ ap (value_at q) (sym (append-nil front))
   all_more front (pair ∷ rest) m distinct room holds q =
       let same : (front ++ pair ∷ []) ++ rest ≡ front ++ pair ∷ rest = append_assoc front (pair ∷ []) rest in
-      all_more (front ++ pair ∷ []) rest (map_after rules m (insert_of pair))
+      all_more (front ++ pair ∷ []) rest (brought rules m pair.key (held_in pair))
       (subst HasDistinctKeys (sym same) distinct) (subst (HaveRoom rules) (sym same) room)
       (one_more front rest pair m distinct room holds) q ∙ ap (value_at q) same
 

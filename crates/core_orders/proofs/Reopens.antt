@@ -6,16 +6,15 @@ use Rattle.std.proofs.lemmas.List.Sorted.{IsPermutation-trans}
 use Rattle.plain_map.specs.declared.keys.Key.{Key}
 use Rattle.plain_map.specs.declared.keys.Pair.{Pair}
 use Rattle.plain_map.specs.declared.rules.Rules.{Rules}
-use Rattle.plain_map.specs.Keys.{key_cmp}
+use Rattle.plain_map.specs.Keys.{IsKey, Session, held_in, key_cmp}
 use Rattle.plain_map.specs.Calls.{key_in}
-use Rattle.plain_map.specs.Updates.{value_limit}
-use Rattle.plain_map.specs.PlainObject.{Sessions, pairs_of, map_after, class_of, class_size}
+use Rattle.plain_map.specs.Updates.{IsSmallPair}
+use Rattle.plain_map.specs.PlainObject.{Sessions, brought, pairs_of, map_after, class_of, class_size}
 use Rattle.plain_map.specs.History.{Placed, answered, pending, call_in, sessions_after}
 use Rattle.bucket_states.specs.Parts.{HasDistinctKeys}
 use Rattle.bucket_states.proofs.PartLemmas.{class_size-few}
 use Rattle.core_model.specs.declared.events.Event.{Event}
-use Rattle.core_model.specs.Setup.{Setup, IsKey, IsPair, HaveRoom, rules_of}
-use Rattle.core_model.specs.Opening.{insert_of}
+use Rattle.core_model.specs.Setup.{Setup, IsPair, HaveRoom, rules_of}
 use Rattle.core_model.specs.Worlds.{World, IsRun, world_after}
 use Rattle.core_model.specs.Order.{order_of, effects_of, took_effect}
 use Rattle.core_model.specs.Closed.{closing_of, records_of, begun_of, closed_pairs, sessions_with}
@@ -24,13 +23,13 @@ use Rattle.core_history.proofs.Ghost.{Common, Local, lead, last}
 use Rattle.core_history.proofs.RowLemmas.{in_range}
 use Rattle.core_rounds.proofs.Runs.{Follows}
 use Rattle.core_placing.proofs.Lists.{In, in_both, in_map, in_filter}
-use Rattle.core_reading.proofs.ClosedPairs.{value_in}
+use Rattle.core_reading.proofs.ClosedPairs.{held_there}
 use Rattle.core_reading.proofs.HeldPairs.{pairs_are_held}
 use Rattle.core_answers.proofs.Tale.{Tale}
 use Rattle.core_answers.proofs.AllRuns.{Tells, all_tell}
 use Rattle.core_orders.specs.KeyOrder.{NextOpeningHasRoom, NoPairLacksRoom, PairsReopenInAnyTurn, SortedPairsAreHeld}
 use Rattle.core_orders.proofs.Calls.{in_at, at_in}
-use Rattle.core_orders.proofs.CallKeys.{AreGood, KeysAreGood, all_good, records_good, begun_good, keys_after}
+use Rattle.core_orders.proofs.CallKeys.{AreGood, KeysAreGood, all_good, records_good, begun_good, keys_after, keys_brought}
 use Rattle.core_orders.proofs.AtEnd.{end_holds, pairs_are_of_order}
 use Rattle.core_orders.proofs.Promised.{order_is_whole}
 use Rattle.core_orders.proofs.KeyOrder.{sorted_is_held}
@@ -38,10 +37,10 @@ use Rattle.core_orders.proofs.Reopened.{was_in, keys_apart, have_room, reopened}
 
 -- after pairs with such keys each key that is held is one
 keys_with : (rules : Rules) (pairs : List Pair) (m : Sessions) → ((p : Pair) → In p pairs → IsKey p.key) →
-    KeysAreGood m → KeysAreGood (fold (λ s pair. map_after rules s (insert_of pair)) m pairs)
+    KeysAreGood m → KeysAreGood (fold (λ s pair. brought rules s pair.key (held_in pair)) m pairs)
 keys_with rules [] m all good = good
-keys_with rules (p ∷ pairs) m all good = keys_with rules pairs (map_after rules m (insert_of p))
-    (λ q i. all q (inr i)) (keys_after rules m (insert_of p) good (all p (inl refl)))
+keys_with rules (p ∷ pairs) m all good = keys_with rules pairs (brought rules m p.key (held_in p))
+    (λ q i. all q (inr i)) (keys_brought rules m p.key (held_in p) good (all p (inl refl)))
 
 -- and after calls with such keys
 keys_of_order : (rules : Rules) (order : List Placed) (m : Sessions) →
@@ -84,7 +83,7 @@ module _ (setup : Setup) (events : List Event) (run : IsRun setup events) where
       first_good p m = let at = at_in setup.first p p m in
           subst (λ (z : Pair). IsKey z.key) (sym at.2) (run.opened.pairs at.0 p at.1).key
 
-      none_some : {v : ℕ} {A : Type 0} → None ≡ Some v → A
+      none_some : {v : Session} {A : Type 0} → None ≡ Some v → A
       none_some e = cc
 
   module _ (c : Common) (locals : ℕ → Local) (f : Follows setup w c locals) (t : Tale)
@@ -122,12 +121,12 @@ module _ (setup : Setup) (events : List Event) (run : IsRun setup events) where
           let there = f.shared.leads.there c.dir_top pair.key (omega arith) in
           let sound = f.shared.rows.sound b (c.top b) there (omega arith) in
           let part = end_holds setup w c locals f t y pair.key in
-          let in_items = value_in (last c b).items pair.key pair.value
+          let in_items = held_there (last c b).items pair.key (held_in pair)
           (part.same pair.key (f.shared.leads.for_it c.dir_top pair.key (omega arith)) ∙ held_at) in
           let at = at_in (last c b).items pair pair in_items in
           record {
-            key = held_good pair.key pair.value held_at;
-            value = subst (λ (z : Pair). z.value < value_limit) (sym at.2) (sound.small.values at.0 pair at.1);
+            key = held_good pair.key (held_in pair) held_at;
+            small = subst IsSmallPair (sym at.2) (sound.small.values at.0 pair at.1);
           }
 
       -- so they can open the next table

@@ -4,8 +4,10 @@ use Rattle.std.specs.Prelude.{flat_map, ◌==◌, IsPermutation}
 use Rattle.std.specs.FinMap.{get}
 use Rattle.std.proofs.lemmas.List.{reverse-append}
 use Rattle.std.proofs.lemmas.Bool.{and_parts}
+use Rattle.std.proofs.lemmas.Option.{same_Some}
 use Rattle.plain_map.specs.declared.keys.Key.{Key}
 use Rattle.plain_map.specs.declared.keys.Pair.{Pair}
+use Rattle.plain_map.specs.Keys.{Session, held_in, pair_of}
 use Rattle.plain_map.specs.PlainObject.{Sessions, pairs_of}
 use Rattle.bucket_states.specs.Items.{prefix_of, same_key, value_at}
 use Rattle.bucket_states.specs.States.{BucketState}
@@ -19,48 +21,36 @@ use Rattle.core_reading.proofs.Book.{Book, Written}
 use Rattle.core_reading.proofs.Lines.{each_in, in_each, each_is_once}
 use Rattle.core_reading.proofs.Read.{state_is, directory_is}
 use Rattle.core_reading.proofs.Pieces.{once_both}
+use Rattle.bucket_states.proofs.KeyTests.{Decides-same_key}
 
 -- what is to be shown of sessions in plain_map: their pairs stand once, and are what is held
 pub record PairsAreHeld (sessions : Sessions) : Type 0 where
   pub once : Once (pairs_of sessions)
-  pub there : (pair : Pair) → In pair (pairs_of sessions) → get sessions pair.key ≡ Some pair.value
-  pub back : (pair : Pair) → get sessions pair.key ≡ Some pair.value → In pair (pairs_of sessions)
+  pub there : (pair : Pair) → In pair (pairs_of sessions) → get sessions pair.key ≡ Some (held_in pair)
+  pub back : (pair : Pair) → get sessions pair.key ≡ Some (held_in pair) → In pair (pairs_of sessions)
 
 -- and of items in bucket_states: where no key stands twice, they stand once, and the value at a key is that of its
 -- pair
 pub record ItemsAreDistinct (items : List Pair) : Type 0 where
   pub once : Once items
-  pub there : (pair : Pair) → In pair items → value_at pair.key items ≡ Some pair.value
-
--- a key by its parts
-abbrev key_of : ℕ → ℕ → Key
-key_of a b = record { k0 = a; k1 = b }
-
--- a pair by its key and value
-abbrev pair_with : Key → ℕ → Pair
-pair_with key value = record { key = key; value = value }
+  pub there : (pair : Pair) → In pair items → value_at pair.key items ≡ Some (held_in pair)
 
 -- keys that compare as the same are one
 key_is : (a b : Key) → same_key a b ≡ true → a ≡ b
-key_is a b h =
-    let parts = and_parts (a.k0 == b.k0) (a.k1 == b.k1) h in
-    let first = eqb-true a.k0 b.k0 parts.0 in
-    let second = eqb-true a.k1 b.k1 parts.1 in
-    ap (λ z. key_of z a.k1) first ∙ ap (λ z. key_of b.k0 z) second
+key_is a b = (Decides-same_key a b).0
 
 -- what is found at a key stands among the items
-pub value_in : (items : List Pair) (key : Key) (value : ℕ) → value_at key items ≡ Some value →
-    In (record { key = key; value = value }) items
-value_in [] key value h = cc
-value_in (p ∷ items) key value h = go (same_key p.key key) refl (value_in items key value) h
+pub held_there : (items : List Pair) (key : Key) (held : Session) → value_at key items ≡ Some held →
+    In (pair_of (key, held)) items
+held_there [] key held h = cc
+held_there (p ∷ items) key held h = go (same_key p.key key) refl (held_there items key held) h
   where
-    go : (b : Bool) → same_key p.key key ≡ b →
-        (value_at key items ≡ Some value → In (record { key = key; value = value }) items) →
-        cond b (Some p.value) (value_at key items) ≡ Some value → In (record { key = key; value = value }) (p ∷ items)
-    go true e rest s = let same = key_is p.key key e in let held : p.value ≡ value = cc in inl (pair_is same held)
+    go : (b : Bool) → same_key p.key key ≡ b → (value_at key items ≡ Some held → In (pair_of (key, held)) items) →
+        cond b (Some (held_in p)) (value_at key items) ≡ Some held → In (pair_of (key, held)) (p ∷ items)
+    go true e rest s = inl (pair_is (key_is p.key key e) (same_Some _ _ s))
       where
-        pair_is : p.key ≡ key → p.value ≡ value → record { key = key; value = value } ≡ p
-        pair_is k v = ap (λ z. pair_with z value) (sym k) ∙ ap (λ z. pair_with p.key z) (sym v)
+        pair_is : p.key ≡ key → held_in p ≡ held → pair_of (key, held) ≡ p
+        pair_is k v = ap (λ z. pair_of (z, held)) (sym k) ∙ ap (λ z. pair_of (p.key, z)) (sym v)
     go false e rest s = inr (rest s)
 
 -- reversed lists
@@ -142,13 +132,13 @@ module _ (setup : Setup) (words : List ℕ) (k : Book) (w : Written setup words 
 
   -- a pair of a bucket is that of its key's
   of_bucket : (b : ℕ) (pair : Pair) → In b (closed_buckets setup.shape words) → In pair (items b) →
-      (bucket_of (rules_of setup) (k.dir_at k.dir_top) pair.key ≡ b) × (get sessions pair.key ≡ Some pair.value)
+      (bucket_of (rules_of setup) (k.dir_at k.dir_top) pair.key ≡ b) × (get sessions pair.key ≡ Some (held_in pair))
   of_bucket b pair i m =
       let e = bucket_in b i in
       let n = named b e in
       let h = holds b e in
       let value = (distinct b n).there pair (subst (In pair) (items_are b n) m) in
-      let suits = h.inside pair.key pair.value value in
+      let suits = h.inside pair.key (held_in pair) value in
       (led b pair.key e suits, sym (h.same pair.key suits) ∙ value)
 
   -- so the pairs of the closed buckets are those that are held, each once
@@ -164,7 +154,7 @@ module _ (setup : Setup) (words : List ℕ) (k : Book) (w : Written setup words 
       let n = named b e in
       flat_map_in items (closed_buckets setup.shape words) b pair (in_buckets b e)
       (subst (In pair) (sym (items_are b n))
-      (value_in (k.state_at b (k.top b)).items pair.key pair.value
+      (held_there (k.state_at b (k.top b)).items pair.key (held_in pair)
       ((holds b e).same pair.key (for_it pair.key) ∙ pairs.there pair i))))
       (λ pair i. let r = in_flat_map items (closed_buckets setup.shape words) pair i in
       pairs.back pair (of_bucket r.0 pair r.1 r.2).1)

@@ -6,14 +6,14 @@ use Rattle.std.specs.FinMap.Entries.{find}
 use Rattle.std.proofs.lemmas.Bool.{cond-true, cond-false}
 use Rattle.plain_map.specs.declared.keys.Key.{Key}
 use Rattle.plain_map.specs.declared.keys.Pair.{Pair}
-use Rattle.plain_map.specs.Keys.{key_cmp, pair_of}
+use Rattle.plain_map.specs.Keys.{Session, held_in, key_cmp, pair_of}
 use Rattle.plain_map.specs.PlainObject.{Sessions, pairs_of}
 use Rattle.bucket_states.specs.Items.{same_key, value_at}
 use Rattle.bucket_states.specs.Parts.{HasDistinctKeys, keys_of}
 use Rattle.bucket_states.proofs.KeyTests.{eq_by_cmp-same_key, same_key-equiv}
 use Rattle.bucket_states.proofs.SizeLemmas.{entry_keys, sorted_distinct}
 use Rattle.core_placing.proofs.Lists.{In}
-use Rattle.core_reading.proofs.ClosedPairs.{PairsAreHeld, ItemsAreDistinct, value_in}
+use Rattle.core_reading.proofs.ClosedPairs.{PairsAreHeld, ItemsAreDistinct, held_there}
 
 -- a key that is apart from all keys is apart from that of each member
 pub apart_from : (key : Key) (items : List Pair) (pair : Pair) →
@@ -35,15 +35,15 @@ items_distinct (p ∷ items) d =
     record {
       once = ((λ m. true≢false (sym (same_itself p.key) ∙ apart_from p.key items p d.0 m)), rest.once);
       there = λ pair m. elim m [
-        | inl e ↦ cond-true (same_key p.key pair.key) (Some p.value) (value_at pair.key items)
-            (ap (λ (x : Pair). same_key p.key x.key) e ∙ same_itself p.key) ∙ ap (λ (x : Pair). Some x.value) (sym e)
-        | inr n ↦ cond-false (same_key p.key pair.key) (Some p.value) (value_at pair.key items)
+        | inl e ↦ cond-true (same_key p.key pair.key) (Some (held_in p)) (value_at pair.key items)
+            (ap (λ (x : Pair). same_key p.key x.key) e ∙ same_itself p.key) ∙ ap (λ (x : Pair). Some (held_in x)) (sym e)
+        | inr n ↦ cond-false (same_key p.key pair.key) (Some (held_in p)) (value_at pair.key items)
             (apart_from p.key items pair d.0 n) ∙ rest.there pair n
       ];
     }
 
 -- the keys of the entries' pairs are the entries' keys
-keys_are : (es : List (Key × ℕ)) → keys_of (map pair_of es) ≡ entry_keys es
+keys_are : (es : List (Key × Session)) → keys_of (map pair_of es) ≡ entry_keys es
 keys_are [] = refl
 keys_are (e ∷ es) = ap (λ ks. e.0 ∷ ks) (keys_are es)
 
@@ -54,7 +54,7 @@ pairs_distinct sessions = subst (IsDistinct same_key) (sym (keys_are (entries se
     (sorted_distinct (entries sessions) (entries_sorted sessions))
 
 -- what is found among entries is the value of the pair
-find_is : (key : Key) (es : List (Key × ℕ)) → find key_cmp key es ≡ value_at key (map pair_of es)
+find_is : (key : Key) (es : List (Key × Session)) → find key_cmp key es ≡ value_at key (map pair_of es)
 find_is key [] = refl
 find_is key (e ∷ es) = ap (λ b. cond b (Some e.1) (find key_cmp key es))
     (eq_by_cmp-same_key key e.0 ∙ same_key-equiv.symm key e.0)
@@ -72,5 +72,5 @@ pairs_are_held sessions =
     record {
       once = d.once;
       there = λ pair m. get_is sessions pair.key ∙ d.there pair m;
-      back = λ pair e. value_in (pairs_of sessions) pair.key pair.value (sym (get_is sessions pair.key) ∙ e);
+      back = λ pair e. held_there (pairs_of sessions) pair.key (held_in pair) (sym (get_is sessions pair.key) ∙ e);
     }

@@ -9,7 +9,6 @@ use Rattle.std.proofs.lemmas.List.Sums.{fails_before_first}
 use Rattle.std.proofs.lemmas.List.Quantifiers.{position-Some}
 use Rattle.std.proofs.lemmas.List.Recursion.{is_count_by}
 use Rattle.std.proofs.lemmas.Nat.{shr-shr}
-use Rattle.hash_bits.proofs.HashLemmas.{hash-within}
 use Rattle.plain_map.specs.declared.keys.Key.{Key}
 use Rattle.plain_map.specs.Keys.{hash_of_key}
 use Rattle.bucket_states.specs.Items.{prefix_of}
@@ -36,6 +35,7 @@ use Rattle.core_history.proofs.RowLemmas.{in_range}
 use Rattle.core_history.proofs.Loads.{bits_below}
 use Rattle.core_history.proofs.Change.{IsTry, IsLeaf, leaf_at, no_leaf, origin, number_in}
 use Rattle.core_history.proofs.Ghost.{Common, Shared, IsLoaded, Stands, bits, last, lead, most_leaves}
+use Rattle.plain_map.proofs.KeyLemmas.{hash_of_key-within}
 
 -- what is found is what it is
 some_same : {A : Type 0} {x y : A} → Some x ≡ Some y → x ≡ y
@@ -297,7 +297,7 @@ module _ (takes : LeavesTakeHashes) (names : DirectoryNamesLeaves) (good_leaves 
   unfolding prefix_of
   goes key =
       let hash = hash_of_key setup.hashing key in
-      let small = hash-within setup.hashing key.k0 key.k1 in
+      let small = hash_of_key-within setup.hashing key in
       let was_lead : was hash ≡ lead setup c root key =
       ap (λ (d : DirectoryState). get_or d.entries (first_bits hash d.depth) 0) t.opens.directory_is in
       elim (hash_goes hash small) [

@@ -11,6 +11,7 @@ use Rattle.plain_map.specs.declared.full.FullKind.TheVariants.{BucketRows, Bucke
 use Rattle.plain_map.specs.declared.keys.Key.{Key}
 use Rattle.plain_map.specs.declared.rules.Rules.{Rules}
 use Rattle.plain_map.specs.declared.calls.Call.TheVariants.{Lookup}
+use Rattle.plain_map.specs.Updates.{IsSmallPair}
 use Rattle.plain_map.specs.Room.{no_rows}
 use Rattle.word_rows.specs.Shape.{Shape, count_of, number_after}
 use Rattle.word_rows.specs.Places.{IsAddress, word_count}
@@ -49,6 +50,7 @@ use Rattle.core_rounds.proofs.Won.{IsStored, row_stored, leaves_stored}
 use Rattle.core_history.proofs.Change.{leaf_at, no_leaf}
 use Rattle.core_rounds.proofs.Runs.{Holds, run_holds, never_stuck}
 use Rattle.core_rounds.proofs.Stored.{after_puts, kept_word, all_stored, shows_puts}
+use Rattle.plain_map.specs.Keys.{no_key}
 
 -- what is there at an index
 at_index : {A : Type 0} (P : A → Type 0) (xs : List A) (i : ℕ) (d : A) → i < length xs → IfSome (slice_get xs i) P →
@@ -134,9 +136,9 @@ module _ (setup : Setup) (s : IsSetup setup) where
   parted : LeavesApart rules leaves
   parted = opening-apart rules (seats_of setup) start setup.first can
 
-  -- the values of the first pairs are small
-  small_pairs : All (λ pair. pair.value < 2 ^ 61) setup.first
-  small_pairs = λ k d lt. (s.pairs k d lt).value
+  -- the values and the bytes of the first pairs are small
+  small_pairs : All IsSmallPair setup.first
+  small_pairs = λ k d lt. (s.pairs k d lt).small
 
   -- a leaf is a good bucket
   good : (i : ℕ) → i < length leaves → IsGood rules (seats_of setup) (leaf_at leaves i)
@@ -277,7 +279,7 @@ module _ (setup : Setup) (s : IsSetup setup) where
     words_at = λ b i. bucket_words setup None (leaf_at leaves b);
     state_at = λ b i. leaf_at leaves b;
     used = λ p. no_rows;
-    op_at = λ p j. record { seat = p; number = 0; call = Lookup (record { k0 = 0; k1 = 0 }) };
+    op_at = λ p j. record { seat = p; number = 0; call = Lookup no_key };
     op_words = λ p j. [];
     rooted = λ p. false;
     first_dir = λ p. 0;

@@ -8,7 +8,7 @@ use Rattle.step_counts.specs.declared.TheConstants.{ITEM_WORDS}
 use Rattle.step_counts.specs.declared.rows.SeatRows.{SeatRows}
 use Rattle.step_counts.specs.StepCounts.{bucket_row_words, directory_row_words, need_of, new_leaves}
 use Rattle.plain_map.specs.declared.calls.Call.{Call}
-use Rattle.plain_map.specs.declared.calls.Call.TheVariants.{Insert, Remove, Lookup}
+use Rattle.plain_map.specs.declared.calls.Call.TheVariants.{Insert, Remove, Lookup, Tally}
 use Rattle.plain_map.specs.declared.full.Full.{Full}
 use Rattle.plain_map.specs.declared.full.FullKind.TheVariants.{OpRows, BucketRows, BucketWords, DirRows}
 use Rattle.plain_map.specs.Calls.{key_in}
@@ -626,12 +626,14 @@ begins_none : (left need : SeatRows) (call : Call) → refusal left need call �
 begins_none left need (Insert key value) e u = enough left need e
 begins_none left need (Remove key) e u = enough left need e
 begins_none left need (Lookup key) e u = cc
+begins_none left need (Tally key amount) e u = enough left need e
 
 -- a call that may begin and is an update may be announced
 update_is : (call : Call) → IsAskable call → is_update call ≡ true → IsUpdate call
 update_is (Insert key value) a u = a
 update_is (Remove key) a u = tt
 update_is (Lookup key) a u = cc
+update_is (Tally key amount) a u = a
 
 -- the most leaves of a directory change
 most_is : (setup : Setup) → most_leaves setup ≡ new_leaves setup.shape.settings

@@ -20,6 +20,7 @@ use Rattle.core_model.specs.Steps.{IsOnWord}
 use Rattle.core_fits.proofs.Whole.{every_step_fits}
 use Rattle.core_bounds.proofs.WorldSteps.{step_same, step_other}
 use Rattle.core_schedules.specs.Good.{ArePlayable, under_way, CanCountOn, IsDealt, IsGood}
+use Rattle.plain_map.specs.Keys.{no_key}
 
 -- the most slots that a seat can need which stands so, and has so many calls left
 abbrev pub left_at : (most : ℕ) → (calls : ℕ) → Stand → ℕ
@@ -296,7 +297,7 @@ pub may_fly : (setup : Setup) (events : List Event) (seat : ℕ) → IsRun setup
     seat_in (world_after setup events) seat ≡ record { account = account; stand = stand } → MayFly setup stand
 may_fly setup events seat run h account Idle is = tt
 may_fly setup events seat run h account (InFlight flight phase) is =
-    let fits = every_step_fits setup events seat (0, Lookup (record { k0 = 0; k1 = 0 }))
+    let fits = every_step_fits setup events seat (0, Lookup no_key)
     (record { account = account; stand = InFlight flight phase }) run h is tt in (
       omega (arith, fits.counts.steps, most_of_all setup flight.call),
       λ e. subst (λ (p : Phase). IsOnWord setup.shape (ask_in setup seat account.used flight p)) e fits.on_word,

@@ -15,6 +15,7 @@ use Rattle.core_world.specs.declared.values.Stepped.{Stepped}
 use Rattle.core_world.specs.declared.values.Stepped.TheVariants.{Refused}
 use Rattle.core_world.specs.Values.{refused_at, new_record, told_of}
 use Rattle.core_world.specs.Steps.{AtStep, Advanced, Happened}
+use Rattle.plain_map.specs.Keys.{no_key}
 
 -- a call is given to an idle seat alone
 pub idle_where_given : (account : Account) (stand : Stand) (begin : ℕ × Call) → FitsStand account stand (Some begin) →
@@ -70,7 +71,7 @@ module _ (shape : Shape) (words : List ℕ) (setup : Setup) (events : List Event
     setup = setup;
     events = events;
     seat = seat;
-    asked = (0, Lookup (record { k0 = 0; k1 = 0 }));
+    asked = (0, Lookup no_key);
     state = record { account = account; stand = InFlight flight phase };
     run = run;
     inside = inside;

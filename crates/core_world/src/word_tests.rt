@@ -17,8 +17,11 @@ use step_counts::{SeatRows, Settings};
 
 // The key of 10.0.0.1:1 and 10.0.0.2:80 over TCP.
 const KEY: Key = Key {
-    k0: 0x0a00_0001_0a00_0002,
-    k1: 0x0000_0000_0100_5006,
+    k0: 0,
+    k1: 0x0a00_0001,
+    k2: 0,
+    k3: 0x0a00_0002,
+    k4: 0x0000_0000_0100_5006,
 };
 
 const ROWS: SeatRows = SeatRows {
@@ -30,29 +33,31 @@ const ROWS: SeatRows = SeatRows {
 
 // The words that are not 0 at the opening without pairs: the second bucket word; each first bucket row's prefix and
 // depth; and the depth and the second entry of the first directory row.
-const OPENING: [(usize, u64); 6] = [(4, 1), (13, 1), (25, 1), (26, 1), (90, 1), (93, 1)];
+const OPENING: [(usize, u64); 6] = [(4, 1), (16, 1), (36, 1), (37, 1), (141, 1), (144, 1)];
 
 // What the insert stores: in which of its steps, in which word, and what.
-const STORES: [(u32, usize, u64); 16] = [
-    // The op row, and the announcement.
+const STORES: [(u32, usize, u64); 18] = [
+    // What is not 0 of the op row, and the announcement.
     (2, 7, 1),
     (3, 8, 1),
-    (4, 9, KEY.k0),
     (5, 10, KEY.k1),
-    (6, 11, 1),
-    (7, 1, 1),
+    (7, 12, KEY.k3),
+    (8, 13, KEY.k4),
+    (9, 14, 1),
+    (10, 1, 1),
     // What is not 0 of bucket row 2, after the bucket's word and row and the announced op were loaded.
-    (32, 39, 1),
-    (33, 40, 1),
-    (35, 42, 1),
-    (36, 43, KEY.k0),
-    (37, 44, KEY.k1),
-    (38, 45, 1),
-    (42, 49, 1),
-    (43, 50, 1),
+    (46, 58, 1),
+    (47, 59, 1),
+    (49, 61, 1),
+    (51, 63, KEY.k1),
+    (53, 65, KEY.k3),
+    (54, 66, KEY.k4),
+    (55, 67, 1),
+    (64, 76, 1),
+    (65, 77, 1),
     // The bucket word, and the done word.
-    (44, 3, 2),
-    (45, 2, 1),
+    (66, 3, 2),
+    (67, 2, 1),
 ];
 
 // A table of one seat, two items and depth 1, opened at depth 1 with these pairs.
@@ -122,15 +127,15 @@ fn run(
 }
 
 // The words after so many steps of the insert.
-fn words_after(steps: u32) -> [u64; 98] {
-    let mut words = [0; 98];
+fn words_after(steps: u32) -> [u64; 149] {
+    let mut words = [0; 149];
     for (at, word) in OPENING {
-        if at < 98 {
+        if at < 149 {
             words[at] = word;
         }
     }
     for (step, at, word) in STORES {
-        if step <= steps && at < 98 {
+        if step <= steps && at < 149 {
             words[at] = word;
         }
     }
@@ -155,11 +160,11 @@ fn first_record(call: Call, reply: Reply, steps: u64, place: u64) -> Record {
 #[test]
 fn an_insert_word_by_word(rt: HostRuntime) -> Result<(), Fail> {
     let call = Call::Insert(KEY, 1);
-    for steps in 0..=45 {
+    for steps in 0..=67 {
         let core = open(rt.alloc(), ROWS, &[])?;
         let (last, left) = run(rt.alloc(), core, call, steps)?;
-        let ended = Some(Stepped::Ended(first_record(call, Reply::New, 45, 2)));
-        assert_eq!(rt; last == ended, steps == 45, "after step {steps}");
+        let ended = Some(Stepped::Ended(first_record(call, Reply::New, 67, 2)));
+        assert_eq!(rt; last == ended, steps == 67, "after step {steps}");
         assert_eq!(rt;
             left.rows.words.as_slice(),
             words_after(steps).as_slice(),
@@ -167,7 +172,7 @@ fn an_insert_word_by_word(rt: HostRuntime) -> Result<(), Fail> {
         );
         assert_eq!(rt;
             left.begun.len() == 1,
-            0 < steps && steps < 45,
+            0 < steps && steps < 67,
             "after step {steps}"
         );
     }
@@ -175,7 +180,7 @@ fn an_insert_word_by_word(rt: HostRuntime) -> Result<(), Fail> {
 }
 
 // A seat without an op row is refused an insert, and no word changes. There is no op row, so that the bucket rows begin
-// at word 7 and the directory at word 85.
+// at word 7 and the directory at word 133.
 #[test]
 fn a_refused_insert(rt: HostRuntime) -> Result<(), Fail> {
     let rows = SeatRows { op_rows: 0, ..ROWS };
@@ -189,7 +194,7 @@ fn a_refused_insert(rt: HostRuntime) -> Result<(), Fail> {
     assert_eq!(rt; last, Some(Stepped::Refused(full)));
     let opening = words_after(0);
     assert_eq!(rt; left.rows.words.get(..7), opening.get(..7));
-    assert_eq!(rt; left.rows.words.get(7..), opening.get(12..));
+    assert_eq!(rt; left.rows.words.get(7..), opening.get(15..));
     Ok(())
 }
 
@@ -197,10 +202,14 @@ fn a_refused_insert(rt: HostRuntime) -> Result<(), Fail> {
 #[test]
 fn a_lookup_of_a_first_pair(rt: HostRuntime) -> Result<(), Fail> {
     let call = Call::Lookup(KEY);
-    let pair = Pair { key: KEY, value: 7 };
+    let pair = Pair {
+        key: KEY,
+        value: 7,
+        bytes: 0,
+    };
     let (_, before) = run(rt.alloc(), open(rt.alloc(), ROWS, &[pair])?, call, 0)?;
-    let (last, left) = run(rt.alloc(), open(rt.alloc(), ROWS, &[pair])?, call, 10)?;
-    let record = first_record(call, Reply::Found(7), 10, 0);
+    let (last, left) = run(rt.alloc(), open(rt.alloc(), ROWS, &[pair])?, call, 14)?;
+    let record = first_record(call, Reply::Found(7), 14, 0);
     assert_eq!(rt; last, Some(Stepped::Ended(record)));
     let old = before.rows.words.as_slice();
     let new = left.rows.words.as_slice();

@@ -18,6 +18,7 @@ use Rattle.core_changes.proofs.Steps.{has_key}
 use Rattle.dir_states.specs.Cuts.{held, below, below_each, cut_leaves}
 use Rattle.dir_states.proofs.TreeLemmas.{put_after, put-front, put-back, below-none, below-other}
 use Rattle.dir_states.proofs.GrowLemmas.{grows, below-small}
+use Rattle.plain_map.specs.Keys.{held_in, no_pair}
 
 -- ---- a key that is new
 
@@ -35,7 +36,7 @@ new-key (p ∷ front) back pair distinct = go (same_key p.key pair.key) (apart f
     apart (q ∷ rest) each = apart rest each.1
 
     go : (b : Bool) → b ≡ false → value_at pair.key front ≡ None →
-        cond b (Some p.value) (value_at pair.key front) ≡ None
+        cond b (Some (held_in p)) (value_at pair.key front) ≡ None
     go true e rest = absurd (no e)
       where
         no : true ≡ false → ⊥
@@ -142,7 +143,7 @@ module _ (rules : Rules) (seats start : ℕ) (range : InRange rules) (within : s
       (sym (below-small rules seats range [] some new free [] [] (rules.depth - start) start from (omega arith)))
     where
       some : Pair
-      some = record { key = record { k0 = 0; k1 = 0 }; value = 0 }
+      some = no_pair
 
       new : value_at some.key [] ≡ None
       new = refl

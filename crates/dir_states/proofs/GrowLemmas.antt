@@ -9,9 +9,10 @@ use Rattle.hash_bits.proofs.PrefixLemmas.{first_bits-suc, div-first_bits_suc}
 use Rattle.plain_map.specs.declared.keys.Key.{Key}
 use Rattle.plain_map.specs.declared.keys.Pair.{Pair}
 use Rattle.plain_map.specs.declared.rules.Rules.{Rules}
+use Rattle.plain_map.specs.Keys.{Session}
 use Rattle.plain_map.specs.PlainObject.{InRange}
 use Rattle.bucket_states.specs.Halves.{half}
-use Rattle.bucket_states.specs.Items.{prefix_of, value_at, appended, items_after, overflows, has_place}
+use Rattle.bucket_states.specs.Items.{prefix_of, value_at, appended, overflows, has_place}
 use Rattle.core_model.specs.Leaves.{halves, split, must_split, split_for}
 use Rattle.core_model.specs.Opening.{insert_of, put_in}
 use Rattle.core_changes.proofs.Totals.{many, many-count}
@@ -43,7 +44,7 @@ module _ (rules : Rules) (seats : ℕ) (range : InRange rules) (front : List Pai
       ∙ ap (λ o. cond (prefix_of rules depth pair.key == prefix) o None) new
       ∙ either (prefix_of rules depth pair.key == prefix)
     where
-      nothing : Option ℕ
+      nothing : Option Session
       nothing = None
 
       either : (b : Bool) → cond b nothing None ≡ None
@@ -69,13 +70,12 @@ module _ (rules : Rules) (seats : ℕ) (range : InRange rules) (front : List Pai
     -- the leaf takes the pair, where there is a place
     put-here : held rules front depth prefix < rules.items →
         put_in rules pair (leaf_with rules seats front depth prefix ∷ []) ≡ leaf_with rules seats now depth prefix ∷ []
-    unfolding items_after
     put-here room =
         ap (λ b. cond b (record (leaf_with rules seats front depth prefix) {
           bucket = record
               (leaf_with rules seats front depth prefix).bucket {
                 items = appended (of depth prefix)
-                    (record { key = pair.key; value = pair.value }) (value_at pair.key (of depth prefix))
+                    pair (value_at pair.key (of depth prefix))
                     (has_place rules (of depth prefix));
               };
         } ∷ []) ((leaf_with rules seats front depth prefix) ∷ [])) inside
@@ -83,7 +83,7 @@ module _ (rules : Rules) (seats : ℕ) (range : InRange rules) (front : List Pai
           bucket = record
               (leaf_with rules seats front depth prefix).bucket {
                 items = appended (of depth prefix)
-                    (record { key = pair.key; value = pair.value }) o (has_place rules (of depth prefix));
+                    pair o (has_place rules (of depth prefix));
               };
         } ∷ [])
         (new-in depth prefix)
@@ -91,7 +91,7 @@ module _ (rules : Rules) (seats : ℕ) (range : InRange rules) (front : List Pai
           bucket = record
               (leaf_with rules seats front depth prefix).bucket {
                 items = appended (of depth prefix)
-                    (record { key = pair.key; value = pair.value }) None b;
+                    pair None b;
               };
         } ∷ []) place
         ∙ ap (λ l. record (leaf_with rules seats front depth prefix) {

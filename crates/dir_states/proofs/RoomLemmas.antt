@@ -7,14 +7,16 @@ use Rattle.std.proofs.lemmas.List.Elements.{All-append, All-cons, All-drop, All-
 use Rattle.plain_map.specs.declared.keys.Pair.{Pair}
 use Rattle.plain_map.specs.declared.rules.Rules.{Rules}
 use Rattle.plain_map.specs.declared.calls.Call.{Call}
-use Rattle.plain_map.specs.declared.calls.Call.TheVariants.{Insert, Remove, Lookup}
+use Rattle.plain_map.specs.declared.calls.Call.TheVariants.{Insert, Remove, Lookup, Tally}
+use Rattle.plain_map.specs.Keys.{Session, pair_of}
+use Rattle.plain_map.specs.PlainObject.{new_session}
 use Rattle.bucket_states.specs.declared.bucket.Bucket.{Bucket}
 use Rattle.bucket_states.specs.declared.ops.Op.{Op}
 use Rattle.bucket_states.specs.Items.{value_at, appended, has_place, items_after}
 use Rattle.bucket_states.specs.Halves.{half}
 use Rattle.bucket_states.specs.States.{BucketState, state_of, HasRoom, KeepsRoom, KeepsShape}
 use Rattle.bucket_states.specs.Change.{answered}
-use Rattle.bucket_states.proofs.ItemLemmas.{length-without}
+use Rattle.bucket_states.proofs.ItemLemmas.{length-tallied, length-without}
 use Rattle.dir_states.specs.declared.leaves.Table.{Table}
 use Rattle.dir_states.specs.declared.values.NewLeaf.{NewLeaf}
 use Rattle.dir_states.specs.Fit.{CanSplit, IsFit}
@@ -22,7 +24,7 @@ use Rattle.dir_states.specs.Rooms.{IsMade, IsTable}
 
 -- ---- how many items there are after a call
 
-appended-few : (rules : Rules) (items : List Pair) (pair : Pair) (held : Option ℕ) (place : Bool) (n : ℕ) →
+appended-few : (rules : Rules) (items : List Pair) (pair : Pair) (held : Option Session) (place : Bool) (n : ℕ) →
     length items ≤ n → (place ≡ true → length items < n)
     → length (appended items pair held place) ≤ n
 appended-few rules items pair (Some held) place n few more = few
@@ -38,10 +40,11 @@ pub items_after-few : (rules : Rules) (items : List Pair) (call : Call) (n : ℕ
     rules.items ≤ n → length (items_after rules items call) ≤ n
 unfolding items_after
 items_after-few rules items (Insert key value) n few room =
-    appended-few rules items (record { key = key; value = value }) (value_at key items) (has_place rules items) n few
+    appended-few rules items (pair_of (key, new_session value)) (value_at key items) (has_place rules items) n few
     (λ e. omega (arith, ltb-true (length items) rules.items e, room))
 items_after-few rules items (Remove key) n few room = omega (arith, length-without key items, few)
 items_after-few rules items (Lookup key) n few room = few
+items_after-few rules items (Tally key amount) n few room = omega (arith, length-tallied key amount items, few)
 
 -- ---- a leaf that was made
 

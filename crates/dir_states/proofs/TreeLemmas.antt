@@ -10,7 +10,7 @@ use Rattle.plain_map.specs.declared.keys.Key.{Key}
 use Rattle.plain_map.specs.declared.keys.Pair.{Pair}
 use Rattle.plain_map.specs.declared.rules.Rules.{Rules}
 use Rattle.plain_map.specs.declared.calls.Call.{Call}
-use Rattle.bucket_states.specs.Items.{prefix_of, items_after, overflows}
+use Rattle.bucket_states.specs.Items.{prefix_of, items_with, overflows}
 use Rattle.core_model.specs.Leaves.{NewLeaf, is_in, at_leaf, halves, split, must_split, split_for}
 use Rattle.core_model.specs.Opening.{insert_of, put_in}
 use Rattle.core_changes.proofs.Totals.{one_if, many, many-count, total-append}
@@ -131,7 +131,7 @@ module _ (rules : Rules) (pair : Pair) where
 
   -- the leaf with the pair
   abbrev pub with_item : NewLeaf → List NewLeaf
-  with_item leaf = record leaf { bucket = record leaf.bucket { items = items_after rules leaf.bucket.items call } } ∷ []
+  with_item leaf = record leaf { bucket = record leaf.bucket { items = items_with rules leaf.bucket.items pair } } ∷ []
 
   -- leaves without the key in front of it, and behind it, stay
   pub put-front : (most : ℕ) (xs ys : List NewLeaf) → many (has_key rules key) xs ≡ 0 →

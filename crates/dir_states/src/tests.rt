@@ -17,8 +17,11 @@ use step_counts::Settings;
 // ports 1, 2 and 3 begin with 000, port 8192 with 001, port 16384 with 010, and port 32768 with 100.
 fn key(port: u64) -> Key {
     Key {
-        k0: 0x0a00_0001_0a00_0002,
-        k1: port << 24 | 80 << 8 | 6,
+        k0: 0,
+        k1: 0x0a00_0001,
+        k2: 0,
+        k3: 0x0a00_0002,
+        k4: port << 24 | 80 << 8 | 6,
     }
 }
 
@@ -26,6 +29,7 @@ fn pair(port: u64, value: u64) -> Pair {
     Pair {
         key: key(port),
         value,
+        bytes: 0,
     }
 }
 

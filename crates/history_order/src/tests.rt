@@ -13,8 +13,11 @@ use word_rows::Layout;
 
 // The key of 10.0.0.1:1 and 10.0.0.2:80 over TCP.
 const KEY: Key = Key {
-    k0: 0x0a00_0001_0a00_0002,
-    k1: 0x0000_0000_0100_5006,
+    k0: 0,
+    k1: 0x0a00_0001,
+    k2: 0,
+    k3: 0x0a00_0002,
+    k4: 0x0000_0000_0100_5006,
 };
 
 // A lookup of seat 0, from bucket row 1, whose caller had seen the insert of seat 1.

@@ -12,12 +12,12 @@ use Rattle.std.specs.List.{AllByRecursion}
 use Rattle.plain_map.specs.declared.keys.Key.{Key}
 use Rattle.plain_map.specs.declared.rules.Rules.{Rules}
 use Rattle.plain_map.specs.declared.calls.Call.{Call}
-use Rattle.plain_map.specs.declared.calls.Call.TheVariants.{Insert, Remove, Lookup}
-use Rattle.plain_map.specs.declared.calls.Reply.TheVariants.{Gone, Found, Absent}
+use Rattle.plain_map.specs.declared.calls.Call.TheVariants.{Insert, Remove, Lookup, Tally}
+use Rattle.plain_map.specs.declared.calls.Reply.TheVariants.{Absent}
 use Rattle.plain_map.specs.declared.records.Record.{Record}
 use Rattle.plain_map.specs.Calls.{key_in}
-use Rattle.plain_map.specs.Keys.{key_cmp}
-use Rattle.plain_map.specs.PlainObject.{Sessions, class_of, class_size, has_room, insert_reply, inserted, reply_of, map_after}
+use Rattle.plain_map.specs.Keys.{Session, key_cmp}
+use Rattle.plain_map.specs.PlainObject.{Sessions, class_of, class_size, found_in, gone_from, grown, has_room, insert_reply, inserted, map_after, new_session, reply_of, sum_of, tallied}
 use Rattle.plain_map.proofs.KeyLemmas.{keys_total, exact_keys}
 use Rattle.plain_map.proofs.LocalityLemmas.{map_after-other}
 use Rattle.bucket_states.specs.Items.{same_key}
@@ -38,6 +38,7 @@ abbrev pub FindsRoom : Rules → Sessions → Call → Type 0
 FindsRoom rules m (Insert key value) = get m key ≡ None → has_room rules m key ≡ true
 FindsRoom rules m (Remove key) = Unit {0}
 FindsRoom rules m (Lookup key) = Unit {0}
+FindsRoom rules m (Tally key amount) = Unit {0}
 
 -- a reply depends on what is held at the key alone
 pub reply_same : (rules : Rules) (m n : Sessions) (call : Call) → FindsRoom rules m call → FindsRoom rules n call →
@@ -45,7 +46,7 @@ pub reply_same : (rules : Rules) (m n : Sessions) (call : Call) → FindsRoom ru
 unfolding reply_of
 reply_same rules m n (Insert key value) room roomy same = go (get n key) refl
   where
-    go : (o : Option ℕ) → get n key ≡ o →
+    go : (o : Option Session) → get n key ≡ o →
         insert_reply (get m key) (has_room rules m key) ≡ insert_reply (get n key) (has_room rules n key)
     go (Some held) is =
         ap (λ o. insert_reply o (has_room rules m key)) (same ∙ is)
@@ -53,8 +54,9 @@ reply_same rules m n (Insert key value) room roomy same = go (get n key) refl
     go None is =
         ap (λ o. insert_reply o (has_room rules m key)) (same ∙ is) ∙ ap (insert_reply None) (room (same ∙ is))
         ∙ sym (ap (λ o. insert_reply o (has_room rules n key)) is ∙ ap (insert_reply None) (roomy is))
-reply_same rules m n (Remove key) room roomy same = ap (λ o. option_map_or Gone o Absent) same
-reply_same rules m n (Lookup key) room roomy same = ap (λ o. option_map_or Found o Absent) same
+reply_same rules m n (Remove key) room roomy same = ap (λ o. option_map_or gone_from o Absent) same
+reply_same rules m n (Lookup key) room roomy same = ap (λ o. option_map_or found_in o Absent) same
+reply_same rules m n (Tally key amount) room roomy same = ap (λ o. option_map_or (sum_of amount) o Absent) same
 
 -- and so does what is held there then
 pub held_same : (rules : Rules) (m n : Sessions) (call : Call) → FindsRoom rules m call → FindsRoom rules n call →
@@ -63,24 +65,40 @@ pub held_same : (rules : Rules) (m n : Sessions) (call : Call) → FindsRoom rul
 unfolding map_after
 held_same rules m n (Insert key value) room roomy same = go (get n key) refl
   where
-    go : (o : Option ℕ) → get n key ≡ o →
-        get (inserted m key value (get m key) (has_room rules m key)) key
-        ≡ get (inserted n key value (get n key) (has_room rules n key)) key
+    new : Session
+    new = new_session value
+
+    go : (o : Option Session) → get n key ≡ o →
+        get (inserted m key new (get m key) (has_room rules m key)) key
+        ≡ get (inserted n key new (get n key) (has_room rules n key)) key
     go (Some held) is =
-        ap (λ o. get (inserted m key value o (has_room rules m key)) key) (same ∙ is) ∙ same
-        ∙ sym (ap (λ o. get (inserted n key value o (has_room rules n key)) key) is)
+        ap (λ o. get (inserted m key new o (has_room rules m key)) key) (same ∙ is) ∙ same
+        ∙ sym (ap (λ o. get (inserted n key new o (has_room rules n key)) key) is)
     go None is =
-        ap (λ o. get (inserted m key value o (has_room rules m key)) key) (same ∙ is)
-        ∙ ap (λ b. get (inserted m key value None b) key) (room (same ∙ is))
-        ∙ get-insert keys_total m key value key
-        ∙ ap (cond (eq_by_cmp key_cmp key key) (Some value)) same
-        ∙ sym (get-insert keys_total n key value key)
-        ∙ sym (ap (λ o. get (inserted n key value o (has_room rules n key)) key) is
-        ∙ ap (λ b. get (inserted n key value None b) key) (roomy is))
+        ap (λ o. get (inserted m key new o (has_room rules m key)) key) (same ∙ is)
+        ∙ ap (λ b. get (inserted m key new None b) key) (room (same ∙ is))
+        ∙ get-insert keys_total m key new key
+        ∙ ap (cond (eq_by_cmp key_cmp key key) (Some new)) same
+        ∙ sym (get-insert keys_total n key new key)
+        ∙ sym (ap (λ o. get (inserted n key new o (has_room rules n key)) key) is
+        ∙ ap (λ b. get (inserted n key new None b) key) (roomy is))
 held_same rules m n (Remove key) room roomy same =
     get-remove keys_total m key key ∙ ap (cond (eq_by_cmp key_cmp key key) None) same
     ∙ sym (get-remove keys_total n key key)
 held_same rules m n (Lookup key) room roomy same = same
+held_same rules m n (Tally key amount) room roomy same = go (get n key) refl
+  where
+    go : (o : Option Session) → get n key ≡ o →
+        get (tallied m key amount (get m key)) key ≡ get (tallied n key amount (get n key)) key
+    go None is =
+        ap (λ o. get (tallied m key amount o) key) (same ∙ is) ∙ same
+        ∙ sym (ap (λ o. get (tallied n key amount o) key) is)
+    go (Some held) is =
+        ap (λ o. get (tallied m key amount o) key) (same ∙ is)
+        ∙ get-insert keys_total m key (grown held amount) key
+        ∙ ap (cond (eq_by_cmp key_cmp key key) (Some (grown held amount))) same
+        ∙ sym (get-insert keys_total n key (grown held amount) key)
+        ∙ sym (ap (λ o. get (tallied n key amount o) key) is)
 
 -- after another call that finds room as before, a call is answered as before
 pub reply_after : (rules : Rules) (m : Sessions) (first second : Call) → key_in second ≢ key_in first →
@@ -151,6 +169,10 @@ held_after rules m (Remove other) key held = elim (one_key key other) [
     none_both true none = refl
     none_both false none = none
 held_after rules m (Lookup other) key held = inl held
+held_after rules m (Tally other amount) key held = elim (one_key key other) [
+  | inl is ↦ inl (λ none. held (ap (λ o. get (tallied m other amount o) key) (ap (get m) (sym is) ∙ none) ∙ none))
+  | inr not ↦ inl (λ none. held (map_after-other rules m (Tally other amount) key not ∙ none))
+]
 
 -- some of the records have room after one of them
 pub roomy_after : (rules : Rules) (m : Sessions) (records some : List Record) (r : Record) → Roomy rules m records →
@@ -186,12 +208,12 @@ all_apart m k (x ∷ ks) e never = (
 )
 
 -- a test of a value that is not there fails
-nothing_held : (b : Bool) (o : Option ℕ) → o ≡ None → is_some (cond b o None) ≡ false
+nothing_held : (b : Bool) (o : Option Session) → o ≡ None → is_some (cond b o None) ≡ false
 nothing_held true o e = ap is_some e
 nothing_held false o e = refl
 
 -- and one that passes tells both
-both_held : (b : Bool) (o : Option ℕ) → is_some (cond b o None) ≡ true → (b ≡ true) × (o ≢ None)
+both_held : (b : Bool) (o : Option Session) → is_some (cond b o None) ≡ true → (b ≡ true) × (o ≢ None)
 both_held true (Some v) h = (refl, λ e. cc)
 both_held true None h = absurd (true≢false (sym h))
 both_held false o h = absurd (true≢false (sym h))
@@ -231,3 +253,4 @@ finds_room rules m records r roomy there = go r.call refl
         (inserts_in key r records there (subst (λ (c : Call). Inserts key c) (sym is) refl))
     go (Remove key) is = tt
     go (Lookup key) is = tt
+    go (Tally key amount) is = tt

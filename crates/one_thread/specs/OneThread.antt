@@ -7,7 +7,7 @@ use Rattle.std.specs.FinMap.{get}
 use Rattle.plain_map.specs.declared.keys.Key.{Key}
 use Rattle.plain_map.specs.declared.rules.Rules.{Rules}
 use Rattle.plain_map.specs.declared.calls.Call.{Call}
-use Rattle.plain_map.specs.declared.calls.Call.TheVariants.{Insert, Remove, Lookup}
+use Rattle.plain_map.specs.declared.calls.Call.TheVariants.{Insert, Remove, Lookup, Tally}
 use Rattle.plain_map.specs.declared.records.Record.{Record}
 use Rattle.plain_map.specs.Calls.{key_in}
 use Rattle.plain_map.specs.PlainObject.{Sessions, class_of}
@@ -32,6 +32,7 @@ abbrev pub Inserts : Key → Call → Type 0
 Inserts key (Insert other value) = other ≡ key
 Inserts key (Remove other) = ⊥
 Inserts key (Lookup other) = ⊥
+Inserts key (Tally other amount) = ⊥
 
 -- one of these calls inserts this key
 abbrev pub SomeInserts : Key → List Record → Type 0

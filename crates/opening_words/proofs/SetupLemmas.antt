@@ -56,7 +56,7 @@ module _ (setup : Setup) where
     leaves_spelled = λ i d h.
         (bucket_row_sound setup (get_or leaves i d).bucket.prefix (get_or leaves i d).bucket.depth None
         (get_or leaves i d).bucket tt
-        ((opens setup s).good i d h).0 ((opens setup s).small (λ k e lt. (s.pairs k e lt).value) i d h) refl
+        ((opens setup s).good i d h).0 ((opens setup s).small (λ k e lt. (s.pairs k e lt).small) i d h) refl
         refl).spells.0
 
     -- the directory before they are put in

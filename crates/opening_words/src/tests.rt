@@ -22,18 +22,22 @@ const ROWS: SeatRows = SeatRows {
 // The key of 10.0.0.1 with this port and 10.0.0.2:80 over TCP, whose hash by ports begins with the port.
 fn key(port: u16) -> Key {
     Key {
-        k0: 0x0a00_0001_0a00_0002,
-        k1: u64::from(port) << 24 | 0x5006,
+        k0: 0,
+        k1: 0x0a00_0001,
+        k2: 0,
+        k3: 0x0a00_0002,
+        k4: u64::from(port) << 24 | 0x5006,
     }
 }
 
-// That key with a value.
-fn pair(port: u16, value: u32) -> Pair
+// That key with a value and bytes.
+fn pair(port: u16, value: u32, bytes: u32) -> Pair
     ensures { IsPair result }
 {
     Pair {
         key: key(port),
         value: u64::from(value),
+        bytes: u64::from(bytes),
     }
 }
 
@@ -58,10 +62,10 @@ fn three(first: Pair, second: Pair, third: Pair) -> Option<[Pair; 3]>
     Some([first, second, third])
 }
 
-// The 130 words of a table of one seat, two items and depth 2, which are 0 but for these parts, each from the word with
+// The 197 words of a table of one seat, two items and depth 2, which are 0 but for these parts, each from the word with
 // its number on.
 fn words_with(alloc: Global, parts: &[(usize, &[u64])]) -> Result<Vec<u64>, AllocError> {
-    let mut words = vec![in alloc; 0; 130]?;
+    let mut words = vec![in alloc; 0; 197]?;
     for (at, part) in parts {
         put_part(&mut words, *at, part);
     }
@@ -80,17 +84,18 @@ fn put_part(words: &mut Vec<u64>, at: usize, part: &[u64]) {
 
 // The words of a table that begins with the ports 2, 16384 and 1, in this order. The ports 1, 2 and 16384 have the
 // first two bits 0, 0 and 1, so that a leaf of depth 1 is split once. Of the words, 3 to 8 are the bucket words, those
-// from 14 on bucket rows of 13 words, and those from 118 on the directory's.
+// from 17 on bucket rows of 21 words, and those from 185 on the directory's. Each item has its bytes.
 fn words_of_three(alloc: Global) -> Result<Vec<u64>, AllocError> {
     let (one, two, far) = (key(1), key(2), key(16384));
     words_with(
         alloc,
         &[
             (3, &[0, 1, 2]),
-            (14, &[0, 2, 0, 0, 2, two.k0, two.k1, 1, one.k0, one.k1, 2]),
-            (27, &[1, 2, 0, 0, 1, far.k0, far.k1, 3]),
-            (40, &[1, 1]),
-            (118, &[2, 0, 0, 1, 2, 2]),
+            (17, &[0, 2, 0, 0, 2, 0, two.k1, 0, two.k3, two.k4, 1, 5]),
+            (29, &[0, one.k1, 0, one.k3, one.k4, 2, 10]),
+            (38, &[1, 2, 0, 0, 1, 0, far.k1, 0, far.k3, far.k4, 3, 0]),
+            (59, &[1, 1]),
+            (185, &[2, 0, 0, 1, 2, 2]),
         ],
     )
 }
@@ -100,7 +105,7 @@ fn words_of_three(alloc: Global) -> Result<Vec<u64>, AllocError> {
 fn room_is_used_again(rt: HostRuntime) -> Result<(), Fail> {
     let settings = Settings::new(1, 2, 2, 1)?;
     let layout = Layout::new(&settings, &[ROWS; 1]);
-    let Some(first) = three(pair(2, 1), pair(16384, 3), pair(1, 2)) else {
+    let Some(first) = three(pair(2, 1, 5), pair(16384, 3, 0), pair(1, 2, 10)) else {
         panic!(rt; "the keys differ");
     };
     let mut opener = Opener::with_room(rt.alloc(), &settings)?;
@@ -119,9 +124,9 @@ fn room_is_used_again(rt: HostRuntime) -> Result<(), Fail> {
         rt.alloc(),
         &[
             (3, &[0, 1]),
-            (14, &[0, 1]),
-            (27, &[1, 1]),
-            (118, &[1, 0, 0, 1]),
+            (17, &[0, 1]),
+            (38, &[1, 1]),
+            (185, &[1, 0, 0, 1]),
         ],
     )?;
     assert_eq!(rt; words, of_none);
@@ -134,12 +139,12 @@ fn room_is_used_again(rt: HostRuntime) -> Result<(), Fail> {
 fn words_are_made_at_once(rt: HostRuntime) -> Result<(), Fail> {
     let settings = Settings::new(1, 2, 2, 0)?;
     let layout = Layout::new(&settings, &[ROWS; 1]);
-    let Some(first) = three(pair(2, 1), pair(16384, 3), pair(1, 2)) else {
+    let Some(first) = three(pair(2, 1, 5), pair(16384, 3, 0), pair(1, 2, 10)) else {
         panic!(rt; "the keys differ");
     };
     let words = first_words(rt.alloc(), &layout, Hashing::Ports(0), &first)?;
     assert_eq!(rt; words, words_of_three(rt.alloc())?);
-    let Some(first) = three(pair(1, 1), pair(2, 2), pair(3, 3)) else {
+    let Some(first) = three(pair(1, 1, 0), pair(2, 2, 0), pair(3, 3, 0)) else {
         panic!(rt; "the keys differ");
     };
     match first_words(rt.alloc(), &layout, Hashing::Ports(0), &first) {

@@ -7,12 +7,12 @@ ghost use Rattle.play_runner.specs.Played.{most_steps_in, steps_of};
 use plain_map::Call;
 use trace_share::Outcome;
 
-// Whether it is an insert or a remove.
+// Whether it is an insert, a remove or a tally.
 fn is_update(call: &Call) -> bool
     ensures { result ≡ is_update call.now }
 {
     match call {
-        Call::Insert(_, _) | Call::Remove(_) => true,
+        Call::Insert(_, _) | Call::Remove(_) | Call::Tally(_, _) => true,
         Call::Lookup(_) => false,
     }
 }

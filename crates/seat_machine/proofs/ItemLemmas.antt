@@ -1,5 +1,6 @@
 -- A key among items that are gone through one by one.
-use Rattle.std.proofs.Common.{◌≡◌, ◌<◌, ◌+◌, ◌*◌, ◌∙◌, ℕ, zero, suc, Bool, true, false, cond, List, [], ◌∷◌, ◌++◌, length, take, drop, Option, Some, refl, sym, ap, arith, add-one}
+use Rattle.std.proofs.Common.{◌≡◌, ◌<◌, ◌+◌, ◌*◌, ◌∙◌, ℕ, zero, suc, Bool, true, false, cond, List, [], ◌∷◌, ◌++◌, length, take, drop, Option, Some, None, refl, sym, ap, arith, add-one}
+use Rattle.std.proofs.lemmas.List.{take_all}
 use Rattle.step_counts.specs.declared.TheConstants.{ITEM_WORDS}
 use Rattle.word_rows.specs.Blocks.{block, first_values}
 use Rattle.word_rows.specs.KeyWords.{pair_of_words}
@@ -14,23 +15,42 @@ use Rattle.core_model.specs.Phases.{Phase, LookItems, StoreDone}
 use Rattle.bucket_states.specs.Items.{reply_in}
 use Rattle.seat_machine.specs.Going.{Going, Leads}
 use Rattle.seat_machine.proofs.RunLemmas.{counted, counted_leads}
+use Rattle.std.specs.Option.{option_map_or}
+use Rattle.plain_map.specs.declared.calls.Reply.TheVariants.{Absent, Found}
+use Rattle.plain_map.specs.Keys.{Session, held_in}
+use Rattle.plain_map.specs.PlainObject.{found_in}
 use Rattle.plain_map.specs.declared.keys.Key.{Key}
 use Rattle.plain_map.specs.declared.keys.Pair.{Pair}
-use Rattle.bucket_states.specs.Items.{same_key, value_at}
+use Rattle.bucket_states.specs.Items.{number_at, same_key, value_at}
 use Rattle.seat_machine.specs.Items.{or_found}
 
--- by whether the first pair has the key
-by_test : (b : Bool) (value : ℕ) (long short : Option ℕ) (key : Key) (pair : Pair) → long ≡ or_found short key pair →
-    cond b (Some value) long ≡ or_found (cond b (Some value) short) key pair
-by_test true value long short key pair same = refl
-by_test false value long short key pair same = same
+-- the session number of what is held
+abbrev number_in : Option Session → Option ℕ
+number_in held = option_map_or (λ session. Some session.value) held None
 
--- the value among one pair more
-pub value_at-more : (key : Key) (items : List Pair) (pair : Pair) →
-    value_at key (items ++ pair ∷ []) ≡ or_found (value_at key items) key pair
-value_at-more key [] pair = refl
-value_at-more key (p ∷ ps) pair = by_test (same_key p.key key) p.value (value_at key (ps ++ pair ∷ []))
-    (value_at key ps) key pair (value_at-more key ps pair)
+-- by whether the first pair has the key
+by_test : (b : Bool) (held : Session) (long short : Option Session) (key : Key) (pair : Pair) →
+    number_in long ≡ or_found (number_in short) key pair →
+    number_in (cond b (Some held) long) ≡ or_found (number_in (cond b (Some held) short)) key pair
+by_test true held long short key pair same = refl
+by_test false held long short key pair same = same
+
+-- the number among one pair more
+pub number_at-more : (key : Key) (items : List Pair) (pair : Pair) →
+    number_at key (items ++ pair ∷ []) ≡ or_found (number_at key items) key pair
+number_at-more key [] pair = alone (same_key pair.key key)
+  where
+    alone : (b : Bool) → number_in (cond b (Some (held_in pair)) None) ≡ cond b (Some pair.value) None
+    alone true = refl
+    alone false = refl
+number_at-more key (p ∷ ps) pair = by_test (same_key p.key key) (held_in p) (value_at key (ps ++ pair ∷ []))
+    (value_at key ps) key pair (number_at-more key ps pair)
+
+-- a lookup tells the session number alone
+pub found_by_number : (held : Option Session) →
+    option_map_or found_in held Absent ≡ option_map_or Found (number_in held) Absent
+found_by_number (Some session) = refl
+found_by_number None = refl
 
 -- values that are alike
 first_values_same : {A : Type 0} → (f g : ℕ → A) (n : ℕ) → ((k : ℕ) → k < n → f k ≡ g k) →
@@ -50,16 +70,15 @@ drop_front (x ∷ xs) back zero e = absurd (omega (arith, e))
 drop_front (x ∷ xs) back (suc n) e = drop_front xs back n (omega (arith, e))
 
 -- the words of one more item
-pub items_more : (words : List ℕ) (i k0 k1 value : ℕ) → length words ≡ i * ITEM_WORDS →
-    items_of_words (i + 1) (words ++ k0 ∷ k1 ∷ value ∷ []) ≡ items_of_words i words
-    ++ record { key = record { k0 = k0; k1 = k1 }; value = value } ∷ []
-items_more words i k0 k1 value is =
-    let tail = k0 ∷ k1 ∷ value ∷ [] in
-    let f : ℕ → Pair = λ k. pair_of_words (block ITEM_WORDS k (words ++ tail)) in
+pub items_more : (words item : List ℕ) (i : ℕ) → length words ≡ i * ITEM_WORDS → length item ≡ ITEM_WORDS →
+    items_of_words (i + 1) (words ++ item) ≡ items_of_words i words ++ pair_of_words item ∷ []
+items_more words item i is wide =
+    let f : ℕ → Pair = λ k. pair_of_words (block ITEM_WORDS k (words ++ item)) in
+    let last : block ITEM_WORDS i (words ++ item) ≡ item =
+    ap (take ITEM_WORDS) (drop_front words item (i * ITEM_WORDS) is) ∙ take_all ITEM_WORDS item (omega (arith, wide)) in
     first_values_next f i
     ∙ (λ j. first_values_same f (λ k. pair_of_words (block ITEM_WORDS k words)) i
-    (λ k h. ap pair_of_words (block-append ITEM_WORDS k i words tail is h)) j
-    ++ ap (λ (ws : List ℕ). pair_of_words (take ITEM_WORDS ws)) (drop_front words tail (i * ITEM_WORDS) is) j ∷ [])
+    (λ k h. ap pair_of_words (block-append ITEM_WORDS k i words item is h)) j ++ pair_of_words (last j) ∷ [])
 
 -- the phase after all items
 abbrev pub whole_items : Going → (row count : ℕ) → List ℕ → Phase

@@ -74,7 +74,7 @@ length-more words word = length-append words (word ∷ [])
 module _ (family : List ℕ → Going) (n : ℕ) (next : (words : List ℕ) (word : ℕ) → length words < n →
     goes (family words) word ≡ family (words ++ word ∷ [])) where
   -- from the words that were found before
-  leads_from : (was words : List ℕ) → length was + length words ≤ n → goes_by (family was) words ≡ family (was ++ words)
+  pub leads_from : (was words : List ℕ) → length was + length words ≤ n → goes_by (family was) words ≡ family (was ++ words)
   leads_from was [] h = ap family (sym (append-nil was))
   leads_from was (w ∷ ws) h =
       let one = length-more was w in
@@ -88,6 +88,14 @@ module _ (family : List ℕ → Going) (n : ℕ) (next : (words : List ℕ) (wor
 -- a family loads words one after the other
 pub leads_reads : (family : List ℕ → Going) (start n : ℕ) → Leads family start n → Reads (family []) start n
 leads_reads family start n l words h = ap action (leads family n l.next words (omega (arith, h))) ∙ l.asked words h
+
+-- and goes on to do so
+pub reads_on : (family : List ℕ → Going) (start n : ℕ) → Leads family start n → (was : List ℕ) (at m : ℕ) →
+    length was + m ≤ n → at ≡ start + length was → Reads (family was) at m
+reads_on family start n l was at m room is words h =
+    let both = length-append was words in
+    ap action (leads_from family n l.next was words (omega (arith, room, h)))
+    ∙ l.asked (was ++ words) (omega (arith, room, h, both)) ∙ ap Load (omega (arith, is, both))
 
 -- while the words are short
 pub short_is : (n : ℕ) (short whole : List ℕ → Phase) (words : List ℕ) → length words < n →

@@ -4,7 +4,7 @@ use Rattle.step_counts.specs.declared.TheConstants.{ITEM_WORDS}
 use Rattle.plain_map.specs.declared.keys.Key.{Key}
 use Rattle.plain_map.specs.declared.keys.Pair.{Pair}
 use Rattle.word_rows.specs.BucketWords.{items_of_words}
-use Rattle.bucket_states.specs.Items.{same_key, value_at}
+use Rattle.bucket_states.specs.Items.{number_at, same_key}
 use Rattle.core_model.specs.Goes.{after_items}
 use Rattle.seat_machine.specs.Going.{Going, later}
 
@@ -18,4 +18,4 @@ pub record HasLooked (first now : Going) (row count : ℕ) (key : Key) (i : ℕ)
   pub words : List ℕ
   pub long : length words ≡ i * ITEM_WORDS
   pub goes : now ≡ later first (length words) (after_items first.setup first.flight row count words)
-  pub value : found ≡ value_at key (items_of_words i words)
+  pub value : found ≡ number_at key (items_of_words i words)

@@ -1,4 +1,9 @@
 //! An update announces itself.
+//!
+//! **Words**: an op row of the seat's own, which nobody reads before it is announced; then the seat's announcement.
+//! **Keeps**: an announced op row is whole and never changes, so that whoever finds the announcement may load the row
+//! word by word.
+//! **Steps**: `OP_WORDS + 1`, all of them stores.
 
 ghost use Rattle.std.specs.Prelude.{◌≡◌, ◌+◌, ◌<◌, ◌^◌};
 ghost use Rattle.plain_map.specs.declared.full.FullKind.TheVariants.{OpRows};
@@ -27,7 +32,7 @@ pub fn store_op<S: Steps>(steps: &mut S, start: u64, op: &[u64; OP_WORDS])
         (S.now steps.old).account.used) 0) }
     requires few { start < 2 ^ 63 }
     requires op { op.now ≡ words_of_op (op_row_of (S.now steps.old).flight) }
-    ensures { S.now steps.new ≡ later (S.now steps.old) 5 Announce }
+    ensures { S.now steps.new ≡ later (S.now steps.old) OP_WORDS Announce }
 {
     store_run(steps, start, op);
 }
@@ -41,12 +46,13 @@ pub fn announce<S: Steps>(steps: &mut S, desk: &Desk, used: &mut SeatRows, op: &
     requires used { used.old ≡ (S.now steps.old).account.used }
     requires op { op.now ≡ words_of_op (op_row_of (S.now steps.old).flight) }
     ensures used { used.new ≡ record used.old { op_rows = used.old.op_rows + 1 } }
-    ensures goes { S.now steps.new ≡ went (S.now steps.old) used.new 6 (FindRoot ForFirstRound) }
+    ensures goes { S.now steps.new ≡ went (S.now steps.old) used.new (OP_WORDS + 1) (FindRoot ForFirstRound) }
 {
     steps.stands();
     let row = desk.first.op_rows + used.op_rows;
     store_op(steps, desk.layout.op_word(row, 0), op);
     steps.stands();
+    // One store shows the whole row. From here on any seat may carry the call out.
     steps.store(desk.layout.announcement(desk.seat), row + 1);
     used.op_rows += 1;
 }

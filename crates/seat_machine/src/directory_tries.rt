@@ -1,4 +1,14 @@
 //! A directory try.
+//!
+//! **Words**: loads the root and its directory row, the announcements and their op rows, and the buckets of these ops;
+//! stores bucket words, bucket rows and a directory row of the seat's own; exchanges the root.
+//! **Keeps**: the change replaces each frozen bucket that lacks an op which was found, the round's own among them, and
+//! answers these ops in the new leaves.
+//! **Why it ends**: when a round's directory tries begin, the op is announced, and the bucket is frozen without it. If
+//! two exchanges of the root are lost, whoever won the second had loaded the root since then, and after it the
+//! announcements and the bucket. So that change has replaced the bucket, with the op. In the proof: `Carried.replaced`
+//! and `Carried.carried` in `core_history/proofs/Shared.antt`, and `lost` in `core_rounds/proofs/DirStep.antt`; as a
+//! promise `LostRootsShow`.
 
 ghost use Rattle.std.specs.Prelude.{◌≡◌, ◌+◌, ◌<◌, ◌≤◌, ◌^◌, [], All, List, length, map};
 ghost use Rattle.plain_map.specs.Calls.{key_in};
@@ -131,10 +141,12 @@ fn publish<S: Steps>(
 {
     steps.stands();
     let root = desk.first.directory_rows + used.directory_rows;
+    // One exchange shows the directory row and all new leaves.
     if steps.exchange(desk.layout.root(), found.attempt.root, root) != found.attempt.root {
         return if found.attempt.turn == 1 {
             Changed::LostRoot(found.attempt.first)
         } else {
+            // The bucket is replaced, and the leaf of the key has the op: the next find leads to it.
             Changed::Left
         };
     }
@@ -231,6 +243,7 @@ pub fn try_directory<S: Steps>(
     let (root, first) = load_directory(steps, desk, &round, turn, first, &mut room.directory);
     let loaded = DIRECTORY_HEAD_WORDS as u64 + room.directory.entries.len() as u64;
     if bucket_in(&desk.rules, &own.key, &room.directory, &own.key.key) != round.bucket {
+        // Another seat has replaced the bucket, with the op or without it: the next find tells.
         return (Changed::Left, loaded);
     }
     let attempt = DirectoryAttempt {

@@ -24,6 +24,7 @@ pub fn find<S: Steps>(steps: &mut S, desk: &Desk, aim: Aim, hash: u64) -> (u64, 
     requires hash { hash ≡ hash_of_key desk.now.rules.hashing (key_in (S.now steps.old).flight.call) }
     ensures { S.now steps.new ≡ later (S.now steps.old) 3 (after_find aim result.0 result.1) }
 {
+    // The root first: the directory row that it names is published, and never changes.
     let root = steps.load(desk.layout.root());
     steps.stands();
     let start = desk.directory_row(root);
@@ -43,5 +44,7 @@ pub fn see_done<S: Steps>(steps: &mut S, desk: &Desk, seen: &mut [u64])
     ensures len { length seen.new ≡ length seen.old }
     ensures few { All (λ n. n < 2 ^ 32) seen.new }
 {
+    // Before all else: the calls that are counted here had ended before this call had any effect, so they stand before
+    // it in the order.
     load_run(steps, desk.layout.done(0), seen);
 }

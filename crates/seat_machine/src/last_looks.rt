@@ -1,4 +1,9 @@
 //! The last look of an update, at the bucket of its key.
+//!
+//! The first round's bucket may have been replaced without the op, by a seat that had loaded the announcements before
+//! this one was made. The second round's bucket stands in the directory since a change after the first find. So whoever
+//! replaced it had loaded a later root than that find, and after it the announcements, with this one among them. So the
+//! row that is found here has the op (`BeforeLastLook`), and neither of the two arms that end the program is reached.
 
 ghost use Rattle.std.specs.Prelude.{◌≡◌, ◌+◌, ◌<◌, ◌≤◌, ◌^◌};
 ghost use Rattle.step_counts.specs.StepCounts.{bucket_row_words};

@@ -34,7 +34,7 @@ mod words;
 
 pub use desk::Desk;
 pub use limits::MOST_WORDS;
-pub use lookups::lookup;
+pub use lookups::{glance, lookup};
 pub use room::Room;
 pub use steps::Steps;
 pub use updates::update;

@@ -1,4 +1,7 @@
 //! The leg of a lookup at the row of its bucket.
+//!
+//! The row that the word names is published and never changes, even if the bucket has got another one since. The answer
+//! is that of this row; in the order the lookup stands after it and before the next one.
 
 ghost use Rattle.std.specs.Prelude.{◌≡◌, ◌+◌, ◌*◌, ◌<◌, ◌≤◌, ◌^◌, []};
 ghost use Rattle.std.specs.Option.{option_map_or};
@@ -13,9 +16,11 @@ ghost use Rattle.seat_machine.specs.Items.{or_found};
 ghost use Rattle.seat_machine.specs.Desks.{IsOf};
 
 use crate::desk::Desk;
+use crate::runs::load_run;
 use crate::steps::Steps;
 use plain_map::{Key, Pair, Reply};
 use step_counts::{BUCKET_HEAD_WORDS, COUNT_PLACE, ITEM_WORDS};
+use word_rows::read_pair;
 
 // What was found before, or the value of this pair.
 #[inline(always)]
@@ -30,7 +35,7 @@ fn first_of(found: Option<u64>, key: &Key, pair: &Pair) -> Option<u64>
 }
 
 /// Loads a row's items one by one: the value of the key among them. It needs no room.
-#[tactic(auto, unfolding(bucket_states::specs::Items::reply_in))]
+#[tactic(auto, unfolding(bucket_states::specs::Items::reply_in), using(crate::proofs::ItemLemmas::found_by_number))]
 #[inline(always)]
 pub fn find_item<S: Steps>(
     steps: &mut S,
@@ -49,15 +54,9 @@ pub fn find_item<S: Steps>(
 {
     let mut found = None;
     for i in 0..count {
-        let at = start + ITEM_WORDS as u64 * i;
-        let k0 = steps.load(at);
-        let k1 = steps.load(at + 1);
-        let value = steps.load(at + 2);
-        let pair = Pair {
-            key: Key { k0, k1 },
-            value,
-        };
-        found = first_of(found, key, &pair);
+        let mut words = [0; ITEM_WORDS];
+        load_run(steps, start + ITEM_WORDS as u64 * i, &mut words);
+        found = first_of(found, key, &read_pair(&words));
     }
     found
 }

@@ -1,10 +1,12 @@
 //! A whole lookup.
 
-ghost use Rattle.std.specs.Prelude.{◌≡◌, ◌^◌, ◌<◌, ◌≤◌, All, length};
+ghost use Rattle.std.specs.Prelude.{◌≡◌, ℕ, ◌^◌, ◌<◌, ◌≤◌, All, length};
 ghost use Rattle.plain_map.specs.declared.calls.Call.TheVariants.{Lookup};
 ghost use Rattle.step_counts.specs.StepCounts.{lookup_steps};
+ghost use Rattle.core_model.specs.declared.rounds.Aim.TheVariants.{ForLookup};
+ghost use Rattle.core_model.specs.Phases.{FindRoot, StoreDone};
 ghost use Rattle.core_model.specs.SeatStates.{seen_counts};
-ghost use Rattle.seat_machine.specs.Going.{Begins};
+ghost use Rattle.seat_machine.specs.Going.{Begins, later};
 ghost use Rattle.seat_machine.specs.Desks.{IsOf};
 
 use crate::desk::Desk;
@@ -12,7 +14,7 @@ use crate::finding::{find, see_done};
 use crate::looking::look;
 use crate::steps::Steps;
 use core_model::Aim;
-use plain_map::{Call, Key, MOST_SEATS, Record, Seen};
+use plain_map::{Call, Key, MOST_SEATS, Record, Reply, Seen};
 use step_counts::ITEM_WORDS;
 
 /// The seen counts as they stand in a record.
@@ -56,4 +58,20 @@ pub fn lookup<S: Steps>(steps: &mut S, desk: &Desk, packet: u32, number: u32, ke
         seen,
         place: row,
     }
+}
+
+/// Looks a key up by loads alone: the part of a lookup that tells its reply.
+///
+/// **Steps:** 5, and seven for each item of the row that it reads.
+#[inline(always)]
+pub fn glance<S: Steps>(steps: &mut S, desk: &Desk, key: &Key) -> Reply
+    requires phase { (S.now steps.old).phase ≡ FindRoot ForLookup }
+    requires call { (S.now steps.old).flight.call ≡ Lookup key.now }
+    requires desk { IsOf (S.now steps.old) desk.now }
+    ensures { (row : ℕ) × ((spent : ℕ) × (S.now steps.new ≡ later (S.now steps.old) spent (StoreDone result row))) }
+{
+    let hash = key.hash(&desk.rules.hashing);
+    let (root, bucket) = find(steps, desk, Aim::ForLookup, hash);
+    let (_, _, reply) = look(steps, desk, root, bucket, key);
+    reply
 }

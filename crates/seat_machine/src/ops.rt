@@ -1,4 +1,10 @@
 //! The leg of a try that finds what all seats announce.
+//!
+//! **Words**: each seat's announcement and the op row that it names. All are loaded, none is stored.
+//! **Keeps**: a try takes this leg after it has loaded the word that it will exchange, a bucket word or the root. So if
+//! the exchange happens, it has every op that was announced before that word was loaded. All helping rests on this
+//! order of loads. In the proof: the fields `late` of `Found` and `DirFound` in `core_history/proofs/Ghost.antt`.
+//! **Steps**: at most `1 + OP_WORDS` a seat.
 
 ghost use Rattle.std.specs.Prelude.{◌≡◌, ◌+◌, ◌*◌, ◌<◌, ◌≤◌, ◌^◌, [], IfSome, Some, length};
 ghost use Rattle.word_rows.specs.Places.{place};
@@ -55,7 +61,7 @@ fn load_op<S: Steps, A: Trying>(
     requires start { start ≡ place (S.now steps.old).setup.shape (OpWord op 0) }
     requires few { start < 2 ^ 63 }
     requires seats { length found.now < MOST_SEATS }
-    ensures goes { S.now steps.new ≡ later (S.now steps.old) 5
+    ensures goes { S.now steps.new ≡ later (S.now steps.old) OP_WORDS
         (after_ops (S.now steps.old).setup (A.round attempt.now) (A.attempt attempt.now (S.now steps.old).setup)
         (more found.now (Some result))) }
     ensures makes { Makes (S.now steps.old).setup

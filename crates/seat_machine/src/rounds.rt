@@ -37,6 +37,7 @@ fn try_buckets<S: Steps>(
     ensures goes { S.now steps.new ≡ went (S.now steps.old) used.new result.1 (ending round result.0) }
     ensures few { result.1 ≤ TRIES_STEPS }
 {
+    // Two tries and a look: at the third turn the row has the op or is frozen, as `tries` says.
     let mut turn = 1;
     let mut first = None;
     let mut spent = 0;
@@ -85,6 +86,7 @@ fn try_directories<S: Steps>(
     ensures few { result.1 < 2 ^ 62 }
     ensures room { HasAllRoom (settings_at desk.now) room.new }
 {
+    // Two tries: after the second one the round is left, as `directory_tries` says.
     let mut turn = 1;
     let mut first = None;
     let mut spent = 0;

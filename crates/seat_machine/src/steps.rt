@@ -19,7 +19,8 @@ pub trait Steps {
     // The call has ended with this record, and its seat has published so much by then.
     ghost answered: { Self → Record → SeatRows → Type 0 };
 
-    /// What is asked for next is on a word of the table, and the steps and the rows are few.
+    /// What is asked for next is on a word of the table, and the steps and the rows are few. The call does nothing: it
+    /// tells this to the proof of the lines that follow.
     fn stands(&self)
         requires { IsOpen (now self.now).phase }
         ensures on_word { IsOnWord (now self.now).setup.shape (asks (now self.now)) }

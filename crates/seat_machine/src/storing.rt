@@ -62,6 +62,7 @@ fn store_leaf<S: Steps>(
     ensures row { HasBucketRoom (settings_at desk.now).seats (settings_at desk.now).items row.new }
 {
     steps.stands();
+    // A bucket word of the seat's own, which no directory names before the root is exchanged.
     steps.store(desk.layout.bucket_word(bucket), number);
     leaf.bucket.to_row(base_of(found.loaded, leaf), row);
     let mut buffer = [0; MOST_WORDS];

@@ -8,7 +8,7 @@ use word_rows::Layout;
 
 // A table for two seats, two items and depth 2, where each seat has nine of everything. The opening has four bucket
 // rows and bucket words, one for each place of a directory, and one directory row, and seat 0 comes before seat 1. A
-// bucket row has 5 words, 3 an item and 2 a seat. The room is made.
+// bucket row has 5 words, 7 an item and 2 a seat. The room is made.
 #[test]
 fn desk_and_room_of_a_seat(rt: HostRuntime) -> Result<(), Fail> {
     let settings = Settings::new(2, 2, 2, 0)?;
@@ -20,7 +20,7 @@ fn desk_and_room_of_a_seat(rt: HostRuntime) -> Result<(), Fail> {
     };
     let layout = Layout::new(&settings, &[rows, rows]);
     let desk = Desk::new(layout, Hashing::Ports(0), 1);
-    assert_eq!(rt; (desk.seat, desk.row_words), (1, 15));
+    assert_eq!(rt; (desk.seat, desk.row_words), (1, 23));
     assert_eq!(rt;
         desk.first,
         SeatRows {

@@ -1,4 +1,14 @@
 //! A bucket try.
+//!
+//! **Words**: loads the bucket word of the round and its row, the announcements and their op rows; stores a bucket row
+//! of the seat's own; exchanges the bucket word.
+//! **Keeps**: the row that is put is the row that was loaded, with every op that was found, this seat's own among them.
+//! **Steps**: at most `TRY_STEPS`.
+//! **Why it ends**: an exchange is lost only to another seat's row. If the first one is lost, the row that the second
+//! try loads was put after this seat's announcement. If the second one is lost too, whoever won it had loaded that row,
+//! and after it the announcements, this seat's among them. So from then on each row of the bucket has the op or is
+//! frozen, and the third look finds this. In the proof: `Helped.helped` in `core_history/proofs/Shared.antt`, and
+//! `third` in `core_rounds/proofs/BucketStep.antt`; as promises `NeverStuck` and `LostBucketsShow`.
 
 ghost use Rattle.std.specs.Prelude.{◌≡◌, ◌+◌, ◌<◌, ◌≤◌, ◌^◌, [], Some, length};
 ghost use Rattle.step_counts.specs.StepCounts.{bucket_row_words};
@@ -61,6 +71,7 @@ pub fn look_at<S: Steps>(
     ensures len { length words.new ≡ length words.old }
 {
     steps.stands();
+    // The word first, and all else of the try after it: the row, and the announcements.
     let row = steps.load(desk.layout.bucket_word(round.bucket));
     let first = first.unwrap_or(row);
     load_row(steps, desk, row, words);
@@ -105,10 +116,12 @@ pub fn change_bucket<S: Steps>(
     let spent = find_ops(steps, desk, &attempt, found);
     change(desk, &own.key, row, found, words);
     steps.stands();
+    // No word names this row yet, so nobody reads it. After a lost exchange the next try writes it anew.
     let new = desk.first.bucket_rows + used.bucket_rows;
     store_row(steps, desk, new, words);
     steps.stands();
     let all = spent + words.len() as u64 + 1;
+    // No word returns to a row that it has left. So if the row is still there, nothing was put since it was loaded.
     if steps.exchange(desk.layout.bucket_word(round.bucket), row, new) != row {
         return (Tried::Again(first), all);
     }

@@ -1,4 +1,8 @@
 pub mod Lists
+mod Fronts
+mod Loads
+mod GlanceLemmas
+mod ReaderLemmas
 pub mod Moves
 pub mod StepLemmas
 mod Parts

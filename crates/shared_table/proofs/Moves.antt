@@ -4,7 +4,7 @@ use Rattle.std.specs.Prelude.{All, sum_by, count_by}
 use prog.Atomic.{either}
 use Rattle.std.proofs.lemmas.Bool.{eq-eqb, ne_eqb}
 use Rattle.std.proofs.lemmas.List.{map-set, append-nil}
-use Rattle.std.proofs.lemmas.List.Elements.{All-nil, All-cons}
+use Rattle.std.proofs.lemmas.List.Elements.{All-nil, All-cons, All-set}
 use Rattle.std.proofs.lemmas.List.Sums.{sum_by-set, sum_by-cons, get_or-le-sum_by}
 use mathlib.Core.Option.{some}
 use lib.ListN.{get_elem?}
@@ -23,6 +23,8 @@ use Rattle.core_model.specs.Shown.{Holding, Bundle, IsOfRun}
 use Rattle.shared_table.specs.declared.view.View.{View}
 use Rattle.core_model.specs.Steps.{MayStep, event_of, advanced, address_of, becomes, told, IsOnWord}
 use Rattle.core_model.specs.Fits.{EveryStepFits}
+use Rattle.shared_table.specs.Fronts.{IsFrontOf}
+use Rattle.shared_table.proofs.Fronts.{fronts_stay}
 use Rattle.shared_table.specs.Rule.{bundles, Holds, M, alone, IsReached, asked_by, after_step, Steps, Moved, AsksFor, IsFor}
 use Rattle.shared_table.proofs.Lists.{at_place, elem_map, zero_elsewhere, all_but_one, get_or_default, count-snoc}
 use Rattle.core_programs.proofs.Worlds.{is_event, steps_world, words_are, found_is, run-snoc, world-snoc, length-world}
@@ -60,12 +62,12 @@ module _ (setup : Setup) (events : List Event) (e : Event) (s : SeatState)
 
 -- what the rule says of a view of one seat
 mine_of : (c : Setup) (s : State (Unit {0}) View) (r : Holds c s) (id : ℕ) (h : Holding) →
-    get_elem? s.views id ≡ some (alone h).0 → IsOfRun c r.events h
+    get_elem? s.views id ≡ some (alone h).0 → IsOfRun c r.shows.events h
 mine_of c s r id h at =
     let there : get_elem? (bundles s.views) id ≡ some (h ∷ []) =
     elem_map (λ (v : View). v.bundle) s.views id (alone h).0 at in
     let p = at_place (bundles s.views) id (h ∷ []) [] there in
-    let all : All (IsOfRun c r.events) (h ∷ []) = subst (All (IsOfRun c r.events)) p.1 (r.of_run id [] p.0) in
+    let all : All (IsOfRun c r.shows.events) (h ∷ []) = subst (All (IsOfRun c r.shows.events)) p.1 (r.shows.of_run id [] p.0) in
     all 0 h (omega arith)
 
 module _ (asked : ℕ × Call) (h : Holding) (s : State (Unit {0}) View) (r : Holds h.setup s) (id : ℕ)
@@ -85,7 +87,7 @@ module _ (asked : ℕ × Call) (h : Holding) (s : State (Unit {0}) View) (r : Ho
 
   -- the world before the step
   abbrev w : World
-  w = world_after c r.events
+  w = world_after c r.shows.events
 
   -- the word of the step
   abbrev word : ℕ
@@ -97,11 +99,11 @@ module _ (asked : ℕ × Call) (h : Holding) (s : State (Unit {0}) View) (r : Ho
 
   -- the run with the step
   abbrev run : List Event
-  run = r.events ++ e ∷ []
+  run = r.shows.events ++ e ∷ []
 
   -- the holding after the step
   abbrev then : Holding
-  then = after_step h asked (told a n) r.events
+  then = after_step h asked (told a n) r.shows.events
 
   -- the seat's view is among the views
   there : get_elem? (bundles s.views) id ≡ some (h ∷ [])
@@ -116,7 +118,7 @@ module _ (asked : ℕ × Call) (h : Holding) (s : State (Unit {0}) View) (r : Ho
   is_mine = (at_place (bundles s.views) id (h ∷ []) [] there).1
 
   -- the seat is one of the run's
-  mine : IsOfRun c r.events h
+  mine : IsOfRun c r.shows.events h
   mine = mine_of c s r id h at
 
   -- the world has its state
@@ -125,14 +127,14 @@ module _ (asked : ℕ × Call) (h : Holding) (s : State (Unit {0}) View) (r : Ho
 
   -- what it is told is what the definition finds
   found_same : told a n ≡ found_by c a w.words
-  found_same = ap (λ (ws : List ℕ). told a (get_or ws word 0)) r.same_words ∙ found_is c a w.words
+  found_same = ap (λ (ws : List ℕ). told a (get_or ws word 0)) r.shows.same_words ∙ found_is c a w.words
 
   -- the world after the step
   world_is : world_after c run ≡ record {
     words = words_after c a w.words;
     seats = set w.seats h.seat (advanced c h.seat asked h.state (found_by c a w.words));
   }
-  world_is = world-snoc c r.events e ∙ steps_world c h.seat asked w h.state mine.seat now_here may
+  world_is = world-snoc c r.shows.events e ∙ steps_world c h.seat asked w h.state mine.seat now_here may
 
   -- in which this seat alone changed
   seats_are : (world_after c run).seats ≡ set w.seats e.seat then.state
@@ -141,11 +143,11 @@ module _ (asked : ℕ × Call) (h : Holding) (s : State (Unit {0}) View) (r : Ho
 
   -- the run with the step is a run
   runs : IsRun c run
-  runs = run-snoc c r.events e r.is_run (is_event c h.seat asked w h.state mine.seat now_here may)
+  runs = run-snoc c r.shows.events e r.shows.is_run (is_event c h.seat asked w h.state mine.seat now_here may)
 
   -- the world has all seats
   long : length w.seats ≡ seats_of c
-  long = length-world c r.events
+  long = length-world c r.shows.events
 
   -- the seat has its new state
   here : seat_in (world_after c run) h.seat ≡ then.state
@@ -185,14 +187,14 @@ module _ (asked : ℕ × Call) (h : Holding) (s : State (Unit {0}) View) (r : Ho
   others : (k : ℕ) (d : Bundle) → k < length (bundles s.views) → k ≢ id →
       All (IsOfRun c run) (get_or (bundles s.views) k d)
   others k d hk ne =
-      let total : sum_by (times_of h.seat) (bundles s.views) ≡ 1 = r.once h.seat mine.seat in
+      let total : sum_by (times_of h.seat) (bundles s.views) ≡ 1 = r.shows.once h.seat mine.seat in
       let one : times_of h.seat (get_or (bundles s.views) id []) ≡ 1 = ap (times_of h.seat) is_mine ∙ one_time h refl in
       let same_d : get_or (bundles s.views) k d ≡ get_or (bundles s.views) k [] =
       get_or_default (bundles s.views) k d [] hk in
       let zero : times_of h.seat (get_or (bundles s.views) k []) ≡ 0 =
       zero_elsewhere (times_of h.seat) (bundles s.views) id k [] [] refl inside hk ne (total ∙ sym one) in
-      all_stay c r.events e then.state seats_are (get_or (bundles s.views) k d) (ap (times_of h.seat) same_d ∙ zero)
-      (r.of_run k d hk)
+      all_stay c r.shows.events e then.state seats_are (get_or (bundles s.views) k d) (ap (times_of h.seat) same_d ∙ zero)
+      (r.shows.of_run k d hk)
 
   -- and the seat's own is true of the new run
   mine_after : IsOfRun c run then
@@ -208,30 +210,34 @@ module _ (asked : ℕ × Call) (h : Holding) (s : State (Unit {0}) View) (r : Ho
   -- so the rule holds after the step
   goes_on : Holds c after
   goes_on = record {
-    events = run;
-    is_run = runs;
-    same_words =
-        ap (λ (ws : List ℕ). set ws word (becomes a (get_or ws word 0))) r.same_words
-        ∙ sym (words_are c a w.words) ∙ sym (ap (λ (x : World). x.words) world_is);
-    of_run = subst (All (λ (b : Bundle). All (IsOfRun c run) b)) (sym bundles_are)
-        (all_but_one (λ (b : Bundle). All (IsOfRun c run) b) (bundles s.views) id (then ∷ [])
-        (All-cons (IsOfRun c run) then [] mine_after (All-nil (IsOfRun c run))) others);
-    once = λ seat hs.
-        let cut = sum_by-set (times_of seat) (bundles s.views) id (then ∷ []) [] inside in
-        let was = r.once seat hs in
-        ap (λ (bs : List Bundle). sum_by (times_of seat) bs) bundles_are
-        ∙ omega (arith, cut, ap (times_of seat) is_mine, same_times seat, was);
+    shows = record {
+      events = run;
+      is_run = runs;
+      same_words =
+          ap (λ (ws : List ℕ). set ws word (becomes a (get_or ws word 0))) r.shows.same_words
+          ∙ sym (words_are c a w.words) ∙ sym (ap (λ (x : World). x.words) world_is);
+      of_run = subst (All (λ (b : Bundle). All (IsOfRun c run) b)) (sym bundles_are)
+          (all_but_one (λ (b : Bundle). All (IsOfRun c run) b) (bundles s.views) id (then ∷ [])
+          (All-cons (IsOfRun c run) then [] mine_after (All-nil (IsOfRun c run))) others);
+      once = λ seat hs.
+          let cut = sum_by-set (times_of seat) (bundles s.views) id (then ∷ []) [] inside in
+          let was = r.shows.once seat hs in
+          ap (λ (bs : List Bundle). sum_by (times_of seat) bs) bundles_are
+          ∙ omega (arith, cut, ap (times_of seat) is_mine, same_times seat, was);
+    };
+    fronts = All-set (λ (v : View). All (IsFrontOf c run) v.fronts) s.views id (alone then).0
+        (All-nil (IsFrontOf c run)) (fronts_stay c r.shows.events (e ∷ []) s.views r.fronts);
   }
 
   -- and the step tells what a step of the seat has to tell
   stepped_to : (k : ℕ) → told a k ≡ told a n → Steps asked h k (alone then)
   stepped_to k same = record {
-    before = r.events;
+    before = r.shows.events;
     grew = record { later = mine.later; is = mine.known; own = mine.own };
-    was = record { run = r.is_run; seat = mine.seat; state = now_here };
+    was = record { run = r.shows.is_run; seat = mine.seat; state = now_here };
     found = same ∙ found_same;
-    is = ap (λ (j : ℕ). alone (after_step h asked j r.events)) (sym same);
-    reached = subst (λ (j : ℕ). IsReached (after_step h asked j r.events)) (sym same)
+    is = ap (λ (j : ℕ). alone (after_step h asked j r.shows.events)) (sym same);
+    reached = subst (λ (j : ℕ). IsReached (after_step h asked j r.shows.events)) (sym same)
         (record { run = runs; seat = mine.seat; state = here });
   }
 
@@ -256,12 +262,12 @@ moves_at : (c : Setup) (slots id : ℕ) (asked : ℕ × Call) (h : Holding) →
 moves_at c slots id asked h may s r _ at _ =
     let same : h.setup ≡ c = (mine_of c s r id h at).opened in
     let r' : Holds h.setup s = subst (λ (d : Setup). Holds d s) (sym same) r in (
-      (alone (after_step h asked (told (asked_by h asked) (n asked h s r' id at may)) r'.events)).0,
+      (alone (after_step h asked (told (asked_by h asked) (n asked h s r' id at may)) r'.shows.events)).0,
       keeps,
       tt,
       subst (λ (d : Setup). Holds d (after asked h s r' id at may)) same (goes_on asked h s r' id at may),
       λ k told_same h' is. subst (λ (x : Holding). Steps asked x k
-          (alone (after_step h asked (told (asked_by h asked) (n asked h s r' id at may)) r'.events)))
+          (alone (after_step h asked (told (asked_by h asked) (n asked h s r' id at may)) r'.shows.events)))
           (alone_is h h' is)
           (stepped_to asked h s r' id at may k told_same),
     )

@@ -17,6 +17,7 @@ use Rattle.core_model.specs.Shown.{Holding, Bundle}
 use Rattle.shared_table.specs.declared.view.View.{View}
 use Rattle.shared_table.specs.Seating.{fresh, fresh_from, whole, tail_of, head_of, others, foremost, together, spent}
 use Rattle.core_model.specs.Shown.{IsOfRun}
+use Rattle.shared_table.specs.Fronts.{IsFrontOf}
 use Rattle.shared_table.specs.Rule.{bundles, Holds, M, IsReached, alone}
 use Rattle.shared_table.specs.SeatValues.{SeatValue, IsIdle}
 use Rattle.shared_table.specs.Values.{TableValue, IsOf, IsLeft, Ran, new_seat, new_seats}
@@ -61,8 +62,22 @@ module _ (c : Setup) (s : State (Unit {0}) View) (r : Holds c s) (id : ℕ) (v :
   found = (at_place (bundles s.views) id v.bundle [] there).1
 
   -- so all its holdings are of the run
-  pub all_of : All (IsOfRun c r.events) v.bundle
-  all_of = subst (All (IsOfRun c r.events)) found (r.of_run id [] inside)
+  pub all_of : All (IsOfRun c r.shows.events) v.bundle
+  all_of = subst (All (IsOfRun c r.shows.events)) found (r.shows.of_run id [] inside)
+
+  -- and what its readers know is a front of it
+  pub fronts_of : All (IsFrontOf c r.shows.events) v.fronts
+  fronts_of =
+      let p = at_place s.views id v v at in
+      subst (λ (u : View). All (IsFrontOf c r.shows.events) u.fronts) p.1 (r.fronts id v p.0)
+
+-- so it is at another place, where one view has changed
+fronts_other : (c : Setup) (s : State (Unit {0}) View) (r : Holds c s) (id other : ℕ) (u w : View) →
+    ¬ (other ≡ id) → get_elem? (set s.views id u) other ≡ some w → All (IsFrontOf c r.shows.events) w.fronts
+fronts_other c s r id other u w ne at =
+    let p = at_place (set s.views id u) other w w at in
+    subst (λ (x : View). All (IsFrontOf c r.shows.events) x.fronts)
+    (sym (get_or-set_other s.views id other u w ne) ∙ p.1) (r.fronts other w (omega (arith, p.0, length-set s.views id u)))
 
 -- what holds of all holds of the first
 head_all : (P : Holding → Type 0) (b : Bundle) → All P b → All P (head_of b)
@@ -77,40 +92,45 @@ tail_all P (h ∷ hs) a = All-tail P h hs a
 -- a view can be cut in two
 pub splits : (c : Setup) (id : ℕ) (v : View) → Splits (Holds c) id v (others v) (foremost v)
 splits c id v s r at =
-    let P : Bundle → Type 0 = λ b. All (IsOfRun c r.events) b in
+    let P : Bundle → Type 0 = λ b. All (IsOfRun c r.shows.events) b in
     let bs : List Bundle = bundles s.views in
+    let F : View → Type 0 = λ u. All (IsFrontOf c r.shows.events) u.fronts in
     let mine = all_of c s r id v at in
     let is : bundles (set s.views id (others v) ++ foremost v ∷ []) ≡ set bs id (tail_of v.bundle)
     ++ head_of v.bundle ∷ [] =
     map-append (λ (u : View). u.bundle) (set s.views id (others v)) (foremost v ∷ [])
     ∙ ap (λ (xs : List Bundle). xs ++ head_of v.bundle ∷ []) (map-set (λ (u : View). u.bundle) s.views id (others v)) in
     record {
-      events = r.events;
-      is_run = r.is_run;
-      same_words = r.same_words;
-      of_run = subst (All P) (sym is) (All-push P (set bs id (tail_of v.bundle)) (head_of v.bundle)
-          (All-set P bs id (tail_of v.bundle) (tail_all (IsOfRun c r.events) v.bundle mine) r.of_run)
-          (head_all (IsOfRun c r.events) v.bundle mine));
-      once = λ seat h.
-          let cut = sum_by-set (times_of seat) bs id (tail_of v.bundle) [] (inside c s r id v at) in
-          let more = sum_by-append (times_of seat) (set bs id (tail_of v.bundle)) (head_of v.bundle ∷ []) in
-          let last = sum_by-cons (times_of seat) (head_of v.bundle) [] in
-          ap (sum_by (times_of seat)) is
-          ∙ omega (
-            arith,
-            cut,
-            more,
-            last,
-            times_cut seat v.bundle,
-            ap (times_of seat) (found c s r id v at),
-            r.once seat h,
-          );
+      shows = record {
+        events = r.shows.events;
+        is_run = r.shows.is_run;
+        same_words = r.shows.same_words;
+        of_run = subst (All P) (sym is) (All-push P (set bs id (tail_of v.bundle)) (head_of v.bundle)
+            (All-set P bs id (tail_of v.bundle) (tail_all (IsOfRun c r.shows.events) v.bundle mine) r.shows.of_run)
+            (head_all (IsOfRun c r.shows.events) v.bundle mine));
+        once = λ seat h.
+            let cut = sum_by-set (times_of seat) bs id (tail_of v.bundle) [] (inside c s r id v at) in
+            let more = sum_by-append (times_of seat) (set bs id (tail_of v.bundle)) (head_of v.bundle ∷ []) in
+            let last = sum_by-cons (times_of seat) (head_of v.bundle) [] in
+            ap (sum_by (times_of seat)) is
+            ∙ omega (
+              arith,
+              cut,
+              more,
+              last,
+              times_cut seat v.bundle,
+              ap (times_of seat) (found c s r id v at),
+              r.shows.once seat h,
+            );
+      };
+      fronts = All-push F (set s.views id (others v)) (foremost v)
+          (All-set F s.views id (others v) (fronts_of c s r id v at) r.fronts) (All-nil (IsFrontOf c r.shows.events));
     }
 
 -- two views can be put together
 pub joins : (c : Setup) (id : ℕ) (v : View) (other : ℕ) (w : View) → Joins (Holds c) id v other w (together v w) spent
 joins c id v other w s r at ne at' =
-    let P : Bundle → Type 0 = λ b. All (IsOfRun c r.events) b in
+    let P : Bundle → Type 0 = λ b. All (IsOfRun c r.shows.events) b in
     let bs : List Bundle = bundles s.views in
     let both : Bundle = w.bundle ++ v.bundle in
     let mid : State (Unit {0}) View = record {
@@ -126,27 +146,35 @@ joins c id v other w s r at ne at' =
     (elem_map (λ (u : View). u.bundle) mid.views other w at') in
     let p = at_place (set bs id both) other w.bundle [] here in
     let at_other : get_or bs other [] ≡ w.bundle = sym (get_or-set_other bs id other both [] ne) ∙ p.1 in
+    let F : View → Type 0 = λ u. All (IsFrontOf c r.shows.events) u.fronts in
+    let fronts_w : All (IsFrontOf c r.shows.events) w.fronts = fronts_other c s r id other (together v w) w ne at' in
     let mine = all_of c s r id v at in
-    let theirs : P w.bundle = subst P at_other (r.of_run other [] (omega (arith, p.0, length-set bs id both))) in
+    let theirs : P w.bundle = subst P at_other (r.shows.of_run other [] (omega (arith, p.0, length-set bs id both))) in
     record {
-      events = r.events;
-      is_run = r.is_run;
-      same_words = r.same_words;
-      of_run = subst (All P) (sym is) (All-set P (set bs id both) other [] (All-nil (IsOfRun c r.events))
-          (All-set P bs id both (All-append (IsOfRun c r.events) w.bundle v.bundle theirs mine) r.of_run));
-      once = λ seat h.
-          let one = sum_by-set (times_of seat) bs id both [] (inside c s r id v at) in
-          let two = sum_by-set (times_of seat) (set bs id both) other [] [] p.0 in
-          ap (sum_by (times_of seat)) is
-          ∙ omega (
-            arith,
-            one,
-            two,
-            times-append seat w.bundle v.bundle,
-            ap (times_of seat) (found c s r id v at),
-            ap (times_of seat) p.1,
-            r.once seat h,
-          );
+      shows = record {
+        events = r.shows.events;
+        is_run = r.shows.is_run;
+        same_words = r.shows.same_words;
+        of_run = subst (All P) (sym is) (All-set P (set bs id both) other [] (All-nil (IsOfRun c r.shows.events))
+            (All-set P bs id both (All-append (IsOfRun c r.shows.events) w.bundle v.bundle theirs mine) r.shows.of_run));
+        once = λ seat h.
+            let one = sum_by-set (times_of seat) bs id both [] (inside c s r id v at) in
+            let two = sum_by-set (times_of seat) (set bs id both) other [] [] p.0 in
+            ap (sum_by (times_of seat)) is
+            ∙ omega (
+              arith,
+              one,
+              two,
+              times-append seat w.bundle v.bundle,
+              ap (times_of seat) (found c s r id v at),
+              ap (times_of seat) p.1,
+              r.shows.once seat h,
+            );
+      };
+      fronts =
+          All-set F (set s.views id (together v w)) other spent (All-nil (IsFrontOf c r.shows.events))
+          (All-set F s.views id (together v w)
+          (All-append (IsFrontOf c r.shows.events) w.fronts v.fronts fronts_w (fronts_of c s r id v at)) r.fronts);
     }
 
 -- the rule at the opening
@@ -185,16 +213,20 @@ fresh_all c k (suc n) h =
 -- so the rule holds at the opening
 pub opens : (c : Setup) (words : List ℕ) → IsSetup c → words ≡ opening_words c → Holds c (opening words [] (whole c))
 opens c words ok is = record {
-  events = [];
-  is_run = record { opened = ok; follow = tt };
-  same_words = is;
-  of_run = All-cons (λ (b : Bundle). All (IsOfRun c []) b) (fresh_from c 0 (seats_of c)) []
-      (fresh_all c 0 (seats_of c) (omega arith)) (All-nil (λ (b : Bundle). All (IsOfRun c []) b));
-  once = λ seat h. omega (
-    arith,
-    sum_by-cons (times_of seat) (fresh_from c 0 (seats_of c)) [],
-    (fresh_times c seat 0 (seats_of c)).1 (omega arith) (omega arith),
-  );
+  shows = record {
+    events = [];
+    is_run = record { opened = ok; follow = tt };
+    same_words = is;
+    of_run = All-cons (λ (b : Bundle). All (IsOfRun c []) b) (fresh_from c 0 (seats_of c)) []
+        (fresh_all c 0 (seats_of c) (omega arith)) (All-nil (λ (b : Bundle). All (IsOfRun c []) b));
+    once = λ seat h. omega (
+      arith,
+      sum_by-cons (times_of seat) (fresh_from c 0 (seats_of c)) [],
+      (fresh_times c seat 0 (seats_of c)).1 (omega arith) (omega arith),
+    );
+  };
+  fronts = All-cons (λ (v : View). All (IsFrontOf c []) v.fronts) (whole c) [] (All-nil (IsFrontOf c []))
+      (All-nil (λ (v : View). All (IsFrontOf c []) v.fronts));
 }
 
 -- ---- the close
@@ -273,28 +305,28 @@ length-holdings (s ∷ seats) = omega (arith, length-holdings seats)
 -- all seats that are put together leave one run
 pub ends : (c : Setup) (id : ℕ) (me : M) (seats : List SeatValue) (words : List ℕ) (slots : List (Unit {0})) →
     length seats ≡ seats_of c → All IsIdle seats →
-    me ≡ (record { bundle = holdings seats }, []) → Final (Seen (Holds c) id me.0) words slots → Ran c words seats
+    me ≡ (record { bundle = holdings seats; fronts = [] }, []) → Final (Seen (Holds c) id me.0) words slots → Ran c words seats
 ends c id me seats words slots all idle is f =
     let s : State (Unit {0}) View = f.0 in
     let r : Holds c s = f.1.0 in
-    let v : View = record { bundle = holdings seats } in
+    let v : View = record { bundle = holdings seats; fronts = [] } in
     let at : get_elem? s.views id ≡ some v = f.1.1 ∙ ap (λ (m : M). some m.0) is in
-    let mine : All (IsOfRun c r.events) (holdings seats) = all_of c s r id v at in
+    let mine : All (IsOfRun c r.shows.events) (holdings seats) = all_of c s r id v at in
     let few : (seat : ℕ) → seat < seats_of c → times_of seat (holdings seats) ≤ 1 = λ seat h.
     omega (
       arith,
       get_or-le-sum_by (times_of seat) (bundles s.views) id [] (inside c s r id v at),
       ap (times_of seat) (found c s r id v at),
-      r.once seat h,
+      r.shows.once seat h,
     ) in
     record {
-      events = r.events;
-      is_run = r.is_run;
-      words_are = sym f.2 ∙ r.same_words;
-      seats_are = all_left c r.events seats idle mine;
+      events = r.shows.events;
+      is_run = r.shows.is_run;
+      words_are = sym f.2 ∙ r.shows.same_words;
+      seats_are = all_left c r.shows.events seats idle mine;
       once = λ seat h. sym (count_same seat seats)
           ∙ each_once (holdings seats) (seats_of c) few (seats_of c) (omega arith)
-          (below_length c r.events (holdings seats) mine ∙ length-holdings seats ∙ all) seat h;
+          (below_length c r.shows.events (holdings seats) mine ∙ length-holdings seats ∙ all) seat h;
     }
 
 -- ---- seats that are put together
@@ -343,11 +375,11 @@ deal_one c k n h =
 
 -- cutting a seat off leaves those from the next on
 pub dealt : (c : Setup) (me left right : M) (k n : ℕ) → k < n →
-    me ≡ (record { bundle = fresh_from c k (n - k) }, []) → left ≡ (others me.0, me.1) → right ≡ (foremost me.0, []) →
-    (left ≡ (record { bundle = fresh_from c (k + 1) (n - (k + 1)) }, [])) × (right ≡ alone (fresh c k))
+    me ≡ (record { bundle = fresh_from c k (n - k); fronts = [] }, []) → left ≡ (others me.0, me.1) → right ≡ (foremost me.0, []) →
+    (left ≡ (record { bundle = fresh_from c (k + 1) (n - (k + 1)); fronts = [] }, [])) × (right ≡ alone (fresh c k))
 dealt c me left right k n h is l r =
-    let at : me ≡ (record { bundle = fresh c k ∷ fresh_from c (k + 1) (n - (k + 1)) }, []) =
-    is ∙ ap (λ (b : Bundle). (record { bundle = b }, [])) (deal_one c k n h) in
+    let at : me ≡ (record { bundle = fresh c k ∷ fresh_from c (k + 1) (n - (k + 1)); fronts = [] }, []) =
+    is ∙ ap (λ (b : Bundle). (record { bundle = b; fronts = [] }, [])) (deal_one c k n h) in
     let f : M → M = λ m. (others m.0, m.1) in
     let g : M → M = λ m. (foremost m.0, []) in
     (l ∙ ap f at, r ∙ ap g at)

@@ -40,9 +40,9 @@ first_view d (v ∷ vs) = v
 
 -- a badge and its token hold the same
 pub badge_holds : (key : Plan) (desk : Desk) (views : List View) (me : M) → views ≡ me.0 ∷ [] →
-    (h : Holding) → views ≡ (record { bundle = h ∷ [] }) ∷ [] → (holding_of key me ≡ h) × (holding_in desk views ≡ h)
+    (h : Holding) → views ≡ (record { bundle = h ∷ []; fronts = [] }) ∷ [] → (holding_of key me ≡ h) × (holding_in desk views ≡ h)
 badge_holds key desk views me into h one =
-    let same : me.0 ≡ record { bundle = h ∷ [] } = ap (first_view me.0) (sym into ∙ one) in
+    let same : me.0 ≡ record { bundle = h ∷ []; fronts = [] } = ap (first_view me.0) (sym into ∙ one) in
     (ap (λ (v : View). holding_of key (v, [])) same, ap (holding_in desk) one)
 
 -- the record that was made last has its steps, by the law of every run
@@ -70,9 +70,9 @@ is_of_row h front made reached is =
 module _ (packet : ℕ) (call : Call) (made : Record) (used : SeatRows) (key : Plan) (desk : Desk) (was now : TableId)
     (table : now ≡ was)
     (views : List View) (me : M) (into : views ≡ me.0 ∷ [])
-    (one : views ≡ (record { bundle = holding_in desk views ∷ [] }) ∷ [])
+    (one : views ≡ (record { bundle = holding_in desk views ∷ []; fronts = [] }) ∷ [])
     (views_then : List View) (me_then : M) (out : views_then ≡ me_then.0 ∷ [])
-    (one_then : me_then ≡ (record { bundle = holding_of key me_then ∷ [] }, []))
+    (one_then : me_then ≡ (record { bundle = holding_of key me_then ∷ []; fronts = [] }, []))
     (ended : Ended (packet, call) (holding_of key me) (holding_of key me_then) made used) where
   -- before the call
   held : holding_of key me ≡ holding_in desk views
@@ -116,7 +116,7 @@ module _ (packet : ℕ) (call : Call) (made : Record) (used : SeatRows) (key : P
       let b = stands.between in
       record {
         one = out ∙ ap (λ (m : M). m.0 ∷ []) one_then
-            ∙ ap (λ (x : Holding). (record { bundle = x ∷ [] }) ∷ []) held_then;
+            ∙ ap (λ (x : Holding). (record { bundle = x ∷ []; fronts = [] }) ∷ []) held_then;
         between = record {
           reached = ended_here.reached;
           idle = ended_here.idle;

@@ -12,5 +12,5 @@ holdings seats = map (λ s. s.holding) seats
 -- the token is of the table, and has all that these seats hold, of which none makes a call
 pub record HasAll (t : TableValue) (seats : List SeatValue) (token : Token) : Type 0 where
   pub table : token.table_id ≡ t.table_id
-  pub me : token.me ≡ (record { bundle = holdings seats }, [])
+  pub me : token.me ≡ (record { bundle = holdings seats; fronts = [] }, [])
   pub idle : All IsIdle seats

@@ -60,7 +60,7 @@ pub record IsBetween (desk : Desk) (used sizes need : SeatRows) (answered : ℕ)
 -- a seat has one view, which holds it alone, and room for each of its tries
 pub record SeatStands (desk : Desk) (room : Room) (views : List View) (used sizes need : SeatRows)
     (answered : ℕ) : Type 0 where
-  pub one : views ≡ (record { bundle = holding_in desk views ∷ [] }) ∷ []
+  pub one : views ≡ (record { bundle = holding_in desk views ∷ []; fronts = [] }) ∷ []
   pub between : IsBetween desk used sizes need answered (holding_in desk views)
   pub room_is : HasAllRoom (settings_at desk) room
 
@@ -68,9 +68,10 @@ pub record SeatStands (desk : Desk) (room : Room) (views : List View) (used size
 abbrev pub table_value : directory.Inside → TableValue
 table_value d = record { table_id = d.table.shared.table_id; setup = plain d.table.shared.key }
 
--- a directory's layout is that of its table
+-- a directory's layout and hashing are those of its table
 pub record TableStands (d : directory.Inside) : Type 0 where
   pub shape : shape_of d.layout ≡ (plain d.table.shared.key).shape
+  pub hashing_is : d.hashing ≡ (plain d.table.shared.key).hashing
   pub words : d.table.shared.table_id.words ≡ word_count (shape_of d.layout)
   pub slots : d.table.shared.table_id.slots ≡ 0
 

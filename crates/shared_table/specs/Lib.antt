@@ -1,5 +1,7 @@
 pub mod SeatValues
+pub mod Fronts
 pub mod Rule
+pub mod Readings
 pub mod Seating
 pub mod Calls
 pub mod Values
@@ -7,3 +9,5 @@ pub mod Insides
 pub mod Gathered
 pub mod Openings
 pub mod Orders
+pub mod Glancing
+pub mod Readers

@@ -1,5 +1,5 @@
 -- The rule of the running table, and what a step tells.
-use Rattle.std.specs.Prelude.{◌≡◌, ℕ, ◌<◌, List, [], ◌∷◌, ◌++◌, map}
+use Rattle.std.specs.Prelude.{◌≡◌, ℕ, ◌<◌, List, [], ◌∷◌, ◌++◌, All, map}
 use Rattle.atomic_table.specs.Table.{State, Me, Step}
 use Rattle.plain_map.specs.declared.calls.Call.{Call}
 use Rattle.word_rows.specs.Shape.{Shape}
@@ -11,15 +11,17 @@ use Rattle.core_model.specs.Worlds.{events_of}
 use Rattle.core_model.specs.Shown.{Holding, Bundle, Shows}
 use Rattle.core_model.specs.Steps.{MayStep, event_of, ask_of, advanced, told}
 use Rattle.shared_table.specs.declared.view.View.{View}
+use Rattle.shared_table.specs.Fronts.{IsFrontOf}
 use Rattle.shared_table.specs.declared.rule.Plan.{Plan}
 
 -- the bundles of the views
 abbrev pub bundles : List View → List Bundle
 bundles views = map (λ v. v.bundle) views
 
--- the rule: there is a run that all views are of
-abbrev pub Holds : Setup → State (Unit {0}) View → Type 0
-Holds setup s = Shows setup s.words (bundles s.views)
+-- the rule: there is a run that all views are of, and what readers know of it are its first events
+pub record Holds (setup : Setup) (s : State (Unit {0}) View) : Type 0 where
+  pub shows : Shows setup s.words (bundles s.views)
+  pub fronts : All (λ view. All (IsFrontOf setup shows.events) view.fronts) s.views
 
 -- what a table was opened with, as the definitions see it
 abbrev pub plain : Plan → Setup
@@ -35,7 +37,7 @@ M = Me (Unit {0}) View
 
 -- the view of one seat alone
 abbrev pub alone : Holding → M
-alone h = (record { bundle = h ∷ [] }, [])
+alone h = (record { bundle = h ∷ []; fronts = [] }, [])
 
 -- the events begin with those that were known, and the rest has none of the seat
 pub record Grew (seat : ℕ) (known events : List Event) : Type 0 where

@@ -16,13 +16,19 @@ use word_rows::ClosedRows;
 
 // Two flows of one pair of hosts, by their ports: the first has the lesser key.
 const FIRST: Key = Key {
-    k0: 0x0a00_0001_0a00_0002,
-    k1: 0x0000_0000_0100_5006,
+    k0: 0,
+    k1: 0x0a00_0001,
+    k2: 0,
+    k3: 0x0a00_0002,
+    k4: 0x0000_0000_0100_5006,
 };
 
 const SECOND: Key = Key {
-    k0: 0x0a00_0001_0a00_0002,
-    k1: 0x0000_0000_0200_5006,
+    k0: 0,
+    k1: 0x0a00_0001,
+    k2: 0,
+    k3: 0x0a00_0002,
+    k4: 0x0000_0000_0200_5006,
 };
 
 const ROWS: SeatRows = SeatRows {
@@ -105,10 +111,12 @@ fn a_closed_table_is_read(rt: HostRuntime) -> Result<(), Fail> {
         Pair {
             key: FIRST,
             value: 2,
+            bytes: 0,
         },
         Pair {
             key: SECOND,
             value: 1,
+            bytes: 0,
         },
     ];
     let whole = [ClosedLeaf {

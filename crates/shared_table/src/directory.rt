@@ -39,6 +39,7 @@ pub(crate) type Board = Table<(), View, Plan, OneRun, Global>;
 pub struct Directory {
     pub(crate) table: Board,
     pub(crate) layout: Layout,
+    pub(crate) hashing: Hashing,
     // Where the rooms of its seats go when it is closed.
     pub(crate) rooms: Rooms,
 }
@@ -258,6 +259,7 @@ impl Directory {
         let directory = Directory {
             table,
             layout,
+            hashing: plan.hashing,
             rooms,
         };
         Ok((directory, out))
@@ -301,6 +303,7 @@ impl Directory {
             table,
             layout,
             mut rooms,
+            ..
         } = self;
         let token = gather(&table.shared, seats, &mut rooms);
         ClosedTable {

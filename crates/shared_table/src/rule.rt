@@ -4,6 +4,7 @@ ghost use Rattle.std.specs.Prelude.{ℕ, List, []};
 ghost use Rattle.shared_table.specs.SeatValues.{SeatValue};
 ghost use Rattle.plain_map.specs.declared.calls.Call.{Call};
 ghost use Rattle.shared_table.specs.Rule.{Holds, plain, acted};
+ghost use Rattle.shared_table.specs.Readings.{entered, looked};
 ghost use Rattle.shared_table.specs.Seating.{whole, no_call, others, foremost, together, spent};
 
 use crate::view::View;
@@ -51,6 +52,20 @@ pub struct Acts<B> {
 
 impl<B: Asked> Play<(), View> for Acts<B> {
     ghost then = { acted B.asked };
+}
+
+/// One load of a reader.
+pub struct Looks;
+
+impl Play<(), View> for Looks {
+    ghost then = { looked };
+}
+
+/// A new reader.
+pub struct Enters;
+
+impl Play<(), View> for Enters {
+    ghost then = { entered };
 }
 
 /// The first seat of a view is cut off.

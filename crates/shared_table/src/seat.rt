@@ -9,12 +9,12 @@
 ghost use Rattle.std.specs.Prelude.{◌≡◌, ◌<◌, ◌≤◌, ◌^◌, IfOk, None, OnErr};
 ghost use Rattle.std.specs.Result.{result_err};
 ghost use Rattle.step_counts.specs.StepCounts.{step_bound};
-ghost use Rattle.plain_map.specs.declared.calls.Call.TheVariants.{Insert, Lookup, Remove};
+ghost use Rattle.plain_map.specs.declared.calls.Call.TheVariants.{Insert, Lookup, Remove, Tally};
 ghost use Rattle.plain_map.specs.Calls.{key_in};
 ghost use Rattle.plain_map.specs.Serving.{CanCount, IsAskable};
 ghost use Rattle.plain_map.specs.Updates.{IsUpdate, value_limit};
 ghost use Rattle.word_rows.specs.LayoutView.{shape_of};
-ghost use Rattle.core_model.specs.Setup.{IsKey, Setup, seats_of, settings_of};
+ghost use Rattle.core_model.specs.Setup.{Setup, seats_of, settings_of};
 ghost use Rattle.seat_machine.specs.Rooms.{HasAllRoom};
 ghost use Rattle.shared_table.specs.Rule.{IsReached, alone};
 ghost use Rattle.shared_table.specs.Seating.{fresh};
@@ -104,6 +104,30 @@ impl Seat {
         self.answer(directory, packet, &Call::Remove(key))
     }
 
+    /// Adds bytes to the session of a key, where it is there, and answers their total, which stops at 2^61 - 1.
+    ///
+    /// `Full` comes exactly where fewer of a range are left than an update may need; then nothing happened.
+    ///
+    /// **Steps:** at most `step_counts::bound` of the table's settings; it waits for nobody and takes no memory.
+    pub fn tally(
+        &mut self,
+        directory: &Directory,
+        packet: u32,
+        key: Key,
+        bytes: u64,
+    ) -> Result<Record, Full>
+        requires seat { IsOf directory.now self.old }
+        requires bytes { bytes < value_limit }
+        requires countable { CanCount (account_of self.old).records }
+        ensures same { IsSame self.old self.new }
+        ensures refused { result_err result ≡ refused_at self.old (Tally key bytes) }
+        ensures unanswered { OnErr result (self.new ≡ self.old) }
+        ensures answered { IfOk result (Answers packet (Tally key bytes) self.old self.new) }
+        ensures bounded { IfOk result (λ made. made.steps ≤ step_bound (settings_of self.old.holding.setup)) }
+    {
+        self.answer(directory, packet, &Call::Tally(key, bytes))
+    }
+
     /// Looks a key up. It is never refused, and takes no memory.
     ///
     /// **Steps:** exactly those of the items of the row that it reads; it waits for nobody.
@@ -114,7 +138,7 @@ impl Seat {
         ensures same { IsSame self.old self.new }
         ensures answered { Answers packet (Lookup key.now) self.old self.new result }
     {
-        has_words(key);
+        key.has_words();
         let badge = mem::replace(&mut self.badge, Badge::blank());
         let (token, made) = run_lookup::<Brand>(
             &directory.table.shared,
@@ -184,7 +208,7 @@ impl Seat {
         ensures same { IsSame self.old self.new }
         ensures answered { Answers packet call.now self.old self.new result }
     {
-        has_words(call.key());
+        call.key().has_words();
         let badge = mem::replace(&mut self.badge, Badge::blank());
         let (token, made) = run_update::<Brand>(
             &directory.table.shared,
@@ -200,17 +224,6 @@ impl Seat {
         self.answered += 1;
         made
     }
-}
-
-fn are_words(one: u64, two: u64)
-    ensures { (one < 2 ^ 64) × (two < 2 ^ 64) }
-{}
-
-// The two numbers of a key fit words.
-fn has_words(key: &Key)
-    ensures { IsKey key.now }
-{
-    are_words(key.k0, key.k1);
 }
 
 // A seat that has made no call.

@@ -10,6 +10,7 @@ mod calls;
 mod crowds;
 mod meetings;
 mod openings;
+mod peeks;
 mod replay;
 mod tries;
 
@@ -23,18 +24,32 @@ use word_rows::ClosedRows;
 // The key of 10.0.0.1 with this port and 10.0.0.2:80 over TCP, whose hash by ports begins with the port.
 fn key(port: u16) -> Key {
     Key {
-        k0: 0x0a00_0001_0a00_0002,
-        k1: u64::from(port) << 24 | 0x5006,
+        k0: 0,
+        k1: 0x0a00_0001,
+        k2: 0,
+        k3: 0x0a00_0002,
+        k4: u64::from(port) << 24 | 0x5006,
     }
 }
 
-// That key with a value.
+// That key with a value and no bytes.
 fn pair(port: u16, value: u32) -> Pair
     ensures { IsPair result }
 {
     Pair {
         key: key(port),
         value: u64::from(value),
+        bytes: 0,
+    }
+}
+
+// That key with a value and bytes.
+fn pair_of(port: u16, value: u32, bytes: u32) -> Pair
+    ensures { IsPair result }
+{
+    Pair {
+        bytes: u64::from(bytes),
+        ..pair(port, value)
     }
 }
 

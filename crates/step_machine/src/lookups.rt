@@ -115,23 +115,8 @@ impl Machine {
         ensures room { HasAllRoom self.new }
     {
         fill_items(&self.words, count, &mut self.base.items);
-        self.reply_of_base()
-    }
-
-    // The reply by the items of the loaded bucket.
-    #[tactic(auto, unfolding(bucket_states::specs::Items::reply_in))]
-    fn reply_of_base(&self) -> Reply
-        ensures { result ≡ reply_in (rules_of (setup_of self.now)) self.now.base.items.items self.now.call }
-    {
-        let few = self.base.items.len() < self.layout.settings().items as usize;
-        match (&self.call, self.base.find(self.call.key())) {
-            (Call::Insert(_, _), Some(value)) => Reply::Old(value),
-            (Call::Insert(_, _), None) if few => Reply::New,
-            (Call::Insert(_, _), None) => Reply::NoRoom,
-            (Call::Remove(_), Some(value)) => Reply::Gone(value),
-            (Call::Lookup(_), Some(value)) => Reply::Found(value),
-            (_, None) => Reply::Absent,
-        }
+        let rules = self.rules();
+        self.base.reply(&rules, &self.call)
     }
 }
 

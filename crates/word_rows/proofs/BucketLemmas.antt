@@ -8,10 +8,11 @@ use Rattle.step_counts.specs.declared.TheConstants.{ITEM_WORDS}
 use Rattle.step_counts.specs.declared.settings.Settings.{Settings}
 use Rattle.step_counts.specs.StepCounts.{bucket_row_words}
 use Rattle.plain_map.specs.declared.calls.Reply.{Reply}
-use Rattle.plain_map.specs.declared.calls.Reply.TheVariants.{New, Old, NoRoom, Gone, Found, Absent}
+use Rattle.plain_map.specs.declared.calls.Reply.TheVariants.{New, Old, NoRoom, Gone, Found, Absent, Sum}
 use Rattle.plain_map.specs.declared.keys.Pair.{Pair}
 use Rattle.plain_map.specs.Rows.{BucketContent}
 use Rattle.plain_map.specs.declared.keys.TheConstants.{KEY_WORDS}
+use Rattle.plain_map.specs.Keys.{no_key}
 use Rattle.word_rows.specs.Blocks.{blocks, block, first_values}
 use Rattle.word_rows.specs.KeyWords.{words_of_pair, pair_of_words}
 use Rattle.word_rows.specs.BaseWords.{word_of_base, base_of_word}
@@ -25,7 +26,7 @@ use Rattle.word_rows.proofs.PartLemmas.{length-first_values, item_place_within, 
 
 -- no value at a place that is read past the end
 no_pair : Pair
-no_pair = record { key = record { k0 = 0; k1 = 0 }; value = 0 }
+no_pair = record { key = no_key; value = 0; bytes = 0 }
 
 -- a reply's word spells it
 pub reply_read : (reply : Option Reply) → IsUpdateReply reply → reply_of_word (word_of_reply reply) ≡ reply
@@ -42,6 +43,10 @@ reply_read (Some (Gone value)) h =
     ap (λ k. reply_of_kind k ((4 + 8 * value) / 8)) kind ∙ ap (λ (v : ℕ). Some (Gone v)) rest
 reply_read (Some (Found value)) h = absurd h
 reply_read (Some Absent) h = refl
+reply_read (Some (Sum total)) h =
+    let kind : (6 + 8 * total) % 8 ≡ 6 = omega arith in
+    let rest : (6 + 8 * total) / 8 ≡ total = omega arith in
+    ap (λ k. reply_of_kind k ((6 + 8 * total) / 8)) kind ∙ ap (λ (v : ℕ). Some (Sum v)) rest
 
 -- a reply that a word spells is one that a row may hold
 pub reply_of_word_fits : (word : ℕ) → word < 2 ^ 64 → IsUpdateReply (reply_of_word word)
@@ -52,7 +57,8 @@ reply_of_word_fits word h =
     cond_both (eqb kind 2) _ _ IsUpdateReply (λ _. small) (λ _.
     cond_both (eqb kind 3) _ _ IsUpdateReply (λ _. tt) (λ _.
     cond_both (eqb kind 4) _ _ IsUpdateReply (λ _. small) (λ _.
-    cond_both (eqb kind 5) _ _ IsUpdateReply (λ _. tt) (λ _. tt)))))
+    cond_both (eqb kind 5) _ _ IsUpdateReply (λ _. tt) (λ _.
+    cond_both (eqb kind 6) _ _ IsUpdateReply (λ _. small) (λ _. tt))))))
 
 -- a mark that is spelled is read
 flag_read : (flag : Bool) → eqb (word_of_flag flag) 1 ≡ flag
@@ -77,8 +83,12 @@ pub pair_spelled : (words : List ℕ) → length words ≡ ITEM_WORDS → words_
 pair_spelled [] h = absurd (omega arith)
 pair_spelled (a ∷ []) h = absurd (omega arith)
 pair_spelled (a ∷ b ∷ []) h = absurd (omega arith)
-pair_spelled (a ∷ b ∷ c ∷ []) h = refl
-pair_spelled (a ∷ b ∷ c ∷ d ∷ words) h = absurd (omega arith)
+pair_spelled (a ∷ b ∷ c ∷ []) h = absurd (omega arith)
+pair_spelled (a ∷ b ∷ c ∷ d ∷ []) h = absurd (omega arith)
+pair_spelled (a ∷ b ∷ c ∷ d ∷ e ∷ []) h = absurd (omega arith)
+pair_spelled (a ∷ b ∷ c ∷ d ∷ e ∷ f ∷ []) h = absurd (omega arith)
+pair_spelled (a ∷ b ∷ c ∷ d ∷ e ∷ f ∷ g ∷ []) h = refl
+pair_spelled (a ∷ b ∷ c ∷ d ∷ e ∷ f ∷ g ∷ x ∷ words) h = absurd (omega arith)
 
 -- an item that is spelled is read
 pub pair_read : (pair : Pair) → pair_of_words (words_of_pair pair) ≡ pair
@@ -168,13 +178,19 @@ items_fit room count words fit stands =
           let within : i < count = omega arith in
           let item : get_or items i d ≡ pair_of_words (block ITEM_WORDS i words) =
           first_values_at (λ k. pair_of_words (block ITEM_WORDS k words)) count i d within in
-          let value : get_or (take KEY_WORDS (drop 0 (block ITEM_WORDS i words))) 0 0 ≡ get_or
-          (take KEY_WORDS (drop 0 (block ITEM_WORDS i words))) 0 0 = refl in
-          omega (
-            arith,
-            ap (λ (p : Pair). p.value) item,
-            get_or-block ITEM_WORDS i KEY_WORDS words (omega arith),
-            stands.values i within,
+          let small = stands.values i within in (
+            omega (
+              arith,
+              ap (λ (p : Pair). p.value) item,
+              get_or-block ITEM_WORDS i KEY_WORDS words (omega arith),
+              small.0,
+            ),
+            omega (
+              arith,
+              ap (λ (p : Pair). p.bytes) item,
+              get_or-block ITEM_WORDS i (KEY_WORDS + 1) words (omega arith),
+              small.1,
+            ),
           );
     }
 
@@ -323,11 +339,19 @@ items_stand room items h = record {
   values = λ i within.
       let part : block ITEM_WORDS i (item_words room items) ≡ words_of_pair (get_or items i no_pair) =
       item_word room items i (omega (arith, h.fit)) ∙ item_place_within items i no_pair within in
-      omega (
-        arith,
-        get_or-block ITEM_WORDS i KEY_WORDS (item_words room items) (omega arith),
-        ap (λ xs. get_or xs KEY_WORDS 0) part,
-        h.values i no_pair within,
+      let small = h.values i no_pair within in (
+        omega (
+          arith,
+          get_or-block ITEM_WORDS i KEY_WORDS (item_words room items) (omega arith),
+          ap (λ xs. get_or xs KEY_WORDS 0) part,
+          small.0,
+        ),
+        omega (
+          arith,
+          get_or-block ITEM_WORDS i (KEY_WORDS + 1) (item_words room items) (omega arith),
+          ap (λ xs. get_or xs (KEY_WORDS + 1) 0) part,
+          small.1,
+        ),
       );
   zeros = λ k d inside.
       let m : ℕ = (room - length items) * ITEM_WORDS in

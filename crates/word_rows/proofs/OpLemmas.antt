@@ -2,7 +2,7 @@
 use Rattle.std.proofs.Common.{◌≡◌, ℕ, length, refl}
 use Rattle.step_counts.specs.declared.TheConstants.{OP_WORDS}
 use Rattle.plain_map.specs.declared.calls.Call.{Call}
-use Rattle.plain_map.specs.declared.calls.Call.TheVariants.{Insert, Remove, Lookup}
+use Rattle.plain_map.specs.declared.calls.Call.TheVariants.{Insert, Remove, Lookup, Tally}
 use Rattle.word_rows.specs.declared.ops.OpRow.{OpRow}
 use Rattle.plain_map.specs.Updates.{IsUpdate}
 use Rattle.word_rows.specs.OpWords.{IsOp, words_of_op, op_of_words}
@@ -14,6 +14,7 @@ call_read : (number : ℕ) (call : Call) → IsUpdate call →
 call_read number (Insert key value) h = (refl, refl)
 call_read number (Remove key) h = (refl, refl)
 call_read number (Lookup key) h = absurd h
+call_read number (Tally key amount) h = (refl, refl)
 
 -- an op that is spelled has the words of one, and is read
 pub op_read : (row : OpRow) → IsOp row → (length (words_of_op row) ≡ OP_WORDS) × (op_of_words (words_of_op row) ≡ row)

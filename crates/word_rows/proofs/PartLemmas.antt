@@ -10,6 +10,8 @@ use Rattle.plain_map.specs.declared.keys.Pair.{Pair}
 use Rattle.plain_map.specs.declared.keys.TheConstants.{KEY_WORDS}
 use Rattle.word_rows.specs.Blocks.{blocks, block, first_values}
 use Rattle.word_rows.specs.KeyWords.{words_of_pair, pair_of_words}
+use Rattle.plain_map.specs.Updates.{IsSmallPair}
+use Rattle.word_rows.specs.BucketPlaces.{ItemStands}
 use Rattle.word_rows.specs.BucketWords.{item_place, item_words}
 use Rattle.word_rows.proofs.BlockLemmas.{blocks_more, get_or-block}
 
@@ -125,10 +127,22 @@ seat_written part out s a r before is inside =
 pub item_read : (words : List ℕ) (i k : ℕ) (pair : Pair) → i * ITEM_WORDS + k ≡ (i + 1) * ITEM_WORDS →
     take k (drop (i * ITEM_WORDS) words) ≡ words_of_pair pair →
     (pair ≡ pair_of_words (block ITEM_WORDS i words)) × (get_or words (i * ITEM_WORDS + KEY_WORDS) 0 ≡ pair.value)
+    × (get_or words (i * ITEM_WORDS + (KEY_WORDS + 1)) 0 ≡ pair.bytes)
 item_read words i k pair ends is =
     let wide : k ≡ ITEM_WORDS = omega arith in
     let part : block ITEM_WORDS i words ≡ words_of_pair pair =
     subst (λ n. take n (drop (i * ITEM_WORDS) words) ≡ words_of_pair pair) wide is in (
       sym (ap pair_of_words part),
       sym (get_or-block ITEM_WORDS i KEY_WORDS words (omega arith)) ∙ ap (λ xs. get_or xs KEY_WORDS 0) part,
+      sym (get_or-block ITEM_WORDS i (KEY_WORDS + 1) words (omega arith))
+          ∙ ap (λ xs. get_or xs (KEY_WORDS + 1) 0) part,
     )
+
+-- an item that is read can be kept exactly where its words stand
+pub item_stands : (words : List ℕ) (i : ℕ) (pair : Pair) → get_or words (i * ITEM_WORDS + KEY_WORDS) 0 ≡ pair.value →
+    get_or words (i * ITEM_WORDS + (KEY_WORDS + 1)) 0 ≡ pair.bytes →
+    (IsSmallPair pair → ItemStands words i) × (ItemStands words i → IsSmallPair pair)
+item_stands words i pair value bytes = (
+  λ small. (omega (arith, value, small.0), omega (arith, bytes, small.1)),
+  λ stands. (omega (arith, value, stands.0), omega (arith, bytes, stands.1)),
+)

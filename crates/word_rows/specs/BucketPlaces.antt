@@ -15,9 +15,14 @@ pub record HeadStands (settings : Settings) (words : List ℕ) : Type 0 where
   pub frozen : slice_index words 3 ≤ 1
   pub count : slice_index words COUNT_PLACE ≤ settings.items
 
--- the items: so many with a value that can be kept, and zeros from there on
+-- an item: a value and bytes that can be kept
+abbrev pub ItemStands : List ℕ → (i : ℕ) → Type 0
+ItemStands words i = (slice_index words (i * ITEM_WORDS + KEY_WORDS) < value_limit)
+    × (slice_index words (i * ITEM_WORDS + (KEY_WORDS + 1)) < value_limit)
+
+-- the items: so many that can be kept, and zeros from there on
 pub record ItemsStand (count : ℕ) (words : List ℕ) : Type 0 where
-  pub values : (i : ℕ) → i < count → slice_index words (i * ITEM_WORDS + KEY_WORDS) < value_limit
+  pub values : (i : ℕ) → i < count → ItemStands words i
   pub zeros : All (λ word. word ≡ 0) (drop (count * ITEM_WORDS) words)
 
 -- a seat: a number that fits, a word that spells a reply, and a reply exactly where the number is not 0

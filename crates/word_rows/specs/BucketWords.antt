@@ -7,7 +7,7 @@ use Rattle.step_counts.specs.declared.settings.Settings.{Settings}
 use Rattle.plain_map.specs.declared.calls.Reply.{Reply}
 use Rattle.plain_map.specs.declared.keys.Pair.{Pair}
 use Rattle.plain_map.specs.Rows.{BucketContent}
-use Rattle.plain_map.specs.Updates.{IsUpdateReply, value_limit}
+use Rattle.plain_map.specs.Updates.{IsSmallPair, IsUpdateReply}
 use Rattle.word_rows.specs.BaseWords.{IsBase, word_of_base, base_of_word}
 use Rattle.word_rows.specs.Blocks.{blocks, block, first_values}
 use Rattle.word_rows.specs.KeyWords.{words_of_pair, pair_of_words}
@@ -22,7 +22,7 @@ pub record IsAnswered (number : ℕ) (reply : Option Reply) : Type 0 where
 -- items that can be spelled in this much room
 pub record AreItems (room : ℕ) (items : List Pair) : Type 0 where
   pub fit : length items ≤ room
-  pub values : All (λ item. item.value < value_limit) items
+  pub values : All IsSmallPair items
 
 -- numbers and replies of this many seats
 pub record AreAnswered (seats : ℕ) (applied : List ℕ) (replies : List (Option Reply)) : Type 0 where

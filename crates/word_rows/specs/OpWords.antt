@@ -1,13 +1,12 @@
 -- How an announced op is spelled.
 use Rattle.std.specs.Prelude.{◌≡◌, ℕ, ◌+◌, ◌^◌, ◌<◌, ◌≤◌, ◌==◌, if◌then◌else◌, List, [], ◌∷◌, ◌++◌, take, drop, slice_index}
 use Rattle.plain_map.specs.declared.calls.Call.{Call}
-use Rattle.plain_map.specs.declared.calls.Call.TheVariants.{Insert, Remove, Lookup}
+use Rattle.plain_map.specs.declared.calls.Call.TheVariants.{Insert, Remove, Lookup, Tally}
 use Rattle.word_rows.specs.declared.ops.OpRow.{OpRow}
-use Rattle.word_rows.specs.declared.ops.TheConstants.{INSERT, REMOVE}
+use Rattle.word_rows.specs.declared.ops.TheConstants.{INSERT, REMOVE, TALLY}
 use Rattle.plain_map.specs.declared.keys.TheConstants.{KEY_WORDS}
-use Rattle.plain_map.specs.Keys.{words_of_key}
+use Rattle.plain_map.specs.Keys.{words_of_key, key_of_words}
 use Rattle.plain_map.specs.Updates.{IsUpdate}
-use Rattle.word_rows.specs.KeyWords.{key_of_words}
 
 -- an op that can be spelled
 pub record IsOp (row : OpRow) : Type 0 where
@@ -15,11 +14,12 @@ pub record IsOp (row : OpRow) : Type 0 where
   pub few : row.number < 2 ^ 32
   pub update : IsUpdate row.call
 
--- kind, key and value; a remove has value 0
+-- kind, key and value; a remove has value 0, and a tally its amount
 abbrev pub words_of_call : Call → List ℕ
 words_of_call (Insert key value) = INSERT ∷ words_of_key key ++ value ∷ []
 words_of_call (Remove key) = REMOVE ∷ words_of_key key ++ 0 ∷ []
 words_of_call (Lookup key) = []
+words_of_call (Tally key amount) = TALLY ∷ words_of_key key ++ amount ∷ []
 
 -- the words of an op
 abbrev pub words_of_op : OpRow → List ℕ
@@ -29,7 +29,9 @@ words_of_op row = row.number ∷ words_of_call row.call
 abbrev pub call_of_words : List ℕ → Call
 call_of_words words =
     let key = key_of_words (take KEY_WORDS (drop 1 words)) in
-    if slice_index words 0 == INSERT then Insert key (slice_index words (KEY_WORDS + 1)) else Remove key
+    let value = slice_index words (KEY_WORDS + 1) in
+    if slice_index words 0 == INSERT then Insert key value else (
+    if slice_index words 0 == TALLY then Tally key value else Remove key)
 
 -- the op that these words spell, where they spell one
 abbrev pub op_of_words : List ℕ → OpRow

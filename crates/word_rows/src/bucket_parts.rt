@@ -4,6 +4,7 @@ ghost use Rattle.std.specs.Prelude.{◌≡◌, ℕ, ◌*◌, ◌<◌, ◌≤◌,
 ghost use Rattle.std.specs.Bool.{OnTrue};
 ghost use Rattle.std.specs.List.{All};
 ghost use Rattle.plain_map.specs.Rows.{bucket_content};
+ghost use Rattle.plain_map.specs.Updates.{IsSmallPair};
 ghost use Rattle.word_rows.specs.ReplyWords.{reply_of_word};
 ghost use Rattle.word_rows.specs.BaseWords.{base_of_word};
 ghost use Rattle.word_rows.specs.BucketWords.{
@@ -87,12 +88,19 @@ pub(crate) fn read_items(words: &[u64], count: usize, items: &mut Vec<Pair>) -> 
     items.clear();
     for i in 0..count {
         let pair = read_pair(&words[i * ITEM_WORDS..(i + 1) * ITEM_WORDS]);
-        if pair.value >= VALUE_LIMIT {
+        if !is_small(&pair) {
             return false;
         }
         items.push_reserved(pair);
     }
     are_zeros(&words[count * ITEM_WORDS..])
+}
+
+// Whether an item's numbers can be kept.
+fn is_small(pair: &Pair) -> bool
+    ensures { IsTrue result ↔ IsSmallPair pair.now }
+{
+    pair.value < VALUE_LIMIT && pair.bytes < VALUE_LIMIT
 }
 
 // Whether every word is 0.

@@ -18,6 +18,8 @@ pub const NO_ROOM: u64 = 3;
 pub const GONE: u64 = 4;
 /// The kind of `Absent`.
 pub const ABSENT: u64 = 5;
+/// The kind of `Sum`.
+pub const SUM: u64 = 6;
 
 /// The word of a reply.
 pub fn reply_word(reply: Option<Reply>) -> u64
@@ -31,6 +33,7 @@ pub fn reply_word(reply: Option<Reply>) -> u64
         Some(Reply::NoRoom) => NO_ROOM,
         Some(Reply::Gone(value)) => GONE + 8 * value,
         Some(Reply::Absent) => ABSENT,
+        Some(Reply::Sum(total)) => SUM + 8 * total,
         Some(Reply::Found(_)) => unreachable!(),
     }
 }
@@ -47,6 +50,7 @@ pub fn reply_of(word: u64) -> Option<Reply>
         NO_ROOM => Some(Reply::NoRoom),
         GONE => Some(Reply::Gone(value)),
         ABSENT => Some(Reply::Absent),
+        SUM => Some(Reply::Sum(value)),
         _ => None,
     }
 }

@@ -19,19 +19,38 @@ const SMALL_ROWS: SeatRows = SeatRows {
     directory_rows: 1,
 };
 
-// The key of 10.0.0.1:1 and 10.0.0.2:80 over TCP.
-const K0: u64 = 0x0a00_0001_0a00_0002;
+// The key of 10.0.0.1:1 and 10.0.0.2:80 over TCP; its words 0 and 2 are 0.
+const K1: u64 = 0x0a00_0001;
 
-const K1: u64 = 0x0000_0000_0100_5006;
+const K3: u64 = 0x0a00_0002;
+
+const K4: u64 = 0x0100_5006;
 
 // The rows of a table of one seat, two items and depth 1, after one insert, as worked by hand.
-const OP: [u64; 5] = [1, 1, K0, K1, 1];
+const OP: [u64; 8] = [1, 1, 0, K1, 0, K3, K4, 1];
 
-const EMPTY_LEFT: [u64; 13] = [0, 1, 0, 0, 0, 0, 0, 0, 0, 0, 0, 0, 0];
+const EMPTY_LEFT: [u64; 21] = [
+    0, 1, 0, 0, 0, 0, 0, 0, 0, 0, 0, 0, 0, 0, 0, 0, 0, 0, 0, 0, 0,
+];
 
-const EMPTY_RIGHT: [u64; 13] = [1, 1, 0, 0, 0, 0, 0, 0, 0, 0, 0, 0, 0];
+const EMPTY_RIGHT: [u64; 21] = [
+    1, 1, 0, 0, 0, 0, 0, 0, 0, 0, 0, 0, 0, 0, 0, 0, 0, 0, 0, 0, 0,
+];
 
-const FILLED_LEFT: [u64; 13] = [0, 1, 1, 0, 1, K0, K1, 1, 0, 0, 0, 1, 1];
+const FILLED_LEFT: [u64; 21] = [
+    0, 1, 1, 0, 1, 0, K1, 0, K3, K4, 1, 0, 0, 0, 0, 0, 0, 0, 0, 1, 1,
+];
+
+// The key of the worked insert.
+fn small_key() -> Key {
+    Key {
+        k0: 0,
+        k1: K1,
+        k2: 0,
+        k3: K3,
+        k4: K4,
+    }
+}
 
 // The layout of a table of one seat, two items and depth 1.
 #[tactic(auto, unfolding(crate::specs::Shape::number_after))]
@@ -48,7 +67,7 @@ fn small_layout(settings: &Settings) -> Layout
 }
 
 // Whether a bucket row of the small table is read.
-fn is_bucket(layout: &Layout, words: &[u64; 13], row: &mut BucketRow) -> bool
+fn is_bucket(layout: &Layout, words: &[u64; 21], row: &mut BucketRow) -> bool
     requires seats { (shape_of layout.now).settings.seats ≡ 1 }
     requires items { (shape_of layout.now).settings.items ≡ 2 }
     requires room { HasBucketRoom 1 2 row.old }
@@ -69,28 +88,28 @@ fn is_directory(layout: &Layout, words: &[u64], row: &mut DirectoryRow) -> bool
     layout.read_directory(words, row)
 }
 
-// Which word is what, in a table of 98 words that was laid out by hand. No clause says that the order is the meant one.
+// Which word is what, in a table of 149 words that was laid out by hand. No clause says that the order is the meant one.
 #[test]
 fn words_of_a_small_table(rt: HostRuntime) -> Result<(), Fail> {
     let settings = Settings::new(1, 2, 1, 1)?;
     let layout = small_layout(&settings);
-    assert_eq!(rt; layout.words(), 98);
+    assert_eq!(rt; layout.words(), 149);
     assert_eq!(rt; layout.root(), 0);
     assert_eq!(rt; layout.announcement(0), 1);
     assert_eq!(rt; layout.done(0), 2);
     assert_eq!(rt; [layout.bucket_word(0), layout.bucket_word(3)], [3, 6]);
-    assert_eq!(rt; [layout.op_word(0, 0), layout.op_word(0, 4)], [7, 11]);
+    assert_eq!(rt; [layout.op_word(0, 0), layout.op_word(0, 7)], [7, 14]);
     assert_eq!(rt;
         [layout.bucket_row_word(0, 0), layout.bucket_row_word(1, 0)],
-        [12, 25]
+        [15, 36]
     );
     assert_eq!(rt;
-        [layout.bucket_row_word(2, 0), layout.bucket_row_word(5, 12)],
-        [38, 89]
+        [layout.bucket_row_word(2, 0), layout.bucket_row_word(5, 20)],
+        [57, 140]
     );
     assert_eq!(rt;
         [layout.directory_word(0, 0), layout.directory_word(1, 3)],
-        [90, 97]
+        [141, 148]
     );
     assert_eq!(rt; layout.sizes(0), SMALL_ROWS);
     assert_eq!(rt; layout.settings().items, 2);
@@ -113,11 +132,11 @@ fn words_of_a_small_table(rt: HostRuntime) -> Result<(), Fail> {
         (Address::Done(0), 2, true),
         (Address::Announcement(1), 2, false),
         (Address::BucketWord(3), 6, true),
-        (Address::OpWord(0, 4), 11, true),
-        (Address::OpWord(0, 5), 12, false),
-        (Address::BucketRowWord(5, 12), 89, true),
-        (Address::DirectoryWord(1, 3), 97, true),
-        (Address::DirectoryWord(2, 0), 98, false),
+        (Address::OpWord(0, 7), 14, true),
+        (Address::OpWord(0, 8), 15, false),
+        (Address::BucketRowWord(5, 20), 140, true),
+        (Address::DirectoryWord(1, 3), 148, true),
+        (Address::DirectoryWord(2, 0), 149, false),
     ] {
         assert_eq!(rt; layout.place(&address), place, "{address:?}");
         assert_eq!(rt; layout.has(&address), is_there, "{address:?}");
@@ -128,8 +147,8 @@ fn words_of_a_small_table(rt: HostRuntime) -> Result<(), Fail> {
 // The op of the worked insert, and each way in which words spell no op.
 #[test]
 fn ops_that_are_words(rt: HostRuntime) {
-    let key = Key { k0: K0, k1: K1 };
-    let mut out = [0; 5];
+    let key = small_key();
+    let mut out = [0; 8];
     write_op(
         &OpRow {
             number: 1,
@@ -145,7 +164,7 @@ fn ops_that_are_words(rt: HostRuntime) {
         },
         &mut out,
     );
-    assert_eq!(rt; out, [7, 2, K0, K1, 0]);
+    assert_eq!(rt; out, [7, 2, 0, K1, 0, K3, K4, 0]);
     assert_eq!(rt;
         read_op(&out),
         Some(OpRow {
@@ -153,13 +172,21 @@ fn ops_that_are_words(rt: HostRuntime) {
             call: Call::Remove(key)
         })
     );
+    let tally = OpRow {
+        number: 8,
+        call: Call::Tally(key, 5),
+    };
+    write_op(&tally, &mut out);
+    assert_eq!(rt; out, [8, 3, 0, K1, 0, K3, K4, 5]);
+    assert_eq!(rt; read_op(&out), Some(tally));
     for words in [
-        [0, 1, K0, K1, 1],
-        [1 << 32, 1, K0, K1, 1],
-        [1, 0, K0, K1, 1],
-        [1, 3, K0, K1, 1],
-        [1, 1, K0, K1, 1 << 61],
-        [1, 2, K0, K1, 1],
+        [0, 1, 0, K1, 0, K3, K4, 1],
+        [1 << 32, 1, 0, K1, 0, K3, K4, 1],
+        [1, 0, 0, K1, 0, K3, K4, 1],
+        [1, 4, 0, K1, 0, K3, K4, 1],
+        [1, 1, 0, K1, 0, K3, K4, 1 << 61],
+        [1, 3, 0, K1, 0, K3, K4, 1 << 61],
+        [1, 2, 0, K1, 0, K3, K4, 1],
     ] {
         assert_eq!(rt; read_op(&words), None, "{words:?}");
     }
@@ -175,12 +202,13 @@ fn replies_that_are_words(rt: HostRuntime) {
         (Some(Reply::NoRoom), 3),
         (Some(Reply::Gone((1 << 61) - 1)), 0xffff_ffff_ffff_fffc),
         (Some(Reply::Absent), 5),
+        (Some(Reply::Sum(10)), 86),
     ] {
         let read = reply_of(word);
         assert_eq!(rt; read, reply, "{word}");
         assert_eq!(rt; reply_word(read), word, "{reply:?}");
     }
-    for word in [6, 7, 8, 14] {
+    for word in [7, 8, 15] {
         assert_eq!(rt; reply_of(word), None, "{word}");
     }
 }
@@ -192,7 +220,7 @@ fn bucket_rows_that_are_words(rt: HostRuntime) -> Result<(), Fail> {
     let layout = small_layout(&settings);
     let mut row = BucketRow::with_room(rt.alloc(), &settings)?;
     for words in [FILLED_LEFT, EMPTY_RIGHT, FILLED_LEFT, EMPTY_LEFT] {
-        let mut out = [9; 13];
+        let mut out = [9; 21];
         assert!(rt; is_bucket(&layout, &words, &mut row), "{words:?}");
         layout.write_bucket(&row, &mut out);
         assert_eq!(rt; out, words);
@@ -205,8 +233,9 @@ fn bucket_rows_that_are_words(rt: HostRuntime) -> Result<(), Fail> {
     assert_eq!(rt;
         row.items.as_slice(),
         [Pair {
-            key: Key { k0: K0, k1: K1 },
-            value: 1
+            key: small_key(),
+            value: 1,
+            bytes: 0,
         }]
         .as_slice()
     );
@@ -232,26 +261,31 @@ fn bucket_words_that_spell_no_row(rt: HostRuntime) -> Result<(), Fail> {
         (4, 0, false),
         (4, 2, true),
         (4, 3, false),
-        (7, (1 << 61) - 1, true),
-        (7, 1 << 61, false),
-        (8, 1, false),
-        (9, 1, false),
-        (10, 1, false),
-        (11, u32::MAX as u64, true),
-        (11, 1 << 32, false),
-        (11, 0, false),
-        (12, 0, false),
-        (12, 2 + 8 * 5, true),
-        (12, 4, true),
-        (12, 3, true),
-        (12, 5, true),
-        (12, 6, false),
-        (12, 1 + 8, false),
-        (12, 3 + 8, false),
-        (12, 5 + 8, false),
+        (5, u64::MAX, true),
+        (9, u64::MAX, true),
+        (10, (1 << 61) - 1, true),
+        (10, 1 << 61, false),
+        (11, (1 << 61) - 1, true),
+        (11, 1 << 61, false),
+        (12, 1, false),
+        (17, 1, false),
+        (18, 1, false),
+        (19, u32::MAX as u64, true),
+        (19, 1 << 32, false),
+        (19, 0, false),
+        (20, 0, false),
+        (20, 2 + 8 * 5, true),
+        (20, 4, true),
+        (20, 3, true),
+        (20, 5, true),
+        (20, 6 + 8 * 5, true),
+        (20, 7, false),
+        (20, 1 + 8, false),
+        (20, 3 + 8, false),
+        (20, 5 + 8, false),
     ] {
         let mut words = FILLED_LEFT;
-        assert!(rt; place < 13);
+        assert!(rt; place < 21);
         words[place] = word;
         assert_eq!(rt;
             is_bucket(&layout, &words, &mut row),

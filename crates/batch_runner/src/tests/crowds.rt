@@ -5,7 +5,7 @@ ghost use Rattle.std.specs.Option.{ForSome};
 ghost use Rattle.plain_map.specs.PlainObject.{InRange};
 ghost use Rattle.word_rows.specs.Shape.{AreBelow};
 
-use super::Frame::{Ack, Fin, Syn};
+use super::Frame::{Ack, Data, Fin, Syn};
 use super::meetings::serve_frames;
 use super::{Frame, calls_of, service_of};
 use crate::{Account, Service, Workspace, serve_batch};
@@ -20,9 +20,10 @@ use trace_share::{Outcome, Share};
 fn frame_of(number: u32) -> Frame {
     let at = number.wrapping_mul(2_654_435_769);
     let port = ((at >> 23) as u16).wrapping_mul(128);
-    match at % 4 {
+    match at % 5 {
         0 | 1 => Syn(port),
         2 => Fin(port),
+        3 => Data(port, (at % 1461) as u16),
         _ => Ack(port),
     }
 }

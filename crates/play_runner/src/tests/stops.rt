@@ -11,8 +11,8 @@ use std::test::Fail;
 fn a_stopped_call_is_helped(rt: HostRuntime) -> Result<(), Fail> {
     let stopped = Worked {
         name: "seat 0 is stopped after its announcement",
-        stops: [Some(8), None],
-        told: &[(2, New, 56, Some([0, 0]))],
+        stops: [Some(11), None],
+        told: &[(2, New, 81, Some([0, 0]))],
         pending: &[1],
         ..HELPED
     };
@@ -29,26 +29,26 @@ fn stopped_at(stop: u32) -> Worked<'static> {
     };
     match stop {
         0 => Worked {
-            told: &[(2, New, 51, Some([0, 0]))],
+            told: &[(2, New, 73, Some([0, 0]))],
             order: &[2],
             sessions: &[(2, 2)],
             unbegun: 1,
             ..one_after_the_other
         },
-        1..=7 => Worked {
-            told: &[(2, New, 51, Some([0, 0]))],
+        1..=10 => Worked {
+            told: &[(2, New, 73, Some([0, 0]))],
             pending: &[1],
             order: &[2],
             sessions: &[(2, 2)],
             ..one_after_the_other
         },
-        8..=50 => Worked {
-            told: &[(2, New, 56, Some([0, 0]))],
+        11..=72 => Worked {
+            told: &[(2, New, 81, Some([0, 0]))],
             pending: &[1],
             ..one_after_the_other
         },
         _ => Worked {
-            told: &[(1, New, 51, Some([0, 0])), (2, New, 56, Some([1, 0]))],
+            told: &[(1, New, 73, Some([0, 0])), (2, New, 81, Some([1, 0]))],
             ..one_after_the_other
         },
     }
@@ -56,7 +56,7 @@ fn stopped_at(stop: u32) -> Worked<'static> {
 
 #[test]
 fn seat_0_is_stopped_at_each_step(rt: HostRuntime) -> Result<(), Fail> {
-    for stop in 0..=60 {
+    for stop in 0..=82 {
         check(&rt, rt.alloc(), &stopped_at(stop))?;
     }
     Ok(())
@@ -65,7 +65,7 @@ fn seat_0_is_stopped_at_each_step(rt: HostRuntime) -> Result<(), Fail> {
 // Wherever seat 1 is stopped while it splits a bucket, the play is replayed by its order.
 #[test]
 fn seat_1_is_stopped_at_each_step(rt: HostRuntime) -> Result<(), Fail> {
-    for stop in 0..=180 {
+    for stop in 0..=260 {
         let stopped = Worked {
             name: "seat 1 is stopped",
             stops: [None, Some(stop)],

@@ -20,6 +20,7 @@ pub enum Verb {
     Insert,
     Remove,
     Lookup,
+    Tally,
 }
 
 /// A packet, the seat that makes its call, what it asks, and the low port of its key.
@@ -61,17 +62,21 @@ pub struct Worked<'a> {
 /// The key of TCP packets from 10.0.0.1, with this port, to 10.0.0.2, port 80.
 pub fn key(port: u64) -> Key {
     Key {
-        k0: 0x0a00_0001_0a00_0002,
-        k1: port << 24 | 80 << 8 | 6,
+        k0: 0,
+        k1: 0x0a00_0001,
+        k2: 0,
+        k3: 0x0a00_0002,
+        k4: port << 24 | 80 << 8 | 6,
     }
 }
 
-/// The call of a packet, which inserts the packet's number.
+/// The call of a packet, which inserts or adds the packet's number.
 pub fn call_of(asked: &Asked) -> Call {
     match asked.2 {
         Verb::Insert => Call::Insert(key(asked.3), u64::from(asked.0)),
         Verb::Remove => Call::Remove(key(asked.3)),
         Verb::Lookup => Call::Lookup(key(asked.3)),
+        Verb::Tally => Call::Tally(key(asked.3), u64::from(asked.0)),
     }
 }
 
@@ -116,6 +121,7 @@ fn is_playable(begin: (u32, Call)) -> bool
 {
     match begin.1 {
         Call::Insert(_, value) => value < 1 << 61,
+        Call::Tally(_, amount) => amount < 1 << 61,
         Call::Remove(_) | Call::Lookup(_) => true,
     }
 }

@@ -30,13 +30,13 @@ fn a_caller_is_answered(rt: HostRuntime) -> Result<(), Fail> {
     };
     assert_eq!(rt;
         (made.reply, made.number, made.packet, made.steps),
-        (Reply::New, 2, 1, 45)
+        (Reply::New, 2, 1, 67)
     );
     let mut seat = caller.into_seat();
     let made = seat.lookup(&directory, 2, &key(1));
     assert_eq!(rt;
         (made.reply, made.number, made.steps),
-        (Reply::Found(5), 3, 10)
+        (Reply::Found(5), 3, 14)
     );
     let Ok(made) = seat.insert(&directory, 3, key(1), 6) else {
         panic!(rt; "there is room");
@@ -47,6 +47,34 @@ fn a_caller_is_answered(rt: HostRuntime) -> Result<(), Fail> {
     };
     assert_eq!(rt; (made.reply, made.number), (Reply::Gone(5), 5));
     assert_eq!(rt; seat.lookup(&directory, 5, &key(1)).reply, Reply::Absent);
+    Ok(())
+}
+
+// Tallies add up in a session that is there, and find none where there is none.
+#[test]
+fn tallies_are_summed(rt: HostRuntime) -> Result<(), Fail> {
+    let settings = Settings::new(1, 2, 1, 1)?;
+    let rows = automatic_rows(&settings, 10);
+    let (directory, seats) = opened(rt.alloc(), &settings, &[rows], &no_pairs())?;
+    let Some(mut seat) = one_of(seats, &directory) else {
+        panic!(rt; "one seat");
+    };
+    let Ok(made) = seat.tally(&directory, 1, key(1), 5) else {
+        panic!(rt; "there is room");
+    };
+    assert_eq!(rt; made.reply, Reply::Absent);
+    let Ok(made) = seat.insert(&directory, 2, key(1), 6) else {
+        panic!(rt; "there is room");
+    };
+    assert_eq!(rt; made.reply, Reply::New);
+    let Ok(made) = seat.tally(&directory, 3, key(1), 5) else {
+        panic!(rt; "there is room");
+    };
+    assert_eq!(rt; (made.reply, made.steps), (Reply::Sum(5), 67));
+    let Ok(made) = seat.tally(&directory, 4, key(1), 5) else {
+        panic!(rt; "there is room");
+    };
+    assert_eq!(rt; (made.reply, made.number), (Reply::Sum(10), 4));
     Ok(())
 }
 

@@ -62,7 +62,7 @@ fn sees_all(arrivals: &AtomicU64, all: u64) -> bool {
 // What each seat of a table is to ask.
 #[derive(Clone, Copy)]
 pub(super) enum Load {
-    // So many calls of all three kinds on 64 keys, whose hashes differ in their first six bits, each seat its own.
+    // So many calls of all kinds on 64 keys, whose hashes differ in their first six bits, each seat its own.
     Mixed(u32),
     // So many inserts of new keys: the seats in turn go down one path of the hash after the other, so that each key
     // but the first of a path falls into a leaf that holds the key before it.
@@ -105,9 +105,10 @@ fn mixed_call(at: u32) -> Call
     ensures { IsAskable result }
 {
     let key = key(((at >> 26) << 10) as u16);
-    match (at >> 8) % 4 {
+    match (at >> 8) % 5 {
         0 | 1 => Call::Insert(key, u64::from(at >> 10)),
         2 => Call::Remove(key),
+        3 => Call::Tally(key, u64::from(at >> 10)),
         _ => Call::Lookup(key),
     }
 }

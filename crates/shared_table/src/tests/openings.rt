@@ -1,6 +1,6 @@
 //! The words of tables at their opening, and openings that find no room.
 
-use super::{closed_one, key, no_pairs, one_of, opened, pair, three};
+use super::{closed_one, key, no_pairs, one_of, opened, pair, pair_of, three};
 use crate::{depth_in, leaves_in, pairs_in};
 use closed_words::ClosedLeaf;
 use plain_map::{FullKind, OpenFault, Reply};
@@ -56,21 +56,25 @@ fn leaves_are(alloc: Global, rows: &ClosedRows, leaves: &[(u64, u64)]) -> Result
 #[test]
 fn a_table_has_its_words(rt: HostRuntime) -> Result<(), Fail> {
     let settings = Settings::new(1, 2, 1, 1)?;
-    let new: &[(usize, &[u64])] = &[(4, &[1]), (13, &[1]), (25, &[1, 1]), (90, &[1, 0, 0, 1])];
+    let new: &[(usize, &[u64])] = &[(4, &[1]), (16, &[1]), (36, &[1, 1]), (141, &[1, 0, 0, 1])];
     let (directory, seats) = opened(rt.alloc(), &settings, &[ROWS], &no_pairs())?;
     let Some(seat) = one_of(seats, &directory) else {
         panic!(rt; "one seat");
     };
     let rows = closed_one(rt.alloc(), directory, seat)?;
-    assert_eq!(rt; rows.words, words_with(rt.alloc(), 98, new)?);
+    assert_eq!(rt; rows.words, words_with(rt.alloc(), 149, new)?);
 
     let inserted: &[(usize, &[u64])] = &[
         (1, &[1, 1, 2, 1]),
-        (7, &[1, 1, key(1).k0, key(1).k1, 1]),
-        (13, &[1]),
-        (25, &[1, 1]),
-        (38, &[0, 1, 1, 0, 1, key(1).k0, key(1).k1, 1, 0, 0, 0, 1, 1]),
-        (90, &[1, 0, 0, 1]),
+        (7, &[1, 1, 0, key(1).k1, 0, key(1).k3, key(1).k4, 1]),
+        (16, &[1]),
+        (36, &[1, 1]),
+        (
+            57,
+            &[0, 1, 1, 0, 1, 0, key(1).k1, 0, key(1).k3, key(1).k4, 1],
+        ),
+        (76, &[1, 1]),
+        (141, &[1, 0, 0, 1]),
     ];
     let (directory, seats) = opened(rt.alloc(), &settings, &[ROWS], &no_pairs())?;
     let Some(mut seat) = one_of(seats, &directory) else {
@@ -88,7 +92,7 @@ fn a_table_has_its_words(rt: HostRuntime) -> Result<(), Fail> {
     };
     assert_eq!(rt; (full.what, full.left, full.need), (FullKind::OpRows, 0, 1));
     let rows = closed_one(rt.alloc(), directory, seat)?;
-    assert_eq!(rt; rows.words, words_with(rt.alloc(), 98, inserted)?);
+    assert_eq!(rt; rows.words, words_with(rt.alloc(), 149, inserted)?);
     assert_eq!(rt; depth_in(&rows.layout, &rows), 1);
     let held = pairs_in(rt.alloc(), &rows.layout, &rows)?;
     assert_eq!(rt; held.as_slice(), [pair(1, 1)].as_slice());
@@ -101,7 +105,7 @@ fn a_table_has_its_words(rt: HostRuntime) -> Result<(), Fail> {
 #[test]
 fn a_table_begins_with_its_pairs(rt: HostRuntime) -> Result<(), Fail> {
     let settings = Settings::new(1, 2, 2, 0)?;
-    let Some(first) = three(pair(2, 1), pair(16384, 3), pair(1, 2)) else {
+    let Some(first) = three(pair(2, 1), pair(16384, 3), pair_of(1, 2, 10)) else {
         panic!(rt; "the keys differ");
     };
     let (directory, seats) = opened(rt.alloc(), &settings, &[ROWS], &first)?;
@@ -115,16 +119,16 @@ fn a_table_begins_with_its_pairs(rt: HostRuntime) -> Result<(), Fail> {
     let made = seat.lookup(&directory, 3, &key(1));
     assert_eq!(rt; made.reply, Reply::Found(2));
     let rows = closed_one(rt.alloc(), directory, seat)?;
-    let (one, two) = (key(1), key(2));
-    let low = [0, 2, 0, 0, 2, two.k0, two.k1, 1, one.k0, one.k1, 2];
+    let (one, two, far) = (key(1), key(2), key(16384));
     let words: &[(usize, &[u64])] = &[
         (2, &[3, 0, 1, 2]),
-        (14, &low),
-        (27, &[1, 2, 0, 0, 1, key(16384).k0, key(16384).k1, 3]),
-        (40, &[1, 1]),
-        (118, &[2, 0, 0, 1, 2, 2]),
+        (17, &[0, 2, 0, 0, 2, 0, two.k1, 0, two.k3, two.k4, 1, 0]),
+        (29, &[0, one.k1, 0, one.k3, one.k4, 2, 10]),
+        (38, &[1, 2, 0, 0, 1, 0, far.k1, 0, far.k3, far.k4, 3]),
+        (59, &[1, 1]),
+        (185, &[2, 0, 0, 1, 2, 2]),
     ];
-    assert_eq!(rt; rows.words, words_with(rt.alloc(), 130, words)?);
+    assert_eq!(rt; rows.words, words_with(rt.alloc(), 197, words)?);
     assert_eq!(rt; depth_in(&rows.layout, &rows), 2);
     assert!(rt; leaves_are(rt.alloc(), &rows, &[(0, 2), (1, 2), (1, 1)])?);
     Ok(())

@@ -72,7 +72,7 @@ fn row_word(rows: &ClosedRows, row: u64, i: u64) -> u64 {
 // The number of the seat's last update in a bucket row.
 fn applied(rows: &ClosedRows, row: u64, seat: u32) -> u64 {
     let items = u64::from(rows.layout.settings().items);
-    row_word(rows, row, 5 + 3 * items + 2 * u64::from(seat))
+    row_word(rows, row, 5 + 7 * items + 2 * u64::from(seat))
 }
 
 impl<'a> Replay<'a> {

@@ -14,7 +14,7 @@ const PLACES: u64 = 4096;
 
 // How many updates made a try at the directory, a second one in the same round, a second round, and a last look.
 #[derive(Clone, Copy, Debug, PartialEq, Eq)]
-struct Tally {
+struct Paths {
     tries: u64,
     second_tries: u64,
     second_rounds: u64,
@@ -26,7 +26,7 @@ fn one_if(holds: bool) -> u64 {
     if holds { 1 } else { 0 }
 }
 
-impl Tally {
+impl Paths {
     // Counts an update. The directory has its greatest depth all the time, so that a try at it takes its places once
     // to load them and once more to store them, unless it ends as it has loaded them; and all other steps of an
     // update are fewer than the places. So this is how often an update went over the places:
@@ -84,7 +84,7 @@ fn is_own(meeting: &Meeting, seat: u32, row: u64) -> bool {
 }
 
 // Three seats insert new keys at tables whose directory has the greatest depth at the opening, until all was met that
-// an update can come to. By hand: an update takes at most 35636 steps, of which at most 2868 go not over the places.
+// an update can come to. By hand: an update takes at most 36427 steps, of which at most 3659 go not over the places.
 #[test]
 fn rare_tries_are_met(rt: HostRuntime) -> Result<(), Fail> {
     let settings = Settings::new(3, 1, 12, 0)?;
@@ -92,7 +92,7 @@ fn rare_tries_are_met(rt: HostRuntime) -> Result<(), Fail> {
     let Some(first) = three(pair(0, 1), pair(0xffe0, 2), pair(0xfff0, 3)) else {
         panic!(rt; "the keys differ");
     };
-    let mut tally = Tally {
+    let mut paths = Paths {
         tries: 0,
         second_tries: 0,
         second_rounds: 0,
@@ -114,7 +114,7 @@ fn rare_tries_are_met(rt: HostRuntime) -> Result<(), Fail> {
         for log in &meeting.logs {
             assert_eq!(rt; log.len(), 128, "in round {round}");
             assert!(rt;
-                log.iter().all(|made| made.steps <= 35_636),
+                log.iter().all(|made| made.steps <= 36_427),
                 "in round {round}"
             );
         }
@@ -124,11 +124,11 @@ fn rare_tries_are_met(rt: HostRuntime) -> Result<(), Fail> {
             Some(384),
             "in round {round}"
         );
-        assert!(rt; tally.add_all(rt.alloc(), &meeting)?, "in round {round}");
-        if tally.has_all() {
+        assert!(rt; paths.add_all(rt.alloc(), &meeting)?, "in round {round}");
+        if paths.has_all() {
             break;
         }
     }
-    assert!(rt; tally.has_all(), "{tally:?}");
+    assert!(rt; paths.has_all(), "{paths:?}");
     Ok(())
 }

@@ -7,10 +7,11 @@ use Rattle.batch_rows.proofs.KeyLemmas.{same_left_out, same_lists, same_taken}
 use Rattle.batch_rows.proofs.OrderLemmas.{greater, left_less, lesser, order_left_out, order_taken}
 use Rattle.batch_rows.proofs.keys.union_of.Goals as goal
 use Rattle.batch_rows.proofs.keys.union_of.Goals.{then-place-keys+in_ok-push-2, else-place-keys+else-ne, then-place-keys-via-then-place-keys, then-place-keys-via-else-place-keys+then-ne, then-loop-place-test+else-lt, else-loop-place-test}
+use Rattle.plain_map.specs.Keys.{no_key}
 
 -- the key that is read past the end of a list
 abbrev nobody : Key
-nobody = record { k0 = 0; k1 = 0 }
+nobody = no_key
 
 pub loop-other-preserved : goal.loop-other-preserved
 loop-other-preserved c =

@@ -4,20 +4,20 @@ use Rattle.bucket_states.specs.Items.{value_at}
 use Rattle.bucket_states.proofs.AnswerLemmas.{IsReply-Insert_held, IsReply-Insert_new, IsOverflow-Insert, IsReply-Insert_full}
 use Rattle.bucket_machine.proofs.WordLemmas.{with_places, small_at, items_pushed}
 use Rattle.bucket_machine.proofs.change.insert.Goals as goal
-
-no_pair : Pair
-no_pair = record { key = record { k0 = 0; k1 = 0 }; value = 0 }
+use Rattle.plain_map.specs.Keys.{held_in, no_pair, pair_of}
+use Rattle.plain_map.specs.PlainObject.{new_session}
 
 pub returns-in-Some-clause-answer : goal.returns-in-Some-clause-answer
 returns-in-Some-clause-answer c b spells =
     let place = c.in-Some.ensures.found b spells in
-    let held : value_at c.args.pair.now.key b.items ≡ Some c.value_in.result =
-    place.value no_pair ∙ ap Some (sym (c.value_in.ensures.same b spells place.in_range no_pair)) in
+    let is = c.pair_in.ensures.same b spells place.in_range no_pair in
+    let held : value_at c.args.pair.now.key b.items ≡ Some (held_in c.pair_in.result) =
+    place.value no_pair ∙ ap (λ (p : Pair). Some (held_in p)) (sym is) in
     record {
       left = b.items;
       answer = IsReply-Insert_held _ _ _ _ _ _ held;
       reply = small_at _ b.items c.in-Some.at _ no_pair spells.places.items place.in_range
-          (c.value_in.ensures.same b spells place.in_range no_pair);
+          (ap (λ (p : Pair). p.value) is);
       spelled = spells;
     }
 
@@ -26,14 +26,16 @@ returns-in-None-clause-answer c b spells =
     let none = c.in-None.ensures.found b spells in
     let count : get_or c.args.row.now 4 0 ≡ length b.items = ap (λ (ws : List ℕ). get_or ws 4 0) spells.words in
     let few : length b.items < c.args.settings.now.items = omega (arith, count) in
-    let pair = c.args.pair.now in
+    let pair : Pair = c.args.pair.now in
+    let begins : pair ≡ pair_of (pair.key, new_session pair.value) =
+    λ i. record { key = pair.key; value = pair.value; bytes = c.requires.begins i } in
     record {
       left = b.items ++ pair ∷ [];
-      answer = IsReply-Insert_new _ _ _ _ _ none (omega (arith, few));
+      answer = rw begins (IsReply-Insert_new _ _ _ _ _ none (omega (arith, few)));
       reply = tt;
       spelled = record {
         places = with_places c.args.settings.now b _ spells.places
-            (items_pushed _ b.items pair spells.places.items few c.requires.value);
+            (items_pushed _ b.items pair spells.places.items few (c.requires.value, omega (arith, c.requires.begins)));
         words = c.push_item.ensures.spelled b spells;
       };
     }

@@ -2,9 +2,7 @@ use Rattle.std.proofs.Common.{◌≡◌, ◌∙◌, ap, sym, arith, get_or, List
 use Rattle.plain_map.specs.declared.keys.Pair.{Pair}
 use Rattle.bucket_machine.proofs.WordLemmas.{placed_here, none_more}
 use Rattle.bucket_machine.proofs.row.find_item.Goals as goal
-
-no_pair : Pair
-no_pair = record { key = record { k0 = 0; k1 = 0 }; value = 0 }
+use Rattle.plain_map.specs.Keys.{no_pair}
 
 pub returns-then-has_key : goal.returns-then-has_key
 returns-then-has_key c = record {

@@ -15,3 +15,6 @@ pub returns-in-None-clause-answer : goal.returns-in-None-clause-answer
 returns-in-None-clause-answer c =
     let none = rw c.deref.ensures.value at c.in-None.ensures in
     rw c.in-Lookup.is (IsReply-Lookup_absent c.args.rules.now c.args.depth c.args.items.now.items c.in-Lookup.key none)
+
+pub returns-in-Tally-clause-answer : goal.returns-in-Tally-clause-answer
+returns-in-Tally-clause-answer c = rw c.in-Tally.is (c.tally.ensures.answer c.args.rules.now c.args.depth)

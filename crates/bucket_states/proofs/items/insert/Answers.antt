@@ -1,4 +1,7 @@
-use Rattle.std.proofs.Common.{◌≤◌, ◌<◌, length, arith}
+use Rattle.plain_map.specs.declared.keys.Pair.{Pair}
+use Rattle.plain_map.specs.Keys.{pair_of}
+use Rattle.plain_map.specs.PlainObject.{new_session}
+use Rattle.std.proofs.Common.{◌≡◌, ◌≤◌, ◌<◌, length, arith}
 use Rattle.bucket_states.proofs.PlaceLemmas.{held_at}
 use Rattle.bucket_states.proofs.AnswerLemmas.{IsReply-Insert_held, IsReply-Insert_new, IsOverflow-Insert, IsReply-Insert_full}
 use Rattle.bucket_states.proofs.items.insert.Goals as goal
@@ -13,7 +16,10 @@ pub returns-in-None-clause-answer : goal.returns-in-None-clause-answer
 returns-in-None-clause-answer c =
     let none = rw c.deref.ensures.value at c.in-None.ensures in
     let few : length c.args.items.now.items < c.args.rules.now.items = omega arith in
-    rw c.push_reserved.ensures.items (IsReply-Insert_new _ _ _ _ _ none few)
+    let pair : Pair = c.args.pair in
+    let begins : pair ≡ pair_of (pair.key, new_session pair.value) =
+    λ i. record { key = pair.key; value = pair.value; bytes = c.requires.begins i } in
+    rw (c.push_reserved.ensures.items, begins) (IsReply-Insert_new _ _ _ _ _ none few)
 
 pub returns-in-None-2-clause-answer : goal.returns-in-None-2-clause-answer
 returns-in-None-2-clause-answer c =

@@ -1,19 +1,25 @@
 -- Each turn reads one more item.
-use Rattle.std.proofs.Common.{◌≡◌, ◌*◌, ◌∷◌, ◌++◌, ◌∙◌, [], ap, sym, subst, arith, below_more}
+use Rattle.std.proofs.Common.{◌≡◌, true, ◌*◌, ◌∷◌, ◌++◌, ◌∙◌, [], ap, sym, subst, arith, below_more}
 use Rattle.std.specs.List.{All}
 use Rattle.std.proofs.lemmas.List.{take_rest}
 use Rattle.step_counts.specs.declared.TheConstants.{ITEM_WORDS}
 use Rattle.word_rows.specs.Blocks.{block}
 use Rattle.word_rows.specs.KeyWords.{pair_of_words}
 use Rattle.word_rows.specs.BucketWords.{items_of_words}
-use Rattle.word_rows.proofs.PartLemmas.{item_read, first_values_next}
+use Rattle.word_rows.proofs.PartLemmas.{item_read, item_stands, first_values_next}
 use Rattle.word_rows.proofs.bucket_parts.read_items.Goals as goal
 
-pub returns-then-pair-ge-VALUE_LIMIT-clause-stands : goal.returns-then-pair-ge-VALUE_LIMIT-clause-stands
-returns-then-pair-ge-VALUE_LIMIT-clause-stands c =
+pub returns-then-not-is_small-clause-stands : goal.returns-then-not-is_small-clause-stands
+returns-then-not-is_small-clause-stands c =
     let i = c.loop-i.i in
-    let both = item_read c.args.words.now i _ c.read_pair-pair.result (omega arith) c.read_pair-pair.ensures in
-    ((λ h. cc), λ stands. absurd (omega (arith, stands.values i c.loop-i-test.true, both.1)))
+    let both = item_read c.args.words.now i _ c.read_pair-pair.result (omega arith) c.read_pair-pair.ensures in (
+      (λ h. cc),
+      λ stands.
+          let own = (item_stands c.args.words.now i c.read_pair-pair.result both.1 both.2).1
+          (stands.values i c.loop-i-test.true) in
+          let passes : c.is_small.result ≡ true = c.is_small.ensures.1 own in
+          cc,
+    )
 
 pub loop-i-preserved : goal.loop-i-preserved
 loop-i-preserved c =
@@ -26,7 +32,8 @@ loop-i-preserved c =
           ∙ ap (λ p. items_of_words i words ++ p ∷ []) both.0
           ∙ sym (first_values_next (λ k. pair_of_words (block ITEM_WORDS k words)) i);
       counted = omega (arith, c.push_reserved.ensures.len);
-      values = below_more _ _ c.loop-i.invariant.values (omega (arith, both.1));
+      values = below_more _ _ c.loop-i.invariant.values
+          ((item_stands words i pair both.1 both.2).0 (c.is_small.ensures.0 c.if-not-is_small.false));
       room = c.push_reserved.ensures.capacity ∙ c.loop-i.invariant.room;
     }
 

@@ -1,7 +1,7 @@
 use Rattle.std.proofs.Common.{◌≡◌, ℕ, ◌+◌, ◌*◌, ◌<◌, get_or, vec_capacity, vec_len}
 use Rattle.step_counts.specs.declared.TheConstants.{ITEM_WORDS}
 use Rattle.plain_map.specs.declared.keys.TheConstants.{KEY_WORDS}
-use Rattle.plain_map.specs.Updates.{value_limit}
+use Rattle.word_rows.specs.BucketPlaces.{ItemStands}
 use Rattle.word_rows.specs.BucketWords.{items_of_words}
 use Rattle.word_rows.proofs.bucket_parts.read_items.Given as goal
 
@@ -9,6 +9,6 @@ abbrev pub invariant-loop-i : goal.invariant-loop-i
 invariant-loop-i l = record {
   read : l.items.items ≡ items_of_words l.i l.words;
   counted : vec_len l.items ≡ l.i;
-  values : (k : ℕ) → k < l.i → get_or l.words (k * ITEM_WORDS + KEY_WORDS) 0 < value_limit;
+  values : (k : ℕ) → k < l.i → ItemStands l.words k;
   room : vec_capacity l.items ≡ vec_capacity l.initial.items;
 }

@@ -1,0 +1,73 @@
+-- The bytes at the named places decide the heads.
+use Rattle.std.proofs.Common.{◌≡◌, ℕ, ◌+◌, List, Option, sym, ap, ◌∙◌, subst, inl, inr, arith, refl}
+use Rattle.std.specs.Prelude.{slice_index}
+use Rattle.byteorder.specs.Endian.{big_from}
+use Rattle.packet_heads.specs.declared.packet.Heads.{Heads}
+use Rattle.packet_heads.specs.declared.packet.Protocol.{Protocol}
+use Rattle.packet_heads.specs.declared.packet.Protocol.TheVariants.{Tcp, Udp}
+use Rattle.packet_heads.specs.Transport.{HasProtocol, count_behind}
+use Rattle.packet_heads.specs.Ipv4.{HasIpv4}
+use Rattle.packet_heads.specs.Ipv6.{HasIpv6}
+use Rattle.packet_heads.specs.Heads.{HasOneReading}
+use Rattle.packet_heads.proofs.CarriesLemmas.{HasNetwork-from_heads}
+
+-- a place has one protocol
+one_protocol : (packet : List ℕ) (head number : ℕ) (count : Option ℕ) (one other : Protocol)
+    → HasProtocol packet head number count one → HasProtocol packet head number count other → one ≡ other
+one_protocol packet head number count (Tcp flags payload) (Tcp flags' payload') a b =
+    let same_flags : flags ≡ flags' = sym a.fields.0 ∙ b.fields.0 in
+    let same_payload : payload ≡ payload' = a.fields.1 ∙ sym b.fields.1 in
+    cc
+one_protocol packet head number count (Tcp flags payload) Udp a b = absurd (omega (arith, a.is_number, b.is_number))
+one_protocol packet head number count Udp (Tcp flags payload) a b = absurd (omega (arith, a.is_number, b.is_number))
+one_protocol packet head number count Udp Udp a b = refl
+
+-- heads with equal parts are equal
+same_heads : (one other : Heads) → one.version ≡ other.version
+    → one.source.address ≡ other.source.address → one.source.port ≡ other.source.port
+    → one.target.address ≡ other.target.address → one.target.port ≡ other.target.port
+    → one.protocol ≡ other.protocol → one ≡ other
+same_heads one other v a p a' p' protocol =
+    λ i. record {
+      version = v i;
+      source = record { address = a i; port = p i };
+      target = record { address = a' i; port = p' i };
+      protocol = protocol i;
+    }
+
+-- an IPv4 packet has one reading
+one_ipv4 : (packet : List ℕ) (one other : Heads) → HasIpv4 packet one → HasIpv4 packet other → one ≡ other
+one_ipv4 packet one other a b =
+    let head : a.head ≡ b.head = a.head_length.head_length ∙ sym b.head_length.head_length in
+    let protocol : HasProtocol packet b.head (slice_index packet 9) (count_behind (big_from 2 2 packet) b.head)
+    one.protocol =
+    subst (λ (h : ℕ). HasProtocol packet h (slice_index packet 9) (count_behind (big_from 2 2 packet) h) one.protocol)
+    head a.protocol in
+    same_heads one other (a.version ∙ sym b.version)
+    (sym a.source_at_12 ∙ b.source_at_12)
+    (sym a.ports.source_at_0 ∙ ap (λ (h : ℕ). big_from h 2 packet) head ∙ b.ports.source_at_0)
+    (sym a.target_at_16 ∙ b.target_at_16)
+    (sym a.ports.target_at_2 ∙ ap (λ (h : ℕ). big_from (h + 2) 2 packet) head ∙ b.ports.target_at_2)
+    (one_protocol packet b.head _ _ one.protocol other.protocol protocol b.protocol)
+
+-- so has an IPv6 packet
+one_ipv6 : (packet : List ℕ) (one other : Heads) → HasIpv6 packet one → HasIpv6 packet other → one ≡ other
+one_ipv6 packet one other a b =
+    same_heads one other (a.version ∙ sym b.version)
+    (sym a.source_at_8 ∙ b.source_at_8) (sym a.ports.source_at_0 ∙ b.ports.source_at_0)
+    (sym a.target_at_24 ∙ b.target_at_24) (sym a.ports.target_at_2 ∙ b.ports.target_at_2)
+    (one_protocol packet 40 _ _ one.protocol other.protocol a.protocol b.protocol)
+
+-- so has a frame
+pub one_reading : HasOneReading
+one_reading frame one other h h' =
+    elim h.network [
+      | inl p ↦ elim (HasNetwork-from_heads frame h.packet h.ether_type other h.carried h') [
+        | inl q ↦ one_ipv4 h.packet one other p.1 q.1
+        | inr q ↦ absurd (omega (arith, p.0, q.0))
+      ]
+      | inr p ↦ elim (HasNetwork-from_heads frame h.packet h.ether_type other h.carried h') [
+        | inl q ↦ absurd (omega (arith, p.0, q.0))
+        | inr q ↦ one_ipv6 h.packet one other p.1 q.1
+      ]
+    ]

@@ -1,0 +1,71 @@
+//! The protocol, the flags and the payload of the transport head, which stands behind a network head.
+//!
+//! Source: RFC 9293, section 3.1; RFC 768.
+
+ghost use Rattle.packet_heads.specs.Transport.{HasProtocol, HasRoom, count_behind, payload_behind};
+ghost use Rattle.packet_heads.specs.declared.packet.Protocol.{Protocol};
+ghost use Rattle.std.specs.Prelude.{◌≡◌, ◌↔◌, IsTrue, IfSome, IsSome};
+
+use crate::packet::Protocol;
+
+/// How many bytes stand behind a network head, by its length field, which counts so many bytes of the head itself.
+///
+/// `None` comes where the field is 0 and tells nothing.
+pub fn count_behind(field: u16, head: u16) -> Option<u16>
+    ensures { result ≡ count_behind field head }
+{
+    if field == 0 {
+        None
+    } else {
+        Some(field.saturating_sub(head))
+    }
+}
+
+/// The protocol with this number, whose head begins after `head` bytes, where `count` bytes are told to stand.
+///
+/// `None` comes exactly where it is neither TCP with its flags nor UDP with its ports.
+pub fn protocol_at(packet: &[u8], head: u16, number: u8, count: Option<u16>) -> Option<Protocol>
+    ensures found { IfSome result (HasProtocol packet.now head number count) }
+    ensures none { (protocol : Protocol) → HasProtocol packet.now head number count protocol → IsSome result }
+{
+    match number {
+        6 if has_room(packet, head, count, 14) => Some(tcp_at(packet, head, count)),
+        17 if has_room(packet, head, count, 4) => Some(Protocol::Udp),
+        _ => None,
+    }
+}
+
+/// Whether so many bytes of the head that begins after `head` bytes were captured, and are told to stand there.
+fn has_room(packet: &[u8], head: u16, count: Option<u16>, need: u16) -> bool
+    ensures { IsTrue result ↔ HasRoom packet.now head count need }
+{
+    if packet.len() < usize::from(head) + usize::from(need) {
+        return false;
+    }
+    match count {
+        Some(told) => need <= told,
+        None => true,
+    }
+}
+
+/// TCP with the flags of its head, and with its payload.
+fn tcp_at(packet: &[u8], head: u16, count: Option<u16>) -> Protocol
+    requires { HasRoom packet.now head count 14 }
+    ensures { HasProtocol packet.now head 6 count result }
+{
+    let place = usize::from(head);
+    Protocol::Tcp {
+        flags: packet[place + 13],
+        payload: payload_behind(packet[place + 12] / 16, count),
+    }
+}
+
+/// How many bytes are told to stand behind a TCP head of so many units of four bytes.
+fn payload_behind(units: u8, count: Option<u16>) -> u32
+    ensures { result ≡ payload_behind units count }
+{
+    if units < 5 {
+        return 0;
+    }
+    u32::from(count.unwrap_or(0)).saturating_sub(4 * u32::from(units))
+}
