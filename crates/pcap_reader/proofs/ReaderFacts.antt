@@ -1,15 +1,18 @@
 -- What the clauses of the reader say of a source that tells its bytes, from what its window holds.
-use Rattle.std.proofs.Common.{◌≡◌, ℕ, ◌+◌, ◌≤◌, ◌⊎◌, false, List, [], ◌++◌, length, drop, Option, Some, None, IfSome, refl, sym, ap, ◌∙◌, subst, inl, inr, arith, append_assoc, append-nil}
+use Rattle.std.proofs.Common.{◌≡◌, ℕ, ◌+◌, ◌≤◌, ◌⊎◌, Bool, true, false, List, [], ◌++◌, length, drop, Option, Some, None, IfSome, Result, Ok, Err, IfOk, IfErr, refl, sym, ap, ◌∙◌, subst, inl, inr, arith, append_assoc, append-nil}
 use Rattle.std.specs.Io.KnownBytes.{Consumes, prepend_known}
-use Rattle.std.proofs.lemmas.List.{drop-append-le}
+use Rattle.std.proofs.lemmas.List.{drop-append-le, drop_all}
 use Rattle.pcap_reader.specs.declared.order.Order.{Order}
 use Rattle.pcap_reader.specs.declared.fault.CaptureFault.{CaptureFault}
 use Rattle.pcap_reader.specs.declared.fault.CaptureFault.TheVariants.{ReadFault, ShortHeader, Magic, Version, LinkType, RecordLength, Memory}
 use Rattle.pcap_reader.specs.declared.head.TheConstants.{FILE_HEAD}
-use Rattle.pcap_reader.specs.Capture.{HasFileHead, ShowsFault, IsOverlong, bytes_of}
-use Rattle.pcap_reader.specs.Reading.{Reading, to_come, OfInput, OnInputFault, GivesRecord, IsRefusedOn, Took, buffer_length}
-use Rattle.pcap_reader.specs.Record.{BeginsRecord, given_out}
-use Rattle.pcap_reader.specs.Window.{Gathers, IsDrained}
+use Rattle.pcap_reader.specs.Capture.{HasFileHead, ShowsFault, IsCut, IsOverlong, bytes_of}
+use Rattle.pcap_reader.specs.Reading.{Reading, to_come, OfInput, OnInputFault, GivesRecord, Took, buffer_length}
+use Rattle.pcap_reader.specs.Record.{BeginsRecord, OnCut, ShowsNext, given_out}
+use Rattle.pcap_reader.specs.declared.record.Shown.{Shown}
+use Rattle.pcap_reader.specs.declared.record.Shown.TheVariants.{Whole, Cut, Overlong}
+use Rattle.byte_window.specs.Window.{Gathers, IsDrained}
+use Rattle.byte_window.proofs.WindowFacts.{gathers_more, drained}
 use Rattle.pcap_reader.proofs.CaptureFacts.{head_front, refuses_magic_front, refuses_version_front, refuses_link_front, overlong_front, first_record, first_record_saved, first_record_rest, length-first_record}
 
 -- ---- the file head
@@ -69,32 +72,52 @@ rest_told held (Some xs) (Some ys) g whole =
     let split : xs ≡ held ++ ys = g.told ∙ ap (λ l. l ++ ys) g.held in
     ap (λ l. Some l) (sym (ap (drop FILE_HEAD) split ∙ drop-append-le FILE_HEAD held ys whole))
 
--- the same for a window that was empty, and bytes that were seen in it
-pub head_opened : (order : Order) (empty held seen : List ℕ) (before after : Option (List ℕ)) → empty ≡ []
-    → seen ≡ held → Gathers empty held before after → HasFileHead order seen
-    → OfInput before (HasFileHead order)
-head_opened order empty held seen before after none same g h =
-    head_told order held before after (subst (λ (l : List ℕ). Gathers l held before after) none g)
-    (subst (λ (l : List ℕ). HasFileHead order l) same h)
+-- ---- a reader that was opened over a window that had been empty
 
--- the same for a window that was empty, with a fault
-pub fault_opened : (fault : CaptureFault) (empty held seen : List ℕ) (before after : Option (List ℕ)) → empty ≡ []
-    → seen ≡ held → Gathers empty held before after
-    → (FILE_HEAD ≤ length held) ⊎ IsDrained empty held before → ShowsFault seen fault
-    → OnInputFault fault (OfInput before (λ bytes. ShowsFault bytes fault))
-fault_opened fault empty held seen before after none same g enough shown =
+-- its head is that of the input
+pub opened_head : (answer : Result Reading CaptureFault) (empty held : List ℕ) (before after : Option (List ℕ)) →
+    empty ≡ [] → Gathers empty held before after → IfOk answer (λ reader. HasFileHead reader.order held) →
+    IfOk answer (λ reader. OfInput before (HasFileHead reader.order))
+opened_head (Ok reader) empty held before after none g head =
+    head_told reader.order held before after (subst (λ (l : List ℕ). Gathers l held before after) none g) head
+opened_head (Err fault) empty held before after none g head = tt
+
+-- and the bytes behind the head are still to come
+pub opened_rest : (answer : Result Reading CaptureFault) (empty held : List ℕ) (before after : Option (List ℕ)) →
+    empty ≡ [] → Gathers empty held before after → IfOk answer (λ reader. HasFileHead reader.order held) →
+    IfOk answer (λ reader. reader.pending ≡ drop FILE_HEAD held) →
+    IfOk answer (λ reader. IfSome before (λ bytes. to_come reader after ≡ Some (drop FILE_HEAD bytes)))
+opened_rest (Ok reader) empty held before after none g head behind =
+    subst (λ (l : List ℕ). IfSome before (λ bytes. prepend_known l after ≡ Some (drop FILE_HEAD bytes))) (sym behind)
+    (rest_told held before after (subst (λ (l : List ℕ). Gathers l held before after) none g) head.begins.whole)
+opened_rest (Err fault) empty held before after none g head behind = tt
+
+-- a fault that the held bytes show is that of the input, where these are the head or all that there is
+pub opened_fault : (answer : Result Reading CaptureFault) (empty held : List ℕ) (before after : Option (List ℕ)) →
+    empty ≡ [] → Gathers empty held before after → (FILE_HEAD ≤ length held) ⊎ IsDrained empty held before →
+    IfErr answer (ShowsFault held) →
+    IfErr answer (λ fault. OnInputFault fault (OfInput before (λ bytes. ShowsFault bytes fault)))
+opened_fault (Ok reader) empty held before after none g enough shown = tt
+opened_fault (Err fault) empty held before after none g enough shown =
     fault_told fault held before after (subst (λ (l : List ℕ). Gathers l held before after) none g)
-    (subst (λ (l : List ℕ). (FILE_HEAD ≤ length held) ⊎ IsDrained l held before) none enough)
-    (subst (λ (l : List ℕ). ShowsFault l fault) same shown)
+    (subst (λ (l : List ℕ). (FILE_HEAD ≤ length held) ⊎ IsDrained l held before) none enough) shown
 
--- and with the bytes behind the head
-pub rest_opened : (order : Order) (empty held seen rest : List ℕ) (before after : Option (List ℕ)) → empty ≡ []
-    → seen ≡ held → Gathers empty held before after → HasFileHead order seen
-    → rest ≡ drop FILE_HEAD held → IfSome before (λ bytes. prepend_known rest after ≡ Some (drop FILE_HEAD bytes))
-rest_opened order empty held seen rest before after none same g h e =
-    let whole : FILE_HEAD ≤ length held = omega (arith, h.begins.whole, ap length same) in
-    subst (λ (l : List ℕ). IfSome before (λ bytes. prepend_known l after ≡ Some (drop FILE_HEAD bytes))) (sym e)
-    (rest_told held before after (subst (λ (l : List ℕ). Gathers l held before after) none g) whole)
+-- what a hold answers
+abbrev answered : {E : Type 0} → Bool → Result Bool E
+answered held = Ok held
+
+-- so many bytes are held, or the source had no more
+pub held_or_drained : {E P Q : Type 0} (held : Bool) → (answered {E = E} held ≡ answered {E = E} true → P) →
+    (answered {E = E} held ≡ answered {E = E} false → Q) → P ⊎ Q
+held_or_drained true enough end = inl (enough refl)
+held_or_drained false enough end = inr (end refl)
+
+-- where a window held no more than the head, nothing is left behind it
+pub none_behind : (answer : Result Reading CaptureFault) (held head : List ℕ) → held ≡ head → length head ≤ FILE_HEAD →
+    IfOk answer (λ reader. reader.pending ≡ drop FILE_HEAD held) → IfOk answer (λ reader. reader.pending ≡ [])
+none_behind (Ok reader) held head same short behind =
+    behind ∙ drop_all FILE_HEAD held (omega (arith, ap length same, short))
+none_behind (Err fault) held head same short behind = tt
 
 -- ---- records
 
@@ -127,6 +150,33 @@ overlong_seen seen old held found before after same g overlong =
     subst (λ (r : Reading). IfSome (to_come r before)
     (λ bytes. (seen.offset ≡ r.offset) × IsOverlong r.order bytes found)) same
     (overlong_told seen.order seen.offset seen.offset found seen.pending held before after g refl overlong)
+
+-- bytes that are shorter than the record that they begin do not show what comes next
+pub cut_shows_none : (order : Order) (bytes : List ℕ) → IsCut order bytes → ShowsNext order bytes → ⊥
+cut_shows_none order bytes (inl short) (inl (captured, whole)) = omega (arith, short, whole.whole)
+cut_shows_none order bytes (inl short) (inr (found, overlong)) = omega (arith, short, overlong.head)
+cut_shows_none order bytes (inr cut) (inl (captured, whole)) = omega (arith, cut.shorter, whole.whole, whole.shown)
+cut_shows_none order bytes (inr cut) (inr (found, overlong)) = omega (arith, cut.within, overlong.above)
+
+-- and nothing but these two is left: what is no whole record is cut or overlong
+pub cut_not_whole : (order : Order) (bytes : List ℕ) (captured : ℕ) → IsCut order bytes →
+    BeginsRecord order bytes captured → ⊥
+cut_not_whole order bytes captured cut whole = cut_shows_none order bytes cut (inl (captured, whole))
+
+-- an overlong record is not whole
+pub overlong_not_whole : (order : Order) (bytes : List ℕ) (found captured : ℕ) → IsOverlong order bytes found →
+    BeginsRecord order bytes captured → ⊥
+overlong_not_whole order bytes found captured overlong whole =
+    omega (arith, overlong.above, whole.shown, whole.within)
+
+-- a fact where the record is cut, if it holds anyway
+pub on_cut : {P : Type 0} (seen : Shown) → P → OnCut seen P
+on_cut (Whole captured) p = tt
+on_cut Cut p = p
+on_cut (Overlong found) p = tt
+
+-- what a wait for a record needs
+pub ruleset awaiting = (gathers_more, drained, on_cut, cut_shows_none)
 
 -- a reader whose window holds this, and has this as its packet
 abbrev pub holding : Reading → List ℕ → List ℕ → Reading
@@ -172,44 +222,3 @@ took_record old held packet captured before after going g begins room = (
   g.told,
   gives_record old held packet captured (Some g.taken) (Some []) going (as_told g) begins room,
 )
-
--- what was taken of the source, with the head read
-pub took_head : (order : Order) (empty held seen rest : List ℕ) (before after : Option (List ℕ)) → empty ≡ [] →
-    seen ≡ held → Gathers empty held before after → HasFileHead order seen → rest ≡ drop FILE_HEAD held →
-    length held ≤ buffer_length →
-    Took before after
-    (λ taken. HasFileHead order taken × (rest ≡ drop FILE_HEAD taken) × (length taken ≤ buffer_length))
-took_head order empty held seen rest before after none same g h e room =
-    let all : g.taken ≡ held = ap (λ l. l ++ g.taken) (sym none) ∙ g.held in (
-      g.taken,
-      g.told,
-      (
-        subst (λ (l : List ℕ). HasFileHead order l) (same ∙ sym all) h,
-        e ∙ ap (drop FILE_HEAD) (sym all),
-        subst (λ (l : List ℕ). length l ≤ buffer_length) (sym all) room,
-      ),
-    )
-
--- and with a fault of the head
-pub took_shown : (fault : CaptureFault) (empty held seen : List ℕ) (before after : Option (List ℕ)) → empty ≡ [] →
-    seen ≡ held → Gathers empty held before after → ShowsFault seen fault → length held ≤ buffer_length →
-    OnInputFault fault (Took before after (IsRefusedOn fault))
-took_shown fault empty held seen before after none same g shown room =
-    let all : g.taken ≡ held = ap (λ l. l ++ g.taken) (sym none) ∙ g.held in
-    on_any fault (
-      g.taken,
-      g.told,
-      (
-        subst (λ (l : List ℕ). ShowsFault l fault) (same ∙ sym all) shown,
-        subst (λ (l : List ℕ). length l ≤ buffer_length) (sym all) room,
-      ),
-    )
-  where
-    on_any : {P : Type 0} (fault : CaptureFault) → P → OnInputFault fault P
-    on_any ReadFault p = tt
-    on_any (ShortHeader have) p = p
-    on_any (Magic found) p = p
-    on_any (Version major minor) p = p
-    on_any (LinkType found) p = p
-    on_any (RecordLength offset found) p = p
-    on_any Memory p = tt

@@ -1,16 +1,16 @@
 //! Gives out the records of a savefile, one at a time and in place.
 
 ghost use Rattle.std.specs.Prelude.{◌≡◌, ◌≤◌, ◌<◌, ◌-◌, ◌^◌, ◌⊎◌, ℕ, List, [], false, true, length, drop, Option, Some, IfSome, IfOk, IfErr, OnOk, OnErr};
-ghost use Rattle.edge_traits.specs.Edge.{Rose};
+ghost use Rattle.edge_traits.specs.Edge.{Rose, count_after};
+ghost use Rattle.byte_window.specs.Window.{Gathers, IsDrained};
 ghost use Rattle.pcap_reader.specs.Capture.{HasFileHead, IsCut, IsRemainder, ShowsFault};
-ghost use Rattle.pcap_reader.specs.Reading.{GivesNone, GivesRecord, IfEnding, IsAtStart, IsOpenedOn, IsRefusedOn, IsWithinRecords, MatchPacket, OfInput, OnInputFault, OnMemory, OnReadFault, TakesFewer, Took, buffer_length, to_come};
-ghost use Rattle.pcap_reader.specs.Record.{BeginsRecord, IsShown, OnCut, given_out};
-ghost use Rattle.pcap_reader.specs.Window.{Gathers, IsDrained};
+ghost use Rattle.pcap_reader.specs.Reading.{GivesNone, GivesRecord, IfEnding, IsAtStart, IsOpenedOn, IsRefusedOn, IsWithinRecords, MatchPacket, OfInput, OnInputFault, OnMemory, OnReadFault, TakesFewer, Took, UnlessReadFault, buffer_length, to_come};
+ghost use Rattle.pcap_reader.specs.Record.{BeginsRecord, IsShown, OnCut, ShowsNext, given_out};
 
 use crate::head::file_head;
 use crate::record::{Shown, look};
-use crate::window::Window;
 use crate::{CaptureFault, FILE_HEAD, Order, RECORD_HEAD};
+use byte_window::Window;
 use edge_traits::{Failed, Source};
 use std::alloc::Global;
 use std::marker::Model;
@@ -85,9 +85,42 @@ impl Reader {
         // Nothing was read.
         ensures memory { IfErr result (λ fault. OnMemory fault (source.new ≡ source.old)) }
         ensures counted { S.faults source.old ≤ S.faults source.new }
+
+        // The first read that failed ended it, and is told.
+        ensures one_failed { IfErr result (λ fault. OnReadFault fault
+            (S.failed source.new ≡ count_after (S.failed source.old) 1)) }
+        ensures none_failed { UnlessReadFault result (S.failed source.new ≡ S.failed source.old) }
     {
         let mut window = Window::new(alloc)?;
-        gather_head(&mut window, source)?;
+        window.hold(FILE_HEAD, source)?;
+        Reader::over(window)
+    }
+
+    /// Makes the packet buffer, and goes on behind these bytes, which were the head of a savefile.
+    ///
+    /// Faults: `Memory`; `Magic`, `Version`, `LinkType`, exactly where the head shows them, in this order.
+    /// Source: pcap-savefile(5), per-file header.
+    pub fn after_head(alloc: Global, head: &[u8; FILE_HEAD]) -> Result<Reader, CaptureFault>
+        ensures head { IfOk result (λ reader. HasFileHead reader.order head.now) }
+        ensures held { IfOk result (λ reader. reader.pending ≡ []) }
+        ensures start { IfOk result IsAtStart }
+        ensures fault { IfErr result (λ fault. (fault ≡ CaptureFault.Memory) ⊎ ShowsFault head.now fault) }
+    {
+        let window = Window::of(alloc, head)?;
+        Reader::over(window)
+    }
+
+    /// Goes on over a window that holds a savefile from its first byte on, the head whole, or all that there is of it.
+    ///
+    /// Takes no memory. Faults: `ShortHeader`, `Magic`, `Version`, `LinkType`, exactly where the held bytes show them,
+    /// in this order.
+    /// Source: pcap-savefile(5), per-file header.
+    pub fn over(mut window: Window) -> Result<Reader, CaptureFault>
+        ensures head { IfOk result (λ reader. HasFileHead reader.order window.unread) }
+        ensures held { IfOk result (λ reader. reader.pending ≡ drop FILE_HEAD window.unread) }
+        ensures start { IfOk result IsAtStart }
+        ensures fault { IfErr result (ShowsFault window.unread) }
+    {
         let order = file_head(window.unread())?;
         window.skip(FILE_HEAD);
         Ok(Reader {
@@ -137,6 +170,14 @@ impl Reader {
         ensures interrupted { IfErr result (λ fault. OnReadFault fault (IsCut self.old.order self.new.pending)) }
         ensures counted { S.faults source.old ≤ S.faults source.new }
 
+        // The first read that failed ended it, and is told.
+        ensures one_failed { IfErr result (λ fault. OnReadFault fault
+            (S.failed source.new ≡ count_after (S.failed source.old) 1)) }
+        ensures none_failed { UnlessReadFault result (S.failed source.new ≡ S.failed source.old) }
+
+        // The source is not read where the bytes that are held show what comes.
+        ensures unasked { ShowsNext self.old.order self.old.pending → source.new ≡ source.old }
+
         ensures order { self.new.order ≡ self.old.order }
         ensures within { IsWithinRecords self.new }
     {
@@ -168,7 +209,8 @@ impl Reader {
 
     /// Gives out the next record where it is whole in what is held, for which no source is needed.
     ///
-    /// Takes no memory. Where it is not, nothing changes: `next` tells what comes.
+    /// Takes no memory. `false` comes exactly where none is whole there. Then nothing changes, and `next` tells what
+    /// comes.
     /// Source: pcap-savefile(5), per-packet header.
     pub fn next_held(&mut self) -> bool
         requires going { self.old.ended ≡ false }
@@ -177,6 +219,7 @@ impl Reader {
         ensures packet { result ≡ true → (left : Option (List ℕ)) →
             GivesRecord self.old self.new (to_come self.old left) (to_come self.new left) }
         ensures none { result ≡ false → self.new ≡ self.old }
+        ensures not_whole { result ≡ false → (captured : ℕ) → ¬ BeginsRecord self.old.order self.old.pending captured }
 
         ensures order { self.new.order ≡ self.old.order }
     {
@@ -222,25 +265,8 @@ impl Reader {
     }
 }
 
-/// Reads until the file head is there, or the source is at its end.
-fn gather_head<S: Source>(window: &mut Window, source: &mut S) -> Result<(), Failed>
-    ensures enough { OnOk result ((FILE_HEAD ≤ length window.new.unread)
-        ⊎ IsDrained window.old.unread window.new.unread (S.left source.old)) }
-    ensures bytes { Gathers window.old.unread window.new.unread (S.left source.old) (S.left source.new) }
-    ensures short { OnErr result (length window.new.unread < FILE_HEAD) }
-    ensures room { length window.new.unread ≤ buffer_length }
-    ensures failed { OnErr result (Rose (S.faults source.old) (S.faults source.new)) }
-    ensures counted { S.faults source.old ≤ S.faults source.new }
-{
-    'head: while window.unread().len() < FILE_HEAD {
-        if window.fill(source)? == 0 {
-            return Ok(());
-        }
-    }
-    Ok(())
-}
-
 /// Reads until the held bytes show a whole record or an overlong one, or the source is at its end.
+#[tactic(auto, using(crate::proofs::ReaderFacts::awaiting))]
 fn await_record<S: Source>(
     window: &mut Window,
     order: Order,
@@ -253,6 +279,9 @@ fn await_record<S: Source>(
     ensures room { length window.new.unread ≤ buffer_length }
     ensures failed { OnErr result (Rose (S.faults source.old) (S.faults source.new)) }
     ensures counted { S.faults source.old ≤ S.faults source.new }
+    ensures one_failed { OnErr result (S.failed source.new ≡ count_after (S.failed source.old) 1) }
+    ensures none_failed { OnOk result (S.failed source.new ≡ S.failed source.old) }
+    ensures unasked { ShowsNext order window.old.unread → source.new ≡ source.old }
 {
     'records: loop {
         let seen = look(order, window.unread());

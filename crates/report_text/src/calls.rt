@@ -5,7 +5,7 @@ ghost use Rattle.batch_orders.specs.Batches.{gone_on, seen_on, with_counts};
 ghost use Rattle.flow_keys.specs.FlowText.{HasText};
 ghost use Rattle.plain_map.specs.Calls.{key_in};
 ghost use Rattle.trace_share.specs.declared.outcome.Outcome.TheVariants.{Answered, Refused};
-ghost use Rattle.report_text.specs.Report.{after_words, call_in, call_words, full_words, outcome_line, outcome_on, pending_line, reply_words, short_word, value_in, verb_word};
+ghost use Rattle.report_text.specs.Report.{after_words, amount_words, call_in, call_words, full_words, outcome_line, outcome_on, pending_line, reply_words, short_word, value_in, verb_word};
 ghost use Rattle.report_text.specs.Lines.{counts_word, room, Puts, text_in};
 
 use crate::line::Line;
@@ -111,14 +111,29 @@ fn put_refused(out: &mut Line, packet: u32, seat: u32, call: &Call, full: &Full)
 #[inline(always)]
 fn put_call(out: &mut Line, packet: u32, seat: u32, call: &Call)
     requires key { HasText (key_in call.now) }
-    requires space { 90 ≤ room out.old }
+    requires space { 166 ≤ room out.old }
     ensures puts { Puts (text_in out.old) (call_words packet seat call.now) (text_in out.new) }
-    ensures taken { room out.old ≤ room out.new + 90 }
+    ensures taken { room out.old ≤ room out.new + 166 }
 {
     put_number(out, packet);
     put_named(out, b"seat", seat);
     put_word(out, verb_word(call));
     put_key(out, call.key());
+    put_amount(out, call);
+}
+
+// Appends the bytes that a tally brings. Another call brings none.
+#[tactic(auto, using(crate::proofs::LineLemmas::puts_none))]
+#[inline(always)]
+fn put_amount(out: &mut Line, call: &Call)
+    requires { 24 ≤ room out.old }
+    ensures puts { Puts (text_in out.old) (amount_words call.now) (text_in out.new) }
+    ensures taken { room out.old ≤ room out.new + 24 }
+{
+    match call {
+        Call::Tally(_, amount) => put_named(out, b"by", *amount),
+        Call::Insert(_, _) | Call::Remove(_) | Call::Lookup(_) => {}
+    }
 }
 
 // The word for what a call asks.
@@ -131,6 +146,7 @@ fn verb_word(call: &Call) -> &'static [u8]
         Call::Insert(_, _) => b"insert",
         Call::Remove(_) => b"remove",
         Call::Lookup(_) => b"lookup",
+        Call::Tally(_, _) => b"tally",
     }
 }
 
@@ -148,6 +164,7 @@ fn put_reply(out: &mut Line, call: &Call, reply: Reply)
         Reply::Gone(value) => put_named(out, b"gone", value),
         Reply::Found(value) => put_named(out, b"found", value),
         Reply::Absent => put_word(out, b"absent"),
+        Reply::Sum(total) => put_named(out, b"sum", total),
     }
 }
 
@@ -158,13 +175,13 @@ fn value_in(call: &Call) -> u64
 {
     match call {
         Call::Insert(_, value) => *value,
-        Call::Remove(_) | Call::Lookup(_) => 0,
+        Call::Remove(_) | Call::Lookup(_) | Call::Tally(_, _) => 0,
     }
 }
 
 // Appends what a call saw as it began, where the seats had answered so many calls before.
 #[inline(always)]
-fn put_after(out: &mut Line, seats: u32, before: &[u32], seen: &Seen)
+pub(crate) fn put_after(out: &mut Line, seats: u32, before: &[u32], seen: &Seen)
     requires seats { seats ≤ 8 }
     requires space { 103 ≤ room out.old }
     ensures puts { Puts (text_in out.old) (after_words seats (seen_on before.now seen.now)) (text_in out.new) }

@@ -1,6 +1,7 @@
 //! The lines of the report.
 #![tactic(auto)]
 
+mod adds;
 mod calls;
 mod head;
 mod line;
@@ -11,6 +12,7 @@ mod session;
 mod tail;
 mod trial;
 
+pub use adds::{TotalsTail, add_text, totals_head_text, totals_tail_text};
 pub use calls::{outcome_text, pending_text};
 pub use head::head_text;
 pub use line::Line;
@@ -22,3 +24,5 @@ pub use trial::{Trial, trial_text};
 
 #[cfg(test)]
 mod tests;
+#[cfg(test)]
+mod totals_tests;

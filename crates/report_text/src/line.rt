@@ -79,9 +79,9 @@ impl Line {
     #[tactic(auto, unfolding(crate::specs::Lines::room, crate::specs::Lines::text_in))]
     pub(crate) fn put_key(&mut self, key: &Key)
         requires key { HasText key.now }
-        requires space { 48 ≤ room self.old }
+        requires space { 104 ≤ room self.old }
         ensures appended { text_in self.new ≡ text_in self.old ++ flow_text key.now }
-        ensures taken { room self.old ≤ room self.new + 47 }
+        ensures taken { room self.old ≤ room self.new + 99 }
     {
         self.length = write_key(key, &mut self.bytes, self.length);
     }

@@ -81,9 +81,9 @@ pub fn put_word(out: &mut Line, word: &[u8])
 #[inline(always)]
 pub fn put_key(out: &mut Line, key: &Key)
     requires key { HasText key.now }
-    requires space { 49 ≤ room out.old }
+    requires space { 105 ≤ room out.old }
     ensures puts { Puts (text_in out.old) (flow_text key.now ∷ []) (text_in out.new) }
-    ensures taken { room out.old ≤ room out.new + 48 }
+    ensures taken { room out.old ≤ room out.new + 100 }
 {
     put_text(out, b" ");
     out.put_key(key);

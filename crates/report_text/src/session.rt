@@ -6,7 +6,7 @@ ghost use Rattle.report_text.specs.Report.{session_line};
 ghost use Rattle.report_text.specs.Lines.{room, text_in};
 
 use crate::line::Line;
-use crate::pieces::{append, begin_line, end_line, put_key, put_number};
+use crate::pieces::{append, begin_line, end_line, put_key, put_named, put_number};
 use plain_map::Pair;
 use std::alloc::AllocError;
 
@@ -24,11 +24,12 @@ pub fn session_text(out: &mut Vec<u8>, line: &mut Line, pair: &Pair) -> Result<(
 // Appends the line of a session.
 fn put_session(out: &mut Line, pair: &Pair)
     requires key { HasText pair.now.key }
-    requires space { 128 ≤ room out.old }
+    requires space { 160 ≤ room out.old }
     ensures { text_in out.new ≡ text_in out.old ++ session_line pair.now }
 {
     begin_line(out, b"session");
     put_key(out, &pair.key);
     put_number(out, pair.value);
+    put_named(out, b"bytes", pair.bytes);
     end_line(out);
 }

@@ -2,7 +2,8 @@
 
 ghost use Rattle.std.specs.Prelude.{◌≡◌, ◌+◌, ◌<◌, ◌≤◌, false, [], ◌∷◌, ◌++◌, codes, decimal, length, OnOk, OnErr};
 ghost use Rattle.std.specs.Fmt.{digit_glyph};
-ghost use Rattle.report_text.specs.Report.{count_line, ending_words, fault_words, input_line, leaves_line, steps_line, tail_lines, IsEnding, IsFormatFault};
+ghost use Rattle.report_text.specs.Report.{capture_words, count_line, ending_words, fault_words, input_line, leaves_line, steps_line, tail_lines};
+ghost use Rattle.report_text.specs.Report.{IsCaptureFault, IsEnding, IsFormatFault};
 ghost use Rattle.report_text.specs.Lines.{hexadecimal, room, Puts, text_in};
 
 use crate::line::Line;
@@ -11,6 +12,7 @@ use crate::pieces::{
     append, begin_line, end_line, put_digits, put_named, put_number, put_text, put_word,
 };
 use pcap_reader::CaptureFault;
+use pcapng_reader::{AnyFault, MOST_INTERFACES, MOST_OTHERS};
 use std::alloc::AllocError;
 
 // The digits of numbers below 16.
@@ -52,7 +54,7 @@ fn put_leaves(out: &mut Line, tail: &Tail)
 }
 
 // Appends how the input came to its end.
-fn put_input(out: &mut Line, ending: &Ending)
+pub(crate) fn put_input(out: &mut Line, ending: &Ending)
     requires format { IsEnding ending.now }
     requires space { 74 ≤ room out.old }
     ensures appended { text_in out.new ≡ text_in out.old ++ input_line ending.now }
@@ -84,11 +86,59 @@ fn put_ending(out: &mut Line, ending: &Ending)
     }
 }
 
-// Appends a fault of a capture's format: its name, where it is, and what was found.
-fn put_fault(out: &mut Line, fault: &CaptureFault)
+// Appends a fault of an input's format: its name, where it is, and what was found.
+fn put_fault(out: &mut Line, fault: &AnyFault)
     requires format { IsFormatFault fault.now }
     requires space { 62 ≤ room out.old }
     ensures puts { Puts (text_in out.old) (fault_words fault.now) (text_in out.new) }
+    ensures taken { room out.old ≤ room out.new + 62 }
+{
+    match fault {
+        AnyFault::Capture(fault) => put_capture_fault(out, fault),
+        AnyFault::ByteOrder { offset, bytes } => {
+            put_place(out, b"byte-order", *offset);
+            put_hexadecimal(out, bytes);
+        }
+        AnyFault::BlockLength { offset, found } => {
+            put_place(out, b"block-length", *offset);
+            put_number(out, *found);
+        }
+        AnyFault::Trailer { offset, found } => {
+            put_place(out, b"trailer", *offset);
+            put_number(out, *found);
+        }
+        AnyFault::SectionVersion {
+            offset,
+            major,
+            minor,
+        } => {
+            put_place(out, b"section-version", *offset);
+            put_version(out, *major, *minor);
+        }
+        AnyFault::Interface { offset, found } => {
+            put_place(out, b"interface", *offset);
+            put_number(out, *found);
+        }
+        AnyFault::CapturedLength { offset, found } => {
+            put_place(out, b"captured-length", *offset);
+            put_number(out, *found);
+        }
+        AnyFault::Interfaces { offset } => {
+            put_place(out, b"interfaces", *offset);
+            put_number(out, MOST_INTERFACES as u32 + 1);
+        }
+        AnyFault::Blocks { offset } => {
+            put_place(out, b"blocks", *offset);
+            put_number(out, MOST_OTHERS + 1);
+        }
+    }
+}
+
+// Appends a fault of a savefile.
+fn put_capture_fault(out: &mut Line, fault: &CaptureFault)
+    requires format { IsCaptureFault fault.now }
+    requires space { 62 ≤ room out.old }
+    ensures puts { Puts (text_in out.old) (capture_words fault.now) (text_in out.new) }
     ensures taken { room out.old ≤ room out.new + 62 }
 {
     match fault {

@@ -1,13 +1,12 @@
-pub mod AheadLemmas
+pub mod JobLemmas
+pub mod HeadlineLemmas
 pub mod Permuted
 pub mod AnsweredLemmas
 pub mod ServedLines
 mod ShortLines
 pub mod PacketOrder
 pub mod CallLemmas
-pub mod InputLemmas
-pub mod TakenLemmas
-pub mod ServingLemmas
+pub mod MadeCalls
 pub mod ReadingLemmas
 pub mod ProgressLemmas
 pub mod TextLemmas

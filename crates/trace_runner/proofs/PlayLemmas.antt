@@ -10,9 +10,9 @@ use Rattle.std.proofs.Math.Nat.{mul-le-mul, pow-le-pow_right}
 use Rattle.std.proofs.lemmas.Simd.{map-map}
 use Rattle.edge_traits.specs.Edge.{AppendsFront}
 use Rattle.plain_map.specs.declared.calls.Call.{Call}
-use Rattle.pcap_reader.specs.declared.fault.CaptureFault.{CaptureFault}
-use Rattle.pcap_reader.specs.Capture.{Saved, Capture}
-use Rattle.pcap_reader.specs.Laws.{HasOneCapture}
+use Rattle.pcapng_reader.specs.declared.fault.AnyFault.{AnyFault}
+use Rattle.pcapng_reader.specs.Input.{Input}
+use Rattle.pcapng_reader.specs.Laws.{HasOneInput}
 use Rattle.pcap_reader.specs.Reading.{Took}
 use Rattle.report_text.specs.declared.parts.Ending.{Ending}
 use Rattle.report_text.specs.declared.parts.Ending.TheVariants.{Done, ReadFault, Limit, Fault}
@@ -31,9 +31,10 @@ use Rattle.command_line.specs.declared.plan.Plan.{Plan}
 use Rattle.trace_runner.specs.declared.status.Status.{Status}
 use Rattle.trace_runner.specs.declared.status.Status.TheVariants as status
 use Rattle.trace_runner.specs.Reading.{AreBetween, EndsCalls, HaveEndedUpTo, IsBetween}
+use Rattle.capture_loop.specs.Leaves.{IsMet}
 use Rattle.trace_runner.specs.Headline.{TookFor, status_of, status_up_to}
 use Rattle.trace_runner.specs.Playing.{IsPlayOf, LeavesPlay, LeavesPlayed, PlayReports, play_limit, play_setup, ranges_for}
-use Rattle.trace_runner.proofs.ExactLemmas.{few_records, many_records, same_status}
+use Rattle.trace_runner.proofs.ExactLemmas.{few_packets, many_packets, same_status}
 
 -- what was played of a whole input is its report
 PlayReports-ended :
@@ -51,13 +52,13 @@ PlayReports-ended plan bytes left many calls ending text ends is = (
 
 -- a report that was put whole leaves what its ending's status says
 LeavesPlay-whole :
-    (plan : Plan) (bytes : List ℕ) (left before after : Option (List ℕ)) (ending : Ending) (text : List ℕ) →
+    (plan : Plan) (read_failed : Type 0) (bytes : List ℕ) (left before after : Option (List ℕ)) (ending : Ending) (text : List ℕ) →
     PlayReports plan bytes left ending text → Appends before after text →
-    LeavesPlay plan bytes left before after (status_of ending)
-LeavesPlay-whole plan bytes left before after (Done rest) text reports put = (rest, (text, reports, put))
-LeavesPlay-whole plan bytes left before after ReadFault text reports put = (text, reports, put)
-LeavesPlay-whole plan bytes left before after (Limit limit) text reports put = (limit, (text, reports, put))
-LeavesPlay-whole plan bytes left before after (Fault fault) text reports put = (fault, (text, reports, put))
+    LeavesPlay plan read_failed bytes left before after (status_of ending)
+LeavesPlay-whole plan read_failed bytes left before after (Done rest) text reports put = (rest, (text, reports, put))
+LeavesPlay-whole plan read_failed bytes left before after ReadFault text reports put = (text, reports, put)
+LeavesPlay-whole plan read_failed bytes left before after (Limit limit) text reports put = (limit, (text, reports, put))
+LeavesPlay-whole plan read_failed bytes left before after (Fault fault) text reports put = (fault, (text, reports, put))
 
 took_whole : (ending : Ending) (first left : Option (List ℕ)) (P : List ℕ → Type 0) → Took first left P →
     TookFor (status_of ending) first left P
@@ -66,44 +67,50 @@ took_whole ReadFault first left P took = took
 took_whole (Limit limit) first left P took = took
 took_whole (Fault fault) first left P took = took
 
-module _ (plan : Plan) (first left before after : Option (List ℕ)) (many : ℕ) (calls : List (ℕ × Call))
-    (ending : Ending) (ended : HaveEndedUpTo play_limit first left many calls ending) (text : List ℕ)
+module _ (plan : Plan) (read_failed : Type 0) (first left before after : Option (List ℕ)) (many : ℕ)
+    (calls : List (ℕ × Call)) (ending : Ending) (ended : HaveEndedUpTo play_limit first left many calls ending) (text : List ℕ)
     (is : IsPlayOf plan many calls ending text) where
   -- the report was put whole
-  pub LeavesPlayed-whole : Appends before after text → LeavesPlayed plan first left before after (status_of ending)
+  pub LeavesPlayed-whole : Appends before after text →
+      LeavesPlayed plan read_failed first left before after (status_of ending)
   LeavesPlayed-whole put =
       record {
         told = λ bytes told.
-            LeavesPlay-whole plan bytes left before after ending text
+            LeavesPlay-whole plan read_failed bytes left before after ending text
             (PlayReports-ended plan bytes left many calls ending text (ended.told bytes told) is) put;
         took = took_whole ending first left _ (
           ended.took.0,
           ended.took.1,
-          LeavesPlay-whole plan ended.took.0 (Some []) before after ending text
+          LeavesPlay-whole plan read_failed ended.took.0 (Some []) before after ending text
               (PlayReports-ended plan ended.took.0 (Some []) many calls ending text ended.took.2 is) put,
         );
       }
 
   -- a write failed
-  pub LeavesPlayed-front : AppendsFront before after text → LeavesPlayed plan first left before after status.WriteFault
-  LeavesPlayed-front put =
+  pub LeavesPlayed-front : IsMet read_failed ending → AppendsFront before after text →
+      LeavesPlayed plan read_failed first left before after status.WriteFault
+  LeavesPlayed-front met put =
       record {
-        told = λ bytes told.
-            (ending, (text, PlayReports-ended plan bytes left many calls ending text (ended.told bytes told) is, put));
+        told = λ bytes told. (
+          ending,
+          met,
+          (text, PlayReports-ended plan bytes left many calls ending text (ended.told bytes told) is, put),
+        );
         took = (
           ended.took.0,
           ended.took.1,
           (
             ending,
+            met,
             (text, PlayReports-ended plan ended.took.0 (Some []) many calls ending text ended.took.2 is, put),
           ),
         );
       }
 
 -- memory ran out, and nothing was put
-pub LeavesPlayed-nothing : (plan : Plan) (first left before after : Option (List ℕ)) → Keeps before after →
-    LeavesPlayed plan first left before after status.Memory
-LeavesPlayed-nothing plan first left before after kept =
+pub LeavesPlayed-nothing : (plan : Plan) (read_failed : Type 0) (first left before after : Option (List ℕ)) →
+    Keeps before after → LeavesPlayed plan read_failed first left before after status.Memory
+LeavesPlayed-nothing plan read_failed first left before after kept =
     record { told = λ bytes told. kept; took = (first, ([], Consumes-nil first, kept)) }
 
 -- calls of a capture can be played
@@ -196,30 +203,31 @@ long_ranges s (Some rows) shares = length-replicate (length shares) rows
 long_ranges s None shares =
     length-map shares (λ (share : List (ℕ × Call)). automatic_rows_of s (updates_in_calls share))
 
--- where nothing fails, the capture decides which answer it is, want of memory apart
+-- where nothing fails, the input decides which answer it is, want of memory apart
 pub LeavesPlay-exact :
-    (plan : Plan) (bytes : List ℕ) (left before after : Option (List ℕ)) (answer : Status) (records : List Saved)
-    (ending : Result ℕ CaptureFault) →
-    HasOneCapture bytes → Capture bytes records ending → (answer ≡ status.ReadFault → ⊥) →
-    (answer ≡ status.WriteFault → ⊥) → LeavesPlay plan bytes left before after answer →
-    (answer ≡ status_up_to play_limit records ending) ⊎ (answer ≡ status.Memory)
-LeavesPlay-exact plan bytes left before after status.Done records ending one capture no_read no_write leaves =
+    (plan : Plan) (read_failed : Type 0) (bytes : List ℕ) (left before after : Option (List ℕ)) (answer : Status)
+    (packets : List (List ℕ))
+    (ending : Result ℕ AnyFault) →
+    HasOneInput bytes → Input bytes packets ending → (answer ≡ status.ReadFault → ⊥) →
+    (answer ≡ status.WriteFault → ⊥) → LeavesPlay plan read_failed bytes left before after answer →
+    (answer ≡ status_up_to play_limit packets ending) ⊎ (answer ≡ status.Memory)
+LeavesPlay-exact plan read_failed bytes left before after status.Done packets ending one input no_read no_write leaves =
     let held = leaves.1.1.2.holds.0 in
-    inl (few_records play_limit held.0 (Ok leaves.0) held.2
-    ∙ same_status play_limit bytes held.0 records (Ok leaves.0) ending one held.1 capture)
-LeavesPlay-exact plan bytes left before after status.BadCapture records ending one capture no_read no_write leaves =
+    inl (few_packets play_limit leaves.1.1.0 (Ok leaves.0) held.1
+    ∙ same_status play_limit bytes leaves.1.1.0 packets (Ok leaves.0) ending one held.0 input)
+LeavesPlay-exact plan read_failed bytes left before after status.BadCapture packets ending one input no_read no_write leaves =
     let held = leaves.1.1.2.holds in
-    inl (few_records play_limit held.0 (Err leaves.0) held.2
-    ∙ same_status play_limit bytes held.0 records (Err leaves.0) ending one held.1 capture)
-LeavesPlay-exact plan bytes left before after status.Limit records ending one capture no_read no_write leaves =
+    inl (few_packets play_limit leaves.1.1.0 (Err leaves.0) held.1
+    ∙ same_status play_limit bytes leaves.1.1.0 packets (Err leaves.0) ending one held.0 input)
+LeavesPlay-exact plan read_failed bytes left before after status.Limit packets ending one input no_read no_write leaves =
     let held = leaves.1.1.2.holds.0 in
-    inl (many_records play_limit held.0 held.1 held.3
-    ∙ same_status play_limit bytes held.0 records held.1 ending one held.2 capture)
-LeavesPlay-exact plan bytes left before after status.ReadFault records ending one capture no_read no_write leaves =
+    inl (many_packets play_limit held.0 held.1 held.3
+    ∙ same_status play_limit bytes held.0 packets held.1 ending one held.2 input)
+LeavesPlay-exact plan read_failed bytes left before after status.ReadFault packets ending one input no_read no_write leaves =
     absurd (no_read refl)
-LeavesPlay-exact plan bytes left before after status.WriteFault records ending one capture no_read no_write leaves =
+LeavesPlay-exact plan read_failed bytes left before after status.WriteFault packets ending one input no_read no_write leaves =
     absurd (no_write refl)
-LeavesPlay-exact plan bytes left before after status.Memory records ending one capture no_read no_write leaves =
+LeavesPlay-exact plan read_failed bytes left before after status.Memory packets ending one input no_read no_write leaves =
     inr refl
-LeavesPlay-exact plan bytes left before after status.Usage records ending one capture no_read no_write leaves =
+LeavesPlay-exact plan read_failed bytes left before after status.Usage packets ending one input no_read no_write leaves =
     absurd leaves

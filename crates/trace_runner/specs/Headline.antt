@@ -1,12 +1,11 @@
 -- What a run prints, and so what its user may rely on.
-use Rattle.std.specs.Prelude.{◌≡◌, ◌+◌, ◌*◌, ◌⊎◌, ℕ, List, [], length, Some, nat_lt, if◌then◌else◌, is_ok, Option, Result, Ok}
+use Rattle.std.specs.Prelude.{◌≡◌, ◌+◌, ◌*◌, ◌⊎◌, ℕ, List, [], length, Some, None, codes, nat_lt, if◌then◌else◌, is_ok, Option, Result, Ok, Err}
 use Rattle.std.specs.Io.KnownBytes.{Appends, Keeps}
-use Rattle.edge_traits.specs.Edge.{AppendsFront}
+use Rattle.edge_traits.specs.Edge.{AppendsFront, count_after}
 use Rattle.hash_bits.specs.declared.hashing.Hashing.{Hashing}
 use Rattle.hash_bits.specs.declared.hashing.Hashing.TheVariants.{Mix, Ports}
 use Rattle.plain_map.specs.declared.calls.Call.{Call}
-use Rattle.pcap_reader.specs.declared.fault.CaptureFault.{CaptureFault}
-use Rattle.pcap_reader.specs.Capture.{Saved}
+use Rattle.pcapng_reader.specs.declared.fault.AnyFault.{AnyFault}
 use Rattle.pcap_reader.specs.Made.{made_capture}
 use Rattle.pcap_reader.specs.Reading.{Took}
 use Rattle.report_text.specs.declared.parts.Ending.{Ending}
@@ -24,7 +23,10 @@ use Rattle.trace_runner.specs.declared.status.Status.{Status}
 use Rattle.trace_runner.specs.declared.status.Status.TheVariants as status
 use Rattle.trace_runner.specs.Batches.{batch_count, batch_length}
 use Rattle.trace_runner.specs.PacketCalls.{MakeCalls}
-use Rattle.trace_runner.specs.Input.{Begins, HoldsPackets, IsFirst, Serves, packet_limit}
+use Rattle.capture_loop.specs.declared.stop.Stop.{Stop}
+use Rattle.capture_loop.specs.declared.stop.Stop.TheVariants.{Memory, NotPut}
+use Rattle.capture_loop.specs.Leaves.{IsMet, PutsFront, PutsWhole}
+use Rattle.capture_loop.specs.Input.{Begins, HoldsPackets, IsFirst, Serves, packet_limit}
 use Rattle.trace_runner.specs.Served.{AreDone, lines_so_far, run_report}
 
 -- ---- what is printed of packets
@@ -49,10 +51,22 @@ abbrev pub IsFront : Plan → List (List ℕ) → List ℕ → Type 0
 IsFront plan packets text =
     (calls : List (ℕ × Call)) × MakeCalls 1 packets calls × IsFrontOf plan (length packets) calls text
 
+-- the text is the head line and the lines of all batches of these packets
+abbrev pub IsTold : Plan → List (List ℕ) → List ℕ → Type 0
+IsTold plan packets text =
+    (calls : List (ℕ × Call)) × MakeCalls 1 packets calls × (service : Service) × (batches : List Served)
+    × AreDone plan service calls batches × (length batches ≡ batch_count (length packets))
+    × (text ≡ lines_so_far plan service batches)
+
 -- of an input with these bytes, of which these are left, the text is the report, with this ending
 abbrev pub Reports : Plan → List ℕ → Option (List ℕ) → Ending → List ℕ → Type 0
 Reports plan bytes left ending text =
     (packets : List (List ℕ)) × Serves bytes left packets ending × IsReport plan packets ending text
+
+-- and the text is the lines of its batches
+abbrev pub Tells : Plan → List ℕ → Option (List ℕ) → Ending → List ℕ → Type 0
+Tells plan bytes left ending text =
+    (packets : List (List ℕ)) × Serves bytes left packets ending × IsTold plan packets text
 
 -- ---- the status
 
@@ -73,50 +87,60 @@ code_of status.WriteFault = 4
 code_of status.BadCapture = 5
 code_of status.Limit = 6
 
--- the status that a capture of these records with this ending is answered with, where no more than so many are taken
--- and nothing fails
-abbrev pub status_up_to : (most : ℕ) → List Saved → Result ℕ CaptureFault → Status
-status_up_to most records ending = if nat_lt most (length records) then status.Limit
+-- what the program says on standard error of a run that ended so, where it says anything
+abbrev pub complaint_of : Status → Option (List ℕ)
+complaint_of status.Memory = Some (codes "flowdir: out of memory")
+complaint_of status.Usage = Some (codes "flowdir: usage: flowdir serve|play|make|trial [options]")
+complaint_of status.ReadFault = Some (codes "flowdir: read fault")
+complaint_of status.WriteFault = Some (codes "flowdir: write fault")
+complaint_of status.Done = None
+complaint_of status.BadCapture = None
+complaint_of status.Limit = None
+
+-- the status that an input of these packets with this ending is answered with, where no more than so many are taken and
+-- nothing fails
+abbrev pub status_up_to : (most : ℕ) → List (List ℕ) → Result ℕ AnyFault → Status
+status_up_to most packets ending = if nat_lt most (length packets) then status.Limit
     else (if is_ok ending then status.Done else status.BadCapture)
 
 -- where as many are taken as `serve` takes
-abbrev pub status_for : List Saved → Result ℕ CaptureFault → Status
-status_for records ending = status_up_to packet_limit records ending
+abbrev pub status_for : List (List ℕ) → Result ℕ AnyFault → Status
+status_for packets ending = status_up_to packet_limit packets ending
 
 -- ---- what a run leaves
 
--- a front of a text was put
-abbrev pub PutsFront : (before after : Option (List ℕ)) → (List ℕ → Type 0) → Type 0
-PutsFront before after IsText = (text : List ℕ) × IsText text × AppendsFront before after text
-
 -- The whole report was put, with this ending.
 abbrev pub PutsReport : Plan → List ℕ → Option (List ℕ) → Option (List ℕ) → Option (List ℕ) → Ending → Type 0
-PutsReport plan bytes left before after ending =
-    (text : List ℕ) × Reports plan bytes left ending text × Appends before after text
+PutsReport plan bytes left before after ending = PutsWhole before after (Reports plan bytes left ending)
 
--- A front of the report was put, where the ending is known, and otherwise of the lines of the batches so far.
-abbrev pub PutsSome : Plan → List ℕ → Option (List ℕ) → Option (List ℕ) → Option (List ℕ) → Type 0
-PutsSome plan bytes left before after =
-    ((ending : Ending) × PutsFront before after (Reports plan bytes left ending))
+-- A front of the report was put, where the ending is known, and otherwise of the lines of the batches so far. That a read
+-- failed is told only where one did.
+abbrev pub PutsSome : Plan → Type 0 → List ℕ → Option (List ℕ) → Option (List ℕ) → Option (List ℕ) → Type 0
+PutsSome plan read_failed bytes left before after =
+    ((ending : Ending) × IsMet read_failed ending × PutsFront before after (Reports plan bytes left ending))
     ⊎ ((packets : List (List ℕ)) × Begins bytes left packets × PutsFront before after (IsFront plan packets))
 
--- The same where memory ran out, or nothing was put. More of the input may have been read.
-abbrev pub PutsLess : Plan → List ℕ → Option (List ℕ) → Option (List ℕ) → Option (List ℕ) → Type 0
-PutsLess plan bytes left before after =
-    Keeps before after ⊎ (((ending : Ending) × PutsFront before after (Reports plan bytes left ending))
-    ⊎ ((packets : List (List ℕ)) × IsFirst bytes packets × PutsFront before after (IsFront plan packets)))
+-- Where memory ran out, nothing was put, or the lines of all batches of an input whose ending is known, or those of the
+-- batches so far. More of the input may have been read.
+abbrev pub PutsLess : Plan → Type 0 → List ℕ → Option (List ℕ) → Option (List ℕ) → Option (List ℕ) → Type 0
+PutsLess plan read_failed bytes left before after =
+    Keeps before after
+    ⊎ (((ending : Ending) × IsMet read_failed ending × PutsWhole before after (Tells plan bytes left ending))
+    ⊎ ((packets : List (List ℕ)) × IsFirst bytes packets × PutsWhole before after (IsFront plan packets)))
 
 -- What `serve` leaves that ended so: of the input's bytes these are left, and the sink had taken `before` and has taken
 -- `after`.
-abbrev pub Leaves : Plan → List ℕ → Option (List ℕ) → Option (List ℕ) → Option (List ℕ) → Status → Type 0
-Leaves plan bytes left before after status.Done = (rest : ℕ) × PutsReport plan bytes left before after (Done rest)
-Leaves plan bytes left before after status.BadCapture =
-    (fault : CaptureFault) × PutsReport plan bytes left before after (Fault fault)
-Leaves plan bytes left before after status.Limit = (limit : ℕ) × PutsReport plan bytes left before after (Limit limit)
-Leaves plan bytes left before after status.ReadFault = PutsReport plan bytes left before after ReadFault
-Leaves plan bytes left before after status.WriteFault = PutsSome plan bytes left before after
-Leaves plan bytes left before after status.Memory = PutsLess plan bytes left before after
-Leaves plan bytes left before after status.Usage = ⊥
+abbrev pub Leaves : Plan → Type 0 → List ℕ → Option (List ℕ) → Option (List ℕ) → Option (List ℕ) → Status → Type 0
+Leaves plan read_failed bytes left before after status.Done =
+    (rest : ℕ) × PutsReport plan bytes left before after (Done rest)
+Leaves plan read_failed bytes left before after status.BadCapture =
+    (fault : AnyFault) × PutsReport plan bytes left before after (Fault fault)
+Leaves plan read_failed bytes left before after status.Limit =
+    (limit : ℕ) × PutsReport plan bytes left before after (Limit limit)
+Leaves plan read_failed bytes left before after status.ReadFault = PutsReport plan bytes left before after ReadFault
+Leaves plan read_failed bytes left before after status.WriteFault = PutsSome plan read_failed bytes left before after
+Leaves plan read_failed bytes left before after status.Memory = PutsLess plan read_failed bytes left before after
+Leaves plan read_failed bytes left before after status.Usage = ⊥
 
 -- a fact of what was taken of a source; where memory ran out, of what had been taken at some moment of the run
 abbrev pub TookFor : Status → (first left : Option (List ℕ)) → (List ℕ → Type 0) → Type 0
@@ -129,16 +153,39 @@ TookFor status.Memory first left P = (between : Option (List ℕ)) × Took first
 TookFor status.Usage first left P = Took first left P
 
 -- So it is for the bytes of a source, where they are told, and for those that were taken of it, as of a source that
--- told just these: so these decide which answer it is.
-pub record LeavesAll (plan : Plan) (first left before after : Option (List ℕ)) (answer : Status) : Type 0 where
-  pub told : (bytes : List ℕ) → first ≡ Some bytes → Leaves plan bytes left before after answer
-  pub took : TookFor answer first left (λ taken. Leaves plan taken (Some []) before after answer)
+-- told just these: so these decide which answer it is. Of a source that tells nothing the second fact says only that
+-- there are some such bytes.
+pub record LeavesAll (plan : Plan) (read_failed : Type 0) (first left before after : Option (List ℕ)) (answer : Status) :
+    Type 0 where
+  pub told : (bytes : List ℕ) → first ≡ Some bytes → Leaves plan read_failed bytes left before after answer
+  pub took : TookFor answer first left (λ taken. Leaves plan read_failed taken (Some []) before after answer)
+
+-- ---- devices that failed
+
+-- the status of a run that ended so
+abbrev pub status_by : Result Ending Stop → Status
+status_by (Ok ending) = status_of ending
+status_by (Err Memory) = status.Memory
+status_by (Err NotPut) = status.WriteFault
+
+-- How many reads have failed in a run that ended so: one more, where that is told. Where a write failed, or memory ran
+-- out, one may have failed before.
+abbrev pub ReadsFailed : Status → (before after : ℕ) → Type 0
+ReadsFailed status.ReadFault before after = after ≡ count_after before 1
+ReadsFailed status.WriteFault before after = (after ≡ before) ⊎ (after ≡ count_after before 1)
+ReadsFailed status.Memory before after = (after ≡ before) ⊎ (after ≡ count_after before 1)
+ReadsFailed answer before after = after ≡ before
+
+-- how many writes have failed: one more, where that is told
+abbrev pub WritesFailed : Status → (before after : ℕ) → Type 0
+WritesFailed status.WriteFault before after = after ≡ count_after before 1
+WritesFailed answer before after = after ≡ before
 
 -- what `make` leaves
 abbrev pub LeavesMade : Plan → Option (List ℕ) → Option (List ℕ) → Status → Type 0
 LeavesMade plan before after status.Done = Appends before after (made_capture plan.number plan.packets)
 LeavesMade plan before after status.WriteFault = AppendsFront before after (made_capture plan.number plan.packets)
-LeavesMade plan before after status.Memory = AppendsFront before after (made_capture plan.number plan.packets)
+LeavesMade plan before after status.Memory = Keeps before after
 LeavesMade plan before after status.Usage = ⊥
 LeavesMade plan before after status.ReadFault = ⊥
 LeavesMade plan before after status.BadCapture = ⊥
@@ -177,8 +224,8 @@ trial_of plan totals sessions =
 abbrev pub tried_of : Plan → List Served → Trial
 tried_of plan batches = trial_of plan (totals_of (outcomes_in batches)) (length (pairs_left [] batches))
 
--- The counts add up: each call had one of the six replies, since none was refused, and of the sessions that were begun
--- those are left that were not ended.
+-- The counts add up: each call had one of the six replies, since none was refused and none is a tally, and of the sessions
+-- that were begun those are left that were not ended.
 pub record AddsUp (trial : Trial) : Type 0 where
   pub replies :
       trial.calls

@@ -1,11 +1,10 @@
-pub mod Ahead
 pub mod PacketCalls
-pub mod Input
 pub mod Batches
-pub mod Endings
 pub mod Reading
 pub mod Answered
 pub mod Served
 pub mod Headline
 pub mod Playing
 pub mod Progress
+pub mod Serving
+pub mod ServingLaws

@@ -8,7 +8,7 @@ use Rattle.step_counts.specs.StepCounts.{automatic_rows_of, step_bound}
 use Rattle.plain_map.specs.declared.calls.Call.{Call}
 use Rattle.plain_map.specs.PlainObject.{pairs_of}
 use Rattle.plain_map.specs.History.{Legal, After, Whole, sessions_after}
-use Rattle.pcap_reader.specs.declared.fault.CaptureFault.{CaptureFault}
+use Rattle.pcapng_reader.specs.declared.fault.AnyFault.{AnyFault}
 use Rattle.trace_share.specs.declared.outcome.Outcome.{Outcome}
 use Rattle.report_text.specs.declared.parts.Ending.{Ending}
 use Rattle.report_text.specs.declared.parts.Ending.TheVariants.{Done, ReadFault, Limit, Fault}
@@ -33,10 +33,11 @@ use Rattle.command_line.specs.declared.plays.Segment.{Segment}
 use Rattle.trace_runner.specs.declared.status.Status.{Status}
 use Rattle.trace_runner.specs.declared.status.Status.TheVariants as status
 use Rattle.trace_runner.specs.Answered.{AreCountedBySeat, answered_on}
-use Rattle.trace_runner.specs.Input.{ServesUpTo}
+use Rattle.capture_loop.specs.Input.{ServesUpTo}
 use Rattle.trace_runner.specs.PacketCalls.{MakeCalls}
 use Rattle.trace_runner.specs.Served.{IsServiceOf, head_of}
-use Rattle.trace_runner.specs.Headline.{PutsFront, TookFor}
+use Rattle.capture_loop.specs.Leaves.{IsMet, PutsFront}
+use Rattle.trace_runner.specs.Headline.{TookFor}
 
 -- how many packets `play` takes at most
 abbrev pub play_limit : ℕ
@@ -194,21 +195,24 @@ PutsPlay plan bytes left before after ending =
     (text : List ℕ) × PlayReports plan bytes left ending text × Appends before after text
 
 -- What `play` leaves that ended so: of the input's bytes these are left, and the sink had taken `before` and has taken
--- `after`. Where a write failed, a front of the report was put. Where memory ran out, nothing was.
-abbrev pub LeavesPlay : Plan → List ℕ → Option (List ℕ) → Option (List ℕ) → Option (List ℕ) → Status → Type 0
-LeavesPlay plan bytes left before after status.Done = (rest : ℕ) × PutsPlay plan bytes left before after (Done rest)
-LeavesPlay plan bytes left before after status.BadCapture =
-    (fault : CaptureFault) × PutsPlay plan bytes left before after (Fault fault)
-LeavesPlay plan bytes left before after status.Limit =
+-- `after`. Where a write failed, a front of the report was put; that a
+-- read failed is told only where one did. Where memory ran out, nothing was.
+abbrev pub LeavesPlay : Plan → Type 0 → List ℕ → Option (List ℕ) → Option (List ℕ) → Option (List ℕ) → Status → Type 0
+LeavesPlay plan read_failed bytes left before after status.Done =
+    (rest : ℕ) × PutsPlay plan bytes left before after (Done rest)
+LeavesPlay plan read_failed bytes left before after status.BadCapture =
+    (fault : AnyFault) × PutsPlay plan bytes left before after (Fault fault)
+LeavesPlay plan read_failed bytes left before after status.Limit =
     (limit : ℕ) × PutsPlay plan bytes left before after (Limit limit)
-LeavesPlay plan bytes left before after status.ReadFault = PutsPlay plan bytes left before after ReadFault
-LeavesPlay plan bytes left before after status.WriteFault =
-    (ending : Ending) × PutsFront before after (PlayReports plan bytes left ending)
-LeavesPlay plan bytes left before after status.Memory = Keeps before after
-LeavesPlay plan bytes left before after status.Usage = ⊥
+LeavesPlay plan read_failed bytes left before after status.ReadFault = PutsPlay plan bytes left before after ReadFault
+LeavesPlay plan read_failed bytes left before after status.WriteFault =
+    (ending : Ending) × IsMet read_failed ending × PutsFront before after (PlayReports plan bytes left ending)
+LeavesPlay plan read_failed bytes left before after status.Memory = Keeps before after
+LeavesPlay plan read_failed bytes left before after status.Usage = ⊥
 
 -- So it is for the bytes of a source, where they are told, and for those that were taken of it, as of a source that
 -- told just these.
-pub record LeavesPlayed (plan : Plan) (first left before after : Option (List ℕ)) (answer : Status) : Type 0 where
-  pub told : (bytes : List ℕ) → first ≡ Some bytes → LeavesPlay plan bytes left before after answer
-  pub took : TookFor answer first left (λ taken. LeavesPlay plan taken (Some []) before after answer)
+pub record LeavesPlayed (plan : Plan) (read_failed : Type 0) (first left before after : Option (List ℕ))
+    (answer : Status) : Type 0 where
+  pub told : (bytes : List ℕ) → first ≡ Some bytes → LeavesPlay plan read_failed bytes left before after answer
+  pub took : TookFor answer first left (λ taken. LeavesPlay plan read_failed taken (Some []) before after answer)

@@ -1,59 +1,25 @@
 -- How far the reading of an input has come.
-use Rattle.std.specs.Prelude.{◌≡◌, ◌≤◌, ◌<◌, ℕ, ◌+◌, List, [], ◌∷◌, ◌++◌, length, drop, flat_map, All, Option, Some, IfNone, IfSome, IsSome, MatchOption, Result, Ok, Err, false}
-use Rattle.pcap_reader.specs.declared.head.TheConstants.{FILE_HEAD}
-use Rattle.pcap_reader.specs.Capture.{Saved, bytes_of, HasFileHead, IsSaved, IsCut, IsRemainder}
-use Rattle.pcap_reader.specs.Reading.{GivesNone, Reading, Took, buffer_length, to_come}
+use Rattle.std.specs.Prelude.{◌≡◌, ◌≤◌, ◌<◌, ℕ, ◌+◌, List, [], ◌∷◌, ◌++◌, length, All, Option, Some, IfNone, MatchOption, false}
+use Rattle.pcap_reader.specs.Reading.{Took}
+use Rattle.pcapng_reader.specs.Reading.{Reading}
+use Rattle.capture_loop.specs.Reading.{HaveCome as HasCome}
 use Rattle.plain_map.specs.declared.calls.Call.{Call}
 use Rattle.report_text.specs.declared.parts.Ending.{Ending}
-use Rattle.report_text.specs.declared.parts.Ending.TheVariants.{Done, ReadFault, Limit, Fault}
+use Rattle.report_text.specs.declared.parts.Ending.TheVariants.{ReadFault}
 use Rattle.plain_map.specs.Calls.{key_in}
 use Rattle.plain_map.specs.Serving.{IsAskable}
-use Rattle.core_model.specs.Setup.{IsKey}
+use Rattle.plain_map.specs.Keys.{IsKey}
 use Rattle.flow_keys.specs.FlowText.{HasText}
-use Rattle.pcap_reader.specs.declared.fault.CaptureFault.{CaptureFault}
 use Rattle.edge_traits.specs.Edge.{Rose}
 use Rattle.trace_runner.specs.declared.intake.TheConstants.{BATCH}
 use Rattle.trace_runner.specs.declared.intake.Part.{Part}
 use Rattle.trace_runner.specs.PacketCalls.{MakeCalls, MakesCall, numbered}
-use Rattle.trace_runner.specs.Input.{ServesUpTo, packet_limit, packets_of}
-
--- the bytes still to come are a remainder with this ending
-abbrev pub EndsWith : Reading → Option (List ℕ) → Result ℕ CaptureFault → Type 0
-EndsWith reading left ending = IfSome (to_come reading left)
-    (λ bytes. IsRemainder reading.order reading.offset bytes ending)
-
--- a reader that stood at `old`, where its source had `before` left and has `after`, has this ending before it
-abbrev pub StandsBefore : Reading → Reading → Option (List ℕ) → Option (List ℕ) → Ending → Type 0
-StandsBefore old new before after (Done rest) = EndsWith old before (Ok rest) × (IsSome before → after ≡ Some [])
-StandsBefore old new before after (Fault fault) = EndsWith old before (Err fault)
-StandsBefore old new before after ReadFault = IsCut old.order new.pending
-StandsBefore old new before after (Limit limit) = ⊥
-
--- it met this ending, and gave out nothing more
-pub record MeetsEnding (old new : Reading) (before after : Option (List ℕ)) (ending : Ending) : Type 0 where
-  pub none : GivesNone old new (to_come old before) (to_come new after)
-  pub ends : StandsBefore old new before after ending
-
--- of the bytes of an input these records have been given out, and the reader stands behind them
-pub record HasRead (bytes : List ℕ) (reading : Reading) (left : Option (List ℕ)) (records : List Saved) : Type 0 where
-  pub head : HasFileHead reading.order bytes
-  pub each : All (IsSaved reading.order) records
-  pub more : List ℕ
-  pub told : to_come reading left ≡ Some more
-  pub whole : drop FILE_HEAD bytes ≡ flat_map bytes_of records ++ more
-  pub offset : reading.offset ≡ FILE_HEAD + length (flat_map bytes_of records)
-  pub room : length reading.pending ≤ buffer_length
+use Rattle.capture_loop.specs.Input.{ServesUpTo, packet_limit}
 
 -- the call that the packet with this number makes stands behind the others, where it makes one
 abbrev pub TakesCall : ℕ → List ℕ → List (ℕ × Call) → List (ℕ × Call) → Type 0
 TakesCall number packet old new = (made : Option Call) × MakesCall number packet made
     × (new ≡ old ++ numbered number made)
-
--- so many records have been given out of an input with these bytes, and their packets make these calls
-abbrev pub HasCalls : List ℕ → Reading → Option (List ℕ) → ℕ → List (ℕ × Call) → Type 0
-HasCalls bytes reading left many calls =
-    (records : List Saved) × HasRead bytes reading left records × MakeCalls 1 (packets_of records) calls
-    × (length records ≡ many)
 
 -- an input with these bytes, of which these are left, ended so behind so many packets, which make these calls, where no
 -- more than `most` are taken
@@ -62,12 +28,14 @@ EndsCalls most bytes left many calls ending =
     (packets : List (List ℕ)) × ServesUpTo most bytes left packets ending × MakeCalls 1 packets calls
     × (length packets ≡ many)
 
--- So far has an input been read, of which these bytes were left at first, and these are now: where they are told, and
--- by what was taken of them.
+-- So far has an input been read, of which these bytes were left at first, and these are now: so many packets, which make
+-- these calls.
 pub record HaveCome (first now : Option (List ℕ)) (reading : Reading) (many : ℕ) (calls : List (ℕ × Call)) :
     Type 0 where
-  pub told : (bytes : List ℕ) → first ≡ Some bytes → HasCalls bytes reading now many calls
-  pub took : Took first now (λ taken. HasCalls taken reading (Some []) many calls)
+  pub packets : List (List ℕ)
+  pub come : HasCome first now reading packets
+  pub make : MakeCalls 1 packets calls
+  pub count : length packets ≡ many
 
 -- and so it ended, where no more packets than `most` are taken
 pub record HaveEndedUpTo (most : ℕ) (first now : Option (List ℕ)) (many : ℕ) (calls : List (ℕ × Call))

@@ -1,21 +1,19 @@
 //! The input of a run: its packets' calls, batch by batch, and how it ended.
 
-ghost use Rattle.std.specs.Prelude.{◌≡◌, ◌<◌, ◌≤◌, ◌+◌, ℕ, List, [], ◌++◌, false, Option, None, Some, MatchOption, Err, IfOk, IfErr, IfSome, IfNone, OnOk};
+ghost use Rattle.std.specs.Prelude.{◌≡◌, ◌<◌, ◌≤◌, ◌+◌, ℕ, List, [], ◌++◌, false, Option, None, Some, MatchOption, Err, IfOk, IfErr, IfSome, IfNone, OnErr, OnOk};
 ghost use Rattle.edge_traits.specs.Edge.{Rose};
-ghost use Rattle.pcap_reader.specs.Reading.{IsAtStart};
+ghost use Rattle.capture_loop.specs.Endings.{HasFailed};
 ghost use Rattle.plain_map.specs.declared.calls.Call.{Call};
 ghost use Rattle.report_text.specs.Report.{IsEnding};
-ghost use Rattle.trace_runner.specs.Endings.{ending_at, OnEnds};
 ghost use Rattle.trace_runner.specs.Reading.{AreBetween, HaveCome, HaveEndedUpTo};
-ghost use Rattle.trace_runner.specs.Ahead.{IsAhead, IsTaken};
 
-use crate::steps::{keep_call, read_on, read_past};
-use batch_runner::{Dealt, Service, deal_batch};
+use crate::steps::keep_call;
+use capture_loop::{read_on, read_past};
 use edge_traits::Source;
-use pcap_reader::{CaptureFault, Reader};
+use pcapng_reader::AnyReader;
 use plain_map::Call;
 use report_text::Ending;
-use std::alloc::{AllocError, Global};
+use std::alloc::AllocError;
 
 /// How many packets `serve` takes at most.
 pub const PACKET_LIMIT: u32 = 4_000_000;
@@ -26,14 +24,6 @@ pub const PLAY_LIMIT: u32 = 200;
 /// How many packets a batch has; the last one may have fewer.
 pub const BATCH: u32 = 2_048;
 
-/// Why an input could not be opened.
-#[derive(Clone, Copy)]
-pub(crate) enum Unopened {
-    Memory,
-    /// It ends before its first record.
-    Ends(Ending),
-}
-
 /// What was read of a batch.
 #[derive(Clone, Copy)]
 pub(crate) struct Part {
@@ -43,52 +33,11 @@ pub(crate) struct Part {
     pub ending: Option<Ending>,
 }
 
-/// Reads the file head. Memory runs out before anything is read.
-pub(crate) fn open<S: Source>(alloc: Global, source: &mut S) -> Result<Reader, Unopened>
-    ensures start { IfOk result IsAtStart }
-    ensures come { IfOk result (λ reader. HaveCome (S.left source.old) (S.left source.new) reader 0 []) }
-    ensures ending { IfErr result (λ fault. OnEnds fault IsEnding) }
-    ensures ended { IfErr result (λ fault. OnEnds fault (λ ending. (limit : ℕ) →
-        HaveEndedUpTo limit (S.left source.old) (S.left source.new) 0 [] ending)) }
-    ensures read_fault { result ≡ Err (Unopened.Ends Ending.ReadFault) →
-        Rose (S.faults source.old) (S.faults source.new) }
-    ensures counted { S.faults source.old ≤ S.faults source.new }
-{
-    match Reader::open(alloc, source) {
-        Ok(reader) => Ok(reader),
-        Err(fault) => match ending_at(fault) {
-            Some(ending) => Err(Unopened::Ends(ending)),
-            None => Err(Unopened::Memory),
-        },
-    }
-}
-
-/// What was taken of a batch before its reading: the packets that the reader held.
-#[derive(Drop)]
-pub(crate) struct Ahead {
-    /// How many they are.
-    pub packets: u32,
-    /// Their calls, where they are a whole batch.
-    pub dealt: Option<Dealt>,
-}
-
-impl Ahead {
-    /// None.
-    pub fn none() -> Ahead
-        ensures { result ≡ record { packets = 0; dealt = None } }
-    {
-        Ahead {
-            packets: 0,
-            dealt: None,
-        }
-    }
-}
-
 /// Reads the packets of a batch, behind so many that were read before. No more than `limit` are taken in all.
 ///
 /// The calls are put into a list that is empty. Want of memory comes from it.
 pub(crate) fn read_batch<S: Source>(
-    reader: &mut Reader,
+    reader: &mut AnyReader,
     source: &mut S,
     before: u32,
     limit: u32,
@@ -113,6 +62,8 @@ pub(crate) fn read_batch<S: Source>(
     ensures read_fault { IfOk result (λ part. part.ending ≡ Some Ending.ReadFault →
         Rose (S.faults source.old) (S.faults source.new)) }
     ensures counted { S.faults source.old ≤ S.faults source.new }
+    ensures failed { IfOk result (λ part. HasFailed part.ending (S.failed source.old) (S.failed source.new)) }
+    ensures none_failed { OnErr result (S.failed source.new ≡ S.failed source.old) }
 {
     let part = read_rest(reader, source, before, 0, limit, calls)?;
     Ok(part)
@@ -120,7 +71,7 @@ pub(crate) fn read_batch<S: Source>(
 
 /// The same, where so many packets of the batch were taken already, whose calls are in the list.
 pub(crate) fn read_rest<S: Source>(
-    reader: &mut Reader,
+    reader: &mut AnyReader,
     source: &mut S,
     before: u32,
     taken: u32,
@@ -148,6 +99,8 @@ pub(crate) fn read_rest<S: Source>(
     ensures read_fault { IfOk result (λ part. part.ending ≡ Some Ending.ReadFault →
         Rose (S.faults source.old) (S.faults source.new)) }
     ensures counted { S.faults source.old ≤ S.faults source.new }
+    ensures failed { IfOk result (λ part. HasFailed part.ending (S.failed source.old) (S.failed source.new)) }
+    ensures none_failed { OnErr result (S.failed source.new ≡ S.failed source.old) }
 {
     let most = BATCH.min(limit - before);
     for packets in taken..most {
@@ -157,7 +110,7 @@ pub(crate) fn read_rest<S: Source>(
                 ending: Some(ending),
             });
         }
-        keep_call(reader, before + packets + 1, calls)?;
+        keep_call(reader.packet(), before + packets + 1, calls)?;
     }
     if before + most < limit {
         return Ok(Part {
@@ -169,66 +122,4 @@ pub(crate) fn read_rest<S: Source>(
         packets: most,
         ending: Some(read_past(reader, source, limit)),
     })
-}
-
-/// Takes what the reader holds of the next batch, behind so many packets, into a list that is empty; deals the calls
-/// where the batch is whole. Nothing is read.
-pub(crate) fn take_ahead(
-    alloc: Global,
-    service: &Service,
-    reader: &mut Reader,
-    before: u32,
-    calls: &mut Vec<(u32, Call)>,
-) -> Result<Ahead, AllocError>
-    requires going { reader.old.ended ≡ false }
-    requires given { reader.old.given ≡ before }
-    requires few { before < PACKET_LIMIT }
-    requires none { calls.old.items ≡ [] }
-    ensures { IfOk result (IsAhead service.now reader.old reader.new before calls.new.items) }
-{
-    let packets = take_held(reader, before, calls)?;
-    if packets < BATCH {
-        return Ok(Ahead {
-            packets,
-            dealt: None,
-        });
-    }
-    let dealt = deal_batch(alloc, service, calls)?;
-    Ok(Ahead {
-        packets,
-        dealt: Some(dealt),
-    })
-}
-
-/// Takes the packets that the reader holds, behind so many, as far as they are of one batch.
-fn take_held(
-    reader: &mut Reader,
-    before: u32,
-    calls: &mut Vec<(u32, Call)>,
-) -> Result<u32, AllocError>
-    requires going { reader.old.ended ≡ false }
-    requires given { reader.old.given ≡ before }
-    requires few { before < PACKET_LIMIT }
-    requires none { calls.old.items ≡ [] }
-    ensures { IfOk result (IsTaken reader.old reader.new before calls.new.items) }
-{
-    let most = BATCH.min(PACKET_LIMIT - before);
-    for packets in 0..most {
-        if !reader.next_held() {
-            return Ok(packets);
-        }
-        keep_call(reader, before + packets + 1, calls)?;
-    }
-    Ok(most)
-}
-
-/// How an input ends of which the file head could not be read; `None` for want of memory.
-fn ending_at(fault: CaptureFault) -> Option<Ending>
-    ensures { result ≡ ending_at fault }
-{
-    match fault {
-        CaptureFault::Memory => None,
-        CaptureFault::ReadFault => Some(Ending::ReadFault),
-        fault => Some(Ending::Fault(fault)),
-    }
 }

@@ -3,7 +3,9 @@
 
 mod intake;
 mod laws;
+mod looping;
 mod making;
+mod pile;
 mod playing;
 mod printing;
 mod progress;
@@ -11,7 +13,6 @@ mod running;
 mod serving;
 mod status;
 mod steps;
-mod stop;
 mod trying;
 
 pub use intake::{BATCH, PACKET_LIMIT, PLAY_LIMIT};

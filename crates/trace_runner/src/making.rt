@@ -2,7 +2,7 @@
 
 ghost use Rattle.std.specs.Prelude.{◌≡◌, ◌≤◌};
 ghost use Rattle.edge_traits.specs.Edge.{Rose};
-ghost use Rattle.trace_runner.specs.Headline.{LeavesMade};
+ghost use Rattle.trace_runner.specs.Headline.{LeavesMade, WritesFailed};
 
 use crate::status::Status;
 use command_line::Plan;
@@ -14,6 +14,7 @@ use std::alloc::Global;
 pub(crate) fn make<K: Sink>(alloc: Global, plan: &Plan, sink: &mut K) -> Status
     ensures leaves { LeavesMade plan.now (K.put sink.old) (K.put sink.new) result }
     ensures write_fault { result ≡ Status.WriteFault → Rose (K.faults sink.old) (K.faults sink.new) }
+    ensures writes { WritesFailed result (K.failed sink.old) (K.failed sink.new) }
     ensures counted { K.faults sink.old ≤ K.faults sink.new }
 {
     match put_made(alloc, plan.number, plan.packets, sink) {

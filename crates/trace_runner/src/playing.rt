@@ -1,6 +1,6 @@
 //! Mode `play`: a capture is read whole, its calls are made by a schedule, and the report is put at once.
 
-ghost use Rattle.std.specs.Prelude.{◌≡◌, ◌≤◌, ◌<◌, ◌^◌, [], ◌++◌, length, map, flat_map, vec_len, All, IfOk, OnOk, Some};
+ghost use Rattle.std.specs.Prelude.{◌≡◌, ◌≤◌, ◌<◌, ◌^◌, [], ◌++◌, length, map, flat_map, vec_len, All, IfOk, OnErr, OnOk, Some};
 ghost use Rattle.std.specs.Option.{ForSome};
 ghost use Rattle.edge_traits.specs.Edge.{Rose};
 ghost use Rattle.flow_keys.specs.FlowText.{HasText};
@@ -11,20 +11,23 @@ ghost use Rattle.core_model.specs.Schedules.{CanPlay, IsPlayable};
 ghost use Rattle.play_runner.specs.Played.{IsPlayed, as_segment};
 ghost use Rattle.batch_rows.specs.declared.rows.TheConstants.{CALL_LIMIT};
 ghost use Rattle.batch_runner.specs.Served.{shares_of};
+ghost use Rattle.capture_loop.specs.Endings.{HasFailed};
 ghost use Rattle.command_line.specs.Words.{IsInRange};
+ghost use Rattle.trace_runner.specs.Headline.{ReadsFailed, WritesFailed};
 ghost use Rattle.trace_runner.specs.declared.intake.TheConstants.{PLAY_LIMIT};
 ghost use Rattle.trace_runner.specs.Reading.{AreBetween, HaveEndedUpTo};
 ghost use Rattle.trace_runner.specs.Served.{IsServiceOf};
 ghost use Rattle.trace_runner.specs.Playing.{IsPlayOf, LeavesPlayed, play_in, play_setup, play_tail};
 ghost use Rattle.trace_runner.specs.Playing.{played_lines, ranges_for, refusals_in, schedule_in};
 
-use crate::intake::{PLAY_LIMIT, Unopened, open, read_batch};
+use crate::intake::{PLAY_LIMIT, read_batch};
 use crate::laws::playing_laws;
 use crate::printing::{head_of, put_sessions};
 use crate::serving::service_of;
 use crate::status::Status;
 use batch_rows::updates_of;
 use batch_runner::Service;
+use capture_loop::{Unopened, open};
 use command_line::Plan;
 use core_world::CoreWorld;
 use edge_traits::{Failed, Sink, Source, write_all};
@@ -45,10 +48,12 @@ pub(crate) fn play<S: Source, K: Sink>(
     sink: &mut K,
 ) -> Status
     requires { IsInRange plan.now }
-    ensures leaves { LeavesPlayed plan.now (S.left source.old) (S.left source.new)
-        (K.put sink.old) (K.put sink.new) result }
+    ensures leaves { LeavesPlayed plan.now (Rose (S.faults source.old) (S.faults source.new)) (S.left source.old)
+        (S.left source.new) (K.put sink.old) (K.put sink.new) result }
     ensures read_fault { result ≡ Status.ReadFault → Rose (S.faults source.old) (S.faults source.new) }
     ensures write_fault { result ≡ Status.WriteFault → Rose (K.faults sink.old) (K.faults sink.new) }
+    ensures reads { ReadsFailed result (S.failed source.old) (S.failed source.new) }
+    ensures writes { WritesFailed result (K.failed sink.old) (K.failed sink.new) }
     ensures no_usage { result ≡ Status.Usage → ⊥ }
     ensures counted { (S.faults source.old ≤ S.faults source.new) × (K.faults sink.old ≤ K.faults sink.new) }
 {
@@ -84,6 +89,8 @@ fn read_input<S: Source>(alloc: Global, source: &mut S) -> Result<Input, AllocEr
     ensures read_fault { IfOk result (λ input. input.ending ≡ Ending.ReadFault →
         Rose (S.faults source.old) (S.faults source.new)) }
     ensures counted { S.faults source.old ≤ S.faults source.new }
+    ensures failed { IfOk result (λ input. HasFailed (Some input.ending) (S.failed source.old) (S.failed source.new)) }
+    ensures none_failed { OnErr result (S.failed source.new ≡ S.failed source.old) }
 {
     let mut calls = Vec::new(alloc);
     match open(alloc, source) {

@@ -2,12 +2,12 @@
 
 ghost use Rattle.std.specs.Prelude.{◌≡◌, ◌≤◌, ◌⊎◌, ℕ, List, map, string_bytes, Some, None, Result};
 ghost use Rattle.edge_traits.specs.Edge.{Rose};
-ghost use Rattle.pcap_reader.specs.Capture.{Capture, Saved};
-ghost use Rattle.pcap_reader.specs.declared.fault.CaptureFault.{CaptureFault};
+ghost use Rattle.pcapng_reader.specs.Input.{Input};
+ghost use Rattle.pcapng_reader.specs.declared.fault.AnyFault.{AnyFault};
 ghost use Rattle.command_line.specs.declared.plan.Plan.{Plan as APlan};
 ghost use Rattle.command_line.specs.declared.plan.Mode.TheVariants.{Make, Play, Serve, Trial};
 ghost use Rattle.command_line.specs.Words.{IsInRange, reads};
-ghost use Rattle.trace_runner.specs.Headline.{LeavesAll, LeavesMade, LeavesTried, status_for, status_up_to};
+ghost use Rattle.trace_runner.specs.Headline.{LeavesAll, LeavesMade, LeavesTried, ReadsFailed, WritesFailed, status_for, status_up_to};
 ghost use Rattle.trace_runner.specs.Playing.{LeavesPlayed, play_limit};
 
 use crate::making::make;
@@ -17,7 +17,7 @@ use crate::status::Status;
 use crate::trying::try_plan;
 use command_line::{Mode, Plan, WordsFault, read_words};
 use edge_traits::{Gate, Sink, Source};
-use pcap_reader::one_capture;
+use pcapng_reader::one_input;
 use std::alloc::Global;
 use std::thread::Threads;
 
@@ -36,31 +36,33 @@ pub fn run<R: Threads + Sync, S: Source, K: Sink, G: Gate + Sync>(
     sink: &mut K,
     gate: &G,
 ) -> Status
-    // `serve`: what is put is the report of the packets that the input is a capture of, in one order of all calls with
-    // the plain map's replies. So it is for the bytes that the source tells, and told or not for those that were taken
-    // of it.
+    // `serve`: what is put is the report of the input's packets, in one order of all calls with
+    // the plain map's replies. So it is for the bytes that the source tells, and for those of them that were taken,
+    // which decide the answer. Of a source that tells nothing it says only that some bytes have such a report.
     ensures headline { (plan : APlan) → reads (map string_bytes words.now) ≡ Some plan → plan.mode ≡ Serve →
-        LeavesAll plan (S.left source.old) (S.left source.new) (K.put sink.old) (K.put sink.new) result }
+        LeavesAll plan (Rose (S.faults source.old) (S.faults source.new)) (S.left source.old) (S.left source.new)
+        (K.put sink.old) (K.put sink.new) result }
 
-    // Where nothing fails, the capture that the bytes are decides which answer it is, want of memory apart.
-    ensures exact { (plan : APlan) (bytes : List ℕ) (records : List Saved) (ending : Result ℕ CaptureFault) →
+    // Where nothing fails, the input that the bytes are decides which answer it is, want of memory apart.
+    ensures exact { (plan : APlan) (bytes : List ℕ) (packets : List (List ℕ)) (ending : Result ℕ AnyFault) →
         reads (map string_bytes words.now) ≡ Some plan → plan.mode ≡ Serve →
-        S.left source.old ≡ Some bytes → Capture bytes records ending →
+        S.left source.old ≡ Some bytes → Input bytes packets ending →
         ¬ Rose (S.faults source.old) (S.faults source.new) →
         ¬ Rose (K.faults sink.old) (K.faults sink.new) →
-        (result ≡ status_for records ending) ⊎ (result ≡ Status.Memory) }
+        (result ≡ status_for packets ending) ⊎ (result ≡ Status.Memory) }
 
-    // `play`: what is put is the report of one play of the capture's calls, by the schedule and the stops of the words.
+    // `play`: what is put is the report of one play of the input's calls, by the schedule and the stops of the words.
     ensures played { (plan : APlan) → reads (map string_bytes words.now) ≡ Some plan → plan.mode ≡ Play →
-        LeavesPlayed plan (S.left source.old) (S.left source.new) (K.put sink.old) (K.put sink.new) result }
+        LeavesPlayed plan (Rose (S.faults source.old) (S.faults source.new)) (S.left source.old) (S.left source.new)
+        (K.put sink.old) (K.put sink.new) result }
 
-    // Where nothing fails, here too the capture decides.
-    ensures exact_play { (plan : APlan) (bytes : List ℕ) (records : List Saved) (ending : Result ℕ CaptureFault) →
+    // Where nothing fails, here too the input decides.
+    ensures exact_play { (plan : APlan) (bytes : List ℕ) (packets : List (List ℕ)) (ending : Result ℕ AnyFault) →
         reads (map string_bytes words.now) ≡ Some plan → plan.mode ≡ Play →
-        S.left source.old ≡ Some bytes → Capture bytes records ending →
+        S.left source.old ≡ Some bytes → Input bytes packets ending →
         ¬ Rose (S.faults source.old) (S.faults source.new) →
         ¬ Rose (K.faults sink.old) (K.faults sink.new) →
-        (result ≡ status_up_to play_limit records ending) ⊎ (result ≡ Status.Memory) }
+        (result ≡ status_up_to play_limit packets ending) ⊎ (result ≡ Status.Memory) }
 
     // `make`: what is put is the made capture, and nothing is read.
     ensures made { (plan : APlan) → reads (map string_bytes words.now) ≡ Some plan → plan.mode ≡ Make →
@@ -76,12 +78,15 @@ pub fn run<R: Threads + Sync, S: Source, K: Sink, G: Gate + Sync>(
     ensures unread { reads (map string_bytes words.now) ≡ None → source.new ≡ source.old }
     ensures unwritten { reads (map string_bytes words.now) ≡ None → sink.new ≡ sink.old }
 
-    // A device failed.
+    // A device failed. Each read and each write that failed ends the run and is answered, want of memory apart, and a
+    // write goes before a read.
     ensures read_fault { result ≡ Status.ReadFault → Rose (S.faults source.old) (S.faults source.new) }
     ensures write_fault { result ≡ Status.WriteFault → Rose (K.faults sink.old) (K.faults sink.new) }
+    ensures reads { ReadsFailed result (S.failed source.old) (S.failed source.new) }
+    ensures writes { WritesFailed result (K.failed sink.old) (K.failed sink.new) }
     ensures counted { (S.faults source.old ≤ S.faults source.new) × (K.faults sink.old ≤ K.faults sink.new) }
 {
-    one_capture();
+    one_input();
     match read_words(alloc, words) {
         Ok(plan) => run_plan(rt, alloc, &plan, source, sink, gate),
         Err(WordsFault::Usage) => Status::Usage,
@@ -100,9 +105,11 @@ fn run_plan<R: Threads + Sync, S: Source, K: Sink, G: Gate + Sync>(
 ) -> Status
     requires { IsInRange plan.now }
     ensures headline { plan.now.mode ≡ Serve →
-        LeavesAll plan.now (S.left source.old) (S.left source.new) (K.put sink.old) (K.put sink.new) result }
+        LeavesAll plan.now (Rose (S.faults source.old) (S.faults source.new)) (S.left source.old)
+        (S.left source.new) (K.put sink.old) (K.put sink.new) result }
     ensures played { plan.now.mode ≡ Play →
-        LeavesPlayed plan.now (S.left source.old) (S.left source.new) (K.put sink.old) (K.put sink.new) result }
+        LeavesPlayed plan.now (Rose (S.faults source.old) (S.faults source.new)) (S.left source.old)
+        (S.left source.new) (K.put sink.old) (K.put sink.new) result }
     ensures made { plan.now.mode ≡ Make →
         LeavesMade plan.now (K.put sink.old) (K.put sink.new) result × (source.new ≡ source.old) }
     ensures tried { plan.now.mode ≡ Trial → plan.now.rows ≡ None →
@@ -110,6 +117,8 @@ fn run_plan<R: Threads + Sync, S: Source, K: Sink, G: Gate + Sync>(
     ensures no_usage { result ≡ Status.Usage → ⊥ }
     ensures read_fault { result ≡ Status.ReadFault → Rose (S.faults source.old) (S.faults source.new) }
     ensures write_fault { result ≡ Status.WriteFault → Rose (K.faults sink.old) (K.faults sink.new) }
+    ensures reads { ReadsFailed result (S.failed source.old) (S.failed source.new) }
+    ensures writes { WritesFailed result (K.failed sink.old) (K.failed sink.new) }
     ensures counted { (S.faults source.old ≤ S.faults source.new) × (K.faults sink.old ≤ K.faults sink.new) }
 {
     match plan.mode {

@@ -1,43 +1,159 @@
 //! Mode `serve`: a capture is read, served and printed batch by batch.
 
-ghost use Rattle.std.specs.Prelude.{◌≡◌, ◌≤◌, ◌<◌, ◌^◌, ◌+◌, ℕ, List, [], ◌∷◌, ◌++◌, All, Option, Ok, Some, false, length, map, IfOk, OnOk};
+ghost use Rattle.std.specs.Prelude.{◌≡◌, ◌≤◌, ◌<◌, ◌^◌, ◌+◌, ℕ, List, [], ◌∷◌, ◌++◌, All, Option, Ok, Some, false, true, length, map, IfOk, OnOk};
 ghost use Rattle.std.specs.Option.{ForSome};
-ghost use Rattle.edge_traits.specs.Edge.{AppendsFront, Rose};
-ghost use Rattle.pcap_reader.specs.Reading.{IsAtStart};
-ghost use Rattle.plain_map.specs.declared.calls.Call.{Call as ACall};
-ghost use Rattle.plain_map.specs.Serving.{IsAskable};
+ghost use Rattle.edge_traits.specs.Edge.{Rose};
 ghost use Rattle.word_rows.specs.Shape.{AreBelow};
-ghost use Rattle.report_text.specs.Report.{IsEnding};
+ghost use Rattle.report_text.specs.Report.{IsEnding, head_line};
 ghost use Rattle.batch_runner.specs.Dealt.{IsDealt};
-ghost use Rattle.batch_runner.specs.Served.{Served};
+ghost use Rattle.capture_loop.specs.Leaves.{ReadsFailed as RunReads, WritesFailed as RunWrites};
+ghost use Rattle.capture_loop.specs.Looping.{OnNotPut};
 ghost use Rattle.command_line.specs.declared.plan.Plan.{Plan as APlan};
 ghost use Rattle.command_line.specs.Words.{IsInRange};
-ghost use Rattle.trace_runner.specs.Ahead.{IsAhead};
-ghost use Rattle.trace_runner.specs.Batches.{AreOfBatches, batch_count};
-ghost use Rattle.trace_runner.specs.Reading.{AreBetween, HaveCome, HaveEnded};
-ghost use Rattle.trace_runner.specs.Served.{IsServiceOf, lines_so_far};
-ghost use Rattle.trace_runner.specs.Headline.{LeavesAll};
-ghost use Rattle.trace_runner.specs.Progress.{HasPut, HasServed, HasTexts, IsGoing, LeavesBy, OnNoMemory, OnNotPut, Stands};
+ghost use Rattle.trace_runner.specs.Headline.{LeavesAll, ReadsFailed, WritesFailed, status_by};
+ghost use Rattle.trace_runner.specs.Served.{IsServiceOf, head_of};
+ghost use Rattle.trace_runner.specs.Serving.{HasDone, HoldsCalls, IsServing, IsWholeReport};
 
-use crate::intake::{Ahead, BATCH, PACKET_LIMIT, Unopened, open, read_rest, take_ahead};
 use crate::laws::serving_laws;
-use crate::printing::{finish, head_of, serve_part};
+use crate::looping::run;
+use crate::pile::CallPile;
+use crate::printing::{head_of, put_sessions, tail_with};
 use crate::progress::Progress;
 use crate::status::Status;
-use crate::stop::Stop;
-use batch_runner::{Dealt, Service, Workspace};
+use batch_runner::{Dealt, Service, Workspace, deal_batch, served_laws};
+use capture_loop::{BATCH, Means, PACKET_LIMIT, Piles, Stop};
 use command_line::Plan;
 use edge_traits::{Gate, Sink, Source};
-use pcap_reader::Reader;
-use plain_map::Call;
-use report_text::{Ending, head_text};
+use plain_map::session_laws;
+use report_text::{Ending, head_text, tail_text};
 use std::alloc::{AllocError, Global};
 use std::mem;
 use std::thread::Threads;
 use step_counts::Settings;
+use trace_share::Share;
 
 /// Room for the lines of a batch: 2,048 of calls, of up to about 200 bytes each, and those of its order.
 const TEXT_ROOM: usize = 450_000;
+
+/// The batches so far, and how they are served.
+#[derive(Drop)]
+pub(crate) struct Serving {
+    pub service: Service,
+    pub workspace: Workspace,
+    pub progress: Progress,
+    /// How many packets were served.
+    pub packets: u32,
+}
+
+impl Serving {
+    /// None yet.
+    pub fn new(alloc: Global, service: Service) -> Serving
+        requires given { ForSome service.rows (AreBelow (2 ^ 32)) }
+        ensures going { IsServing result 0 }
+        ensures done { (plan : APlan) (text : List ℕ) → IsServiceOf plan service → text ≡ head_line (head_of false plan)
+            → HasDone result plan [] text }
+    {
+        Serving {
+            service,
+            workspace: Workspace::new(alloc),
+            progress: Progress::new(alloc),
+            packets: 0,
+        }
+    }
+
+    /// The pile's calls as they were dealt before, or else dealt now. The only error is want of memory.
+    fn dealt_of(&self, pile: &mut CallPile) -> Result<Dealt, AllocError>
+        requires few { length pile.old.calls.items ≤ BATCH }
+        requires dealt { ForSome pile.old.dealt (IsDealt pile.old.service pile.old.calls.items) }
+        ensures dealt { IfOk result (IsDealt self.now.service pile.old.calls.items) }
+        ensures calls { pile.new.calls ≡ pile.old.calls }
+        ensures packets { pile.new.packets ≡ pile.old.packets }
+    {
+        let dealt = mem::replace(&mut pile.dealt, None);
+        if let Some(dealt) = dealt {
+            if deal_alike(&pile.service, &self.service) {
+                return Ok(dealt);
+            }
+        }
+        deal_batch(pile.alloc, &self.service, &pile.calls)
+    }
+
+    /// Serves the packets of one batch more, and appends their lines. Before the caller's thread serves it does this
+    /// once, and answers what this gave. The only error is want of memory.
+    pub fn serve<R: Threads + Sync, G: Gate + Sync, F: FnMut() -> A, A: Drop>(
+        &mut self,
+        means: &Means<R, G>,
+        pile: &mut CallPile,
+        text: &mut Vec<u8>,
+        beside: &mut F,
+    ) -> Result<A, AllocError>
+        requires going { (before : ℕ) × (packets : List (List ℕ)) × IsServing self.old before
+            × HoldsCalls pile.old before packets × (length packets ≤ BATCH)
+            × (before + length packets ≤ PACKET_LIMIT) }
+        requires beside { F.pre beside.old }
+        ensures going { OnOk result ((before : ℕ) (packets : List (List ℕ)) → IsServing self.old before →
+            HoldsCalls pile.old before packets → IsServing self.new (before + length packets)) }
+        ensures served { OnOk result ((plan : APlan) (batches : List (List (List ℕ))) (put : List ℕ) (before : ℕ)
+            (packets : List (List ℕ)) → HasDone self.old plan batches put → IsServing self.old before →
+            HoldsCalls pile.old before packets → (lines : List ℕ) × (text.new.items ≡ text.old.items ++ lines)
+            × HasDone self.new plan (batches ++ packets ∷ []) (put ++ lines)) }
+        ensures beside { IfOk result (λ made. F.step beside.old made beside.new) }
+    {
+        let dealt = self.dealt_of(pile)?;
+        let made = self.progress.serve(
+            means.rt,
+            means.alloc,
+            &self.service,
+            &mut self.workspace,
+            &pile.calls,
+            dealt,
+            means.gate,
+            text,
+            beside,
+        )?;
+        self.packets += pile.packets;
+        Ok(made)
+    }
+
+    /// Appends the last lines. The only error is want of memory.
+    pub fn finish(
+        &self,
+        packets: u32,
+        ending: &Ending,
+        text: &mut Vec<u8>,
+    ) -> Result<(), AllocError>
+        requires going { IsServing self.now packets }
+        requires ending { IsEnding ending.now }
+        ensures { OnOk result ((plan : APlan) (batches : List (List (List ℕ))) (put : List ℕ) →
+            HasDone self.now plan batches put → (rest : List ℕ) × (text.new.items ≡ text.old.items ++ rest)
+            × IsWholeReport plan batches ending.now (put ++ rest)) }
+    {
+        served_laws();
+        session_laws();
+        put_sessions(text, &self.progress.pairs)?;
+        let tail = tail_with(&self.service, &self.progress, packets, ending);
+        tail_text(text, &tail)
+    }
+}
+
+/// Whether both deal the same calls to the same seats.
+fn deal_alike(one: &Service, other: &Service) -> bool
+    ensures { result ≡ true → (one.now.share ≡ other.now.share)
+        × (one.now.settings.seats ≡ other.now.settings.seats) }
+{
+    is_same_share(one.share, other.share) && one.settings.seats == other.settings.seats
+}
+
+/// Whether both are the same.
+fn is_same_share(one: Share, other: Share) -> bool
+    ensures { result ≡ true → one ≡ other }
+{
+    match one {
+        Share::Round => matches!(other, Share::Round),
+        Share::Block => matches!(other, Share::Block),
+        Share::Flow => matches!(other, Share::Flow),
+    }
+}
 
 /// Serves the source's packets as the plan says, and puts the report into the sink.
 pub(crate) fn serve<R: Threads + Sync, S: Source, K: Sink, G: Gate + Sync>(
@@ -49,10 +165,12 @@ pub(crate) fn serve<R: Threads + Sync, S: Source, K: Sink, G: Gate + Sync>(
     gate: &G,
 ) -> Status
     requires { IsInRange plan.now }
-    ensures leaves { LeavesAll plan.now (S.left source.old) (S.left source.new)
-        (K.put sink.old) (K.put sink.new) result }
+    ensures leaves { LeavesAll plan.now (Rose (S.faults source.old) (S.faults source.new)) (S.left source.old)
+        (S.left source.new) (K.put sink.old) (K.put sink.new) result }
     ensures read_fault { result ≡ Status.ReadFault → Rose (S.faults source.old) (S.faults source.new) }
     ensures write_fault { result ≡ Status.WriteFault → Rose (K.faults sink.old) (K.faults sink.new) }
+    ensures reads { ReadsFailed result (S.failed source.old) (S.failed source.new) }
+    ensures writes { WritesFailed result (K.failed sink.old) (K.failed sink.new) }
     ensures no_usage { result ≡ Status.Usage → ⊥ }
     ensures counted { (S.faults source.old ≤ S.faults source.new) × (K.faults sink.old ≤ K.faults sink.new) }
 {
@@ -63,8 +181,7 @@ pub(crate) fn serve<R: Threads + Sync, S: Source, K: Sink, G: Gate + Sync>(
     }
 }
 
-/// The same, up to the ending of the input. The workspace and the text, which all batches use, are made before it is
-/// opened.
+/// The same, up to the ending of the input. The text and the piles, which all batches use, are made before it is opened.
 fn serve_input<R: Threads + Sync, S: Source, K: Sink, G: Gate + Sync>(
     rt: &R,
     alloc: Global,
@@ -74,326 +191,25 @@ fn serve_input<R: Threads + Sync, S: Source, K: Sink, G: Gate + Sync>(
     gate: &G,
 ) -> Result<Ending, Stop>
     requires { IsInRange plan.now }
-    ensures leaves { LeavesBy plan.now (S.left source.old) (S.left source.new)
-        (K.put sink.old) (K.put sink.new) result }
+    ensures leaves { LeavesAll plan.now (Rose (S.faults source.old) (S.faults source.new)) (S.left source.old)
+        (S.left source.new) (K.put sink.old) (K.put sink.new) (status_by result) }
     ensures read_fault { result ≡ Ok Ending.ReadFault → Rose (S.faults source.old) (S.faults source.new) }
     ensures write_fault { OnNotPut result (Rose (K.faults sink.old) (K.faults sink.new)) }
+    ensures reads { RunReads result (S.failed source.old) (S.failed source.new) }
+    ensures writes { RunWrites result (K.failed sink.old) (K.failed sink.new) }
     ensures counted { (S.faults source.old ≤ S.faults source.new) × (K.faults sink.old ≤ K.faults sink.new) }
 {
+    serving_laws();
     let service = service_of(plan);
-    let mut workspace = Workspace::new(alloc);
     let mut text = Vec::with_capacity(alloc, TEXT_ROOM)?;
     head_text(&mut text, &head_of(false, plan))?;
-    match open(alloc, source) {
-        Ok(mut reader) => serve_packets(
-            rt,
-            alloc,
-            &service,
-            &mut workspace,
-            &mut reader,
-            source,
-            &mut text,
-            sink,
-            gate,
-        ),
-        Err(unopened) => match unopened {
-            Unopened::Ends(ending) => serve_none(
-                rt,
-                alloc,
-                &service,
-                &mut workspace,
-                ending,
-                &mut text,
-                sink,
-                gate,
-            ),
-            Unopened::Memory => Err(Stop::Memory),
-        },
-    }
-}
-
-/// Serves an input without packets.
-fn serve_none<R: Threads + Sync, K: Sink, G: Gate + Sync>(
-    rt: &R,
-    alloc: Global,
-    service: &Service,
-    workspace: &mut Workspace,
-    ending: Ending,
-    text: &mut Vec<u8>,
-    sink: &mut K,
-    gate: &G,
-) -> Result<Ending, Stop>
-    requires given { ForSome service.now.rows (AreBelow (2 ^ 32)) }
-    requires ending { IsEnding ending }
-    ensures leaves { (plan : APlan) (first left before : Option (List ℕ)) → IsServiceOf plan service.now →
-        HasPut plan service.now [] before (K.put sink.old) text.old.items → HaveEnded first left 0 [] ending →
-        LeavesBy plan first left before (K.put sink.new) result }
-    ensures same { IfOk result (λ last. last ≡ ending) }
-    ensures write_fault { OnNotPut result (Rose (K.faults sink.old) (K.faults sink.new)) }
-    ensures counted { K.faults sink.old ≤ K.faults sink.new }
-{
-    let mut progress = Progress::new(alloc);
-    let calls = Vec::new(alloc);
-    let part = Last {
-        before: 0,
-        packets: 0,
-        ending,
+    let mut piles = Piles {
+        now: CallPile::new(alloc, service)?,
+        next: CallPile::new(alloc, service)?,
     };
-    serve_last(
-        rt,
-        alloc,
-        service,
-        &mut progress,
-        workspace,
-        part,
-        &calls,
-        None,
-        text,
-        sink,
-        gate,
-    )
-}
-
-/// Serves the packets behind a file head. While the calls of a batch are served, packets of the next are taken which
-/// the reader holds; the source is read only behind the lines of the batch.
-fn serve_packets<R: Threads + Sync, S: Source, K: Sink, G: Gate + Sync>(
-    rt: &R,
-    alloc: Global,
-    service: &Service,
-    workspace: &mut Workspace,
-    reader: &mut Reader,
-    source: &mut S,
-    text: &mut Vec<u8>,
-    sink: &mut K,
-    gate: &G,
-) -> Result<Ending, Stop>
-    requires given { ForSome service.now.rows (AreBelow (2 ^ 32)) }
-    requires start { IsAtStart reader.old }
-    ensures leaves { (plan : APlan) (first before : Option (List ℕ)) → IsServiceOf plan service.now →
-        HasPut plan service.now [] before (K.put sink.old) text.old.items →
-        HaveCome first (S.left source.old) reader.old 0 [] →
-        LeavesBy plan first (S.left source.new) before (K.put sink.new) result }
-    ensures read_fault { result ≡ Ok Ending.ReadFault → Rose (S.faults source.old) (S.faults source.new) }
-    ensures write_fault { OnNotPut result (Rose (K.faults sink.old) (K.faults sink.new)) }
-    ensures counted { (S.faults source.old ≤ S.faults source.new) × (K.faults sink.old ≤ K.faults sink.new) }
-{
-    serving_laws();
-    let mut progress = Progress::new(alloc);
-    let mut calls = Vec::with_capacity(alloc, BATCH as usize)?;
-    let mut next = Vec::with_capacity(alloc, BATCH as usize)?;
-    let mut packets = 0;
-    let mut ahead = Ahead::none();
-    'batches: loop {
-        let part = read_rest(
-            reader,
-            source,
-            packets,
-            ahead.packets,
-            PACKET_LIMIT,
-            &mut calls,
-        )?;
-        match part.ending {
-            Some(ending) => {
-                let last = Last {
-                    before: packets,
-                    packets: part.packets,
-                    ending,
-                };
-                return serve_last(
-                    rt,
-                    alloc,
-                    service,
-                    &mut progress,
-                    workspace,
-                    last,
-                    &calls,
-                    ahead.dealt,
-                    text,
-                    sink,
-                    gate,
-                );
-            }
-            None => {
-                packets += part.packets;
-                next.clear();
-                match serve_ahead(
-                    rt,
-                    alloc,
-                    service,
-                    &mut progress,
-                    workspace,
-                    &calls,
-                    ahead.dealt,
-                    gate,
-                    text,
-                    sink,
-                    reader,
-                    packets,
-                    &mut next,
-                ) {
-                    Ok(taken) => ahead = taken?,
-                    Err(stop) => return Err(stop),
-                }
-                mem::swap(&mut calls, &mut next);
-            }
-        }
-    }
-}
-
-/// Serves the calls of one batch more, and puts its lines. Meanwhile it takes what the reader holds of the next batch,
-/// behind so many packets, into a list that is empty; this may want memory for itself.
-fn serve_ahead<R: Threads + Sync, K: Sink, G: Gate + Sync>(
-    rt: &R,
-    alloc: Global,
-    service: &Service,
-    progress: &mut Progress,
-    workspace: &mut Workspace,
-    calls: &[(u32, Call)],
-    dealt: Option<Dealt>,
-    gate: &G,
-    text: &mut Vec<u8>,
-    sink: &mut K,
-    reader: &mut Reader,
-    before: u32,
-    next: &mut Vec<(u32, Call)>,
-) -> Result<Result<Ahead, AllocError>, Stop>
-    requires given { ForSome service.now.rows (AreBelow (2 ^ 32)) }
-    requires few { length calls.now ≤ BATCH }
-    requires askable { All (λ call. IsAskable call.1) calls.now }
-    requires texts { HasTexts calls.now }
-    requires going { IsGoing service.now progress.old }
-    requires all { progress.old.totals.calls ≤ PACKET_LIMIT }
-    requires dealt { ForSome dealt (IsDealt service.now calls.now) }
-    requires reads { reader.old.ended ≡ false }
-    requires stands { reader.old.given ≡ before }
-    requires room { before < PACKET_LIMIT }
-    requires none { next.old.items ≡ [] }
-    ensures served { OnOk result ((plan : APlan) (batches : List Served) (before : Option (List ℕ)) →
-        IsServiceOf plan service.now → HasServed service.now progress.old batches →
-        HasPut plan service.now batches before (K.put sink.old) text.old.items →
-        (served : Served) × (served.calls ≡ calls.now)
-        × HasServed service.now progress.new (batches ++ served ∷ [])
-        × HasPut plan service.now (batches ++ served ∷ []) before (K.put sink.new) text.new.items) }
-    ensures going { OnOk result (IsGoing service.now progress.new) }
-    ensures front { OnNotPut result ((plan : APlan) (batches : List Served) (before : Option (List ℕ)) →
-        IsServiceOf plan service.now → HasServed service.now progress.old batches →
-        HasPut plan service.now batches before (K.put sink.old) text.old.items →
-        (served : Served) × (served.calls ≡ calls.now)
-        × HasServed service.now progress.new (batches ++ served ∷ [])
-        × AppendsFront before (K.put sink.new) (lines_so_far plan service.now (batches ++ served ∷ []))) }
-    ensures memory { OnNoMemory result (sink.new ≡ sink.old) }
-    ensures failed { OnNotPut result (Rose (K.faults sink.old) (K.faults sink.new)) }
-    ensures counted { K.faults sink.old ≤ K.faults sink.new }
-    ensures calls { OnOk result (progress.new.totals.calls ≡ progress.old.totals.calls + length calls.now) }
-    ensures ahead { IfOk result (λ taken. IfOk taken (IsAhead service.now reader.old reader.new before
-        next.new.items)) }
-{
-    serve_part(
-        rt,
-        alloc,
-        service,
-        progress,
-        workspace,
-        calls,
-        dealt,
-        gate,
-        text,
-        sink,
-        &mut || -> Result<Ahead, AllocError>
-            requires { (reader.now.ended ≡ false) × (reader.now.given ≡ before) × (before < PACKET_LIMIT)
-                × (next.now.items ≡ []) }
-            ensures { IfOk result (IsAhead service.entry.now reader.entry.now reader.exit.now before
-                next.exit.now.items) }
-        { take_ahead(alloc, service, reader, before, next) },
-    )
-}
-
-/// The last packets that were read, behind so many, and how the input ended.
-#[derive(Clone, Copy)]
-struct Last {
-    before: u32,
-    packets: u32,
-    ending: Ending,
-}
-
-/// Serves the last batch, where one is begun, and puts what is left of the report.
-fn serve_last<R: Threads + Sync, K: Sink, G: Gate + Sync>(
-    rt: &R,
-    alloc: Global,
-    service: &Service,
-    progress: &mut Progress,
-    workspace: &mut Workspace,
-    last: Last,
-    calls: &[(u32, Call)],
-    dealt: Option<Dealt>,
-    text: &mut Vec<u8>,
-    sink: &mut K,
-    gate: &G,
-) -> Result<Ending, Stop>
-    requires given { ForSome service.now.rows (AreBelow (2 ^ 32)) }
-    requires going { IsGoing service.now progress.old }
-    requires all { progress.old.totals.calls ≤ last.before }
-    requires few { (last.packets ≤ BATCH) × (last.before + last.packets ≤ PACKET_LIMIT) }
-    requires between { AreBetween last.before (last.before + last.packets) calls.now }
-    requires dealt { ForSome dealt (IsDealt service.now calls.now) }
-    requires ending { IsEnding last.ending }
-    ensures leaves { (plan : APlan) (first left before : Option (List ℕ)) (all : List (ℕ × ACall)) →
-        Stands plan service.now progress.old first last.before all before (K.put sink.old) text.old.items →
-        HaveEnded first left (last.before + last.packets) (all ++ calls.now) last.ending →
-        LeavesBy plan first left before (K.put sink.new) result }
-    ensures same { IfOk result (λ ending. ending ≡ last.ending) }
-    ensures write_fault { OnNotPut result (Rose (K.faults sink.old) (K.faults sink.new)) }
-    ensures counted { K.faults sink.old ≤ K.faults sink.new }
-{
-    serving_laws();
-    let packets = last.before + last.packets;
-    if last.packets == 0 && last.before > 0 {
-        return end_run(service, progress, packets, last.ending, text, sink);
-    }
-    match serve_part(
-        rt,
-        alloc,
-        service,
-        progress,
-        workspace,
-        calls,
-        dealt,
-        gate,
-        text,
-        sink,
-        &mut || {},
-    ) {
-        Ok(()) => end_run(service, progress, packets, last.ending, text, sink),
-        Err(stop) => Err(stop),
-    }
-}
-
-/// Puts what is left of the report, where all batches were served.
-fn end_run<K: Sink>(
-    service: &Service,
-    progress: &Progress,
-    packets: u32,
-    ending: Ending,
-    text: &mut Vec<u8>,
-    sink: &mut K,
-) -> Result<Ending, Stop>
-    requires going { IsGoing service.now progress.now }
-    requires calls { progress.now.totals.calls ≤ packets }
-    requires ending { IsEnding ending }
-    ensures leaves { (plan : APlan) (first left before : Option (List ℕ)) (all : List (ℕ × ACall))
-        (batches : List Served) → IsServiceOf plan service.now → HasServed service.now progress.now batches →
-        AreOfBatches all (map (λ (batch : Served). batch.calls) batches) → length batches ≡ batch_count packets →
-        HasPut plan service.now batches before (K.put sink.old) text.old.items →
-        HaveEnded first left packets all ending → LeavesBy plan first left before (K.put sink.new) result }
-    ensures same { IfOk result (λ last. last ≡ ending) }
-    ensures write_fault { OnNotPut result (Rose (K.faults sink.old) (K.faults sink.new)) }
-    ensures counted { K.faults sink.old ≤ K.faults sink.new }
-{
-    serving_laws();
-    match finish(service, progress, packets, &ending, text, sink) {
-        Ok(()) => Ok(ending),
-        Err(stop) => Err(stop),
-    }
+    let mut serving = Serving::new(alloc, service);
+    let means = Means { rt, alloc, gate };
+    run(&means, &mut serving, &mut piles, source, &mut text, sink)
 }
 
 /// How the plan's calls are served.

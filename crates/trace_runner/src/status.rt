@@ -7,7 +7,7 @@ use report_text::Ending;
 pub enum Status {
     /// The input was read to its end, and all that the mode writes was put.
     Done,
-    /// Memory ran out. What was put is a front of what the mode writes.
+    /// Memory ran out. What was put is nothing, or the lines of whole batches.
     Memory,
     /// The words are not those of the command. Nothing was read or put.
     Usage,
@@ -22,8 +22,8 @@ pub enum Status {
 }
 
 impl Status {
-    ghost use Rattle.std.specs.Prelude.{◌≡◌};
-    ghost use Rattle.trace_runner.specs.Headline.{code_of, status_of};
+    ghost use Rattle.std.specs.Prelude.{◌≡◌, option_map};
+    ghost use Rattle.trace_runner.specs.Headline.{code_of, complaint_of, status_of};
 
     /// The program's exit status.
     pub fn code(self) -> u8
@@ -41,7 +41,9 @@ impl Status {
     }
 
     /// What the program says of it on standard error, where it says anything.
-    pub fn complaint(self) -> Option<&'static str> {
+    pub fn complaint(self) -> Option<&'static str>
+        ensures { option_map (λ text. text.now) result ≡ complaint_of self }
+    {
         match self {
             Status::Memory => Some("flowdir: out of memory"),
             Status::Usage => Some("flowdir: usage: flowdir serve|play|make|trial [options]"),

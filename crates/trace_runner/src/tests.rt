@@ -1,18 +1,13 @@
 //! Whole runs over memory, whose captures and reports were worked by hand.
 
 mod captures;
-mod certified;
-mod checker;
 mod cuts;
 mod devices;
-mod endings;
 mod gates;
 mod limits;
 mod made;
 mod plays;
 mod served;
-mod splits;
-mod stops;
 
 use crate::{Status, run};
 use captures::{Part, file_of};

@@ -4,7 +4,7 @@ ghost use Rattle.std.specs.Prelude.{◌≡◌, ◌≤◌, ◌<◌, ◌^◌, ◌+
 ghost use Rattle.std.specs.Option.{ForSome};
 ghost use Rattle.std.specs.Thread.{IsSync};
 ghost use Rattle.edge_traits.specs.Edge.{Rose};
-ghost use Rattle.pcap_reader.specs.Reading.{IsAtStart};
+ghost use Rattle.pcapng_reader.specs.Reading.{IsAtStart};
 ghost use Rattle.plain_map.specs.declared.calls.Call.{Call as ACall};
 ghost use Rattle.plain_map.specs.Serving.{IsAskable};
 ghost use Rattle.word_rows.specs.Shape.{AreBelow};
@@ -13,20 +13,22 @@ ghost use Rattle.batch_runner.specs.Served.{Served, shares_of};
 ghost use Rattle.command_line.specs.Words.{IsInRange};
 ghost use Rattle.trace_runner.specs.Batches.{AreOfBatches, batch_count, batch_length};
 ghost use Rattle.trace_runner.specs.Reading.{AreBetween, HaveCome, IsBatchRead};
-ghost use Rattle.trace_runner.specs.Headline.{IsTrial, LeavesTried, seed_of, trial_of};
+ghost use Rattle.trace_runner.specs.Headline.{IsTrial, LeavesTried, seed_of, trial_of, WritesFailed};
 ghost use Rattle.trace_runner.specs.Progress.{HasServed, HasTexts, HasTried, IsGoing, IsOneMore};
 
-use crate::intake::{BATCH, PACKET_LIMIT, Part, open, read_batch};
+use crate::intake::{BATCH, PACKET_LIMIT, Part, read_batch};
 use crate::laws::serving_laws;
 use crate::progress::Progress;
 use crate::serving::service_of;
 use crate::status::Status;
 use batch_rows::Demand;
 use batch_runner::{Dealt, Service, Workspace, deal_batch};
+use capture_loop::open;
 use command_line::Plan;
 use edge_traits::{Failed, Gate, Sink, Source, write_all};
 use hash_bits::Hashing;
-use pcap_reader::{MadeSource, Reader, made_capture_law, one_capture};
+use pcap_reader::{MadeSource, made_capture_law};
+use pcapng_reader::{AnyReader, one_input};
 use plain_map::Call;
 use report_text::{Ending, Trial, trial_text};
 use std::alloc::{AllocError, Global};
@@ -46,6 +48,7 @@ pub(crate) fn try_plan<R: Threads + Sync, K: Sink, G: Gate + Sync>(
     ensures no_usage { result ≡ Status.Usage → ⊥ }
     ensures no_read { result ≡ Status.ReadFault → ⊥ }
     ensures write_fault { result ≡ Status.WriteFault → Rose (K.faults sink.old) (K.faults sink.new) }
+    ensures writes { WritesFailed result (K.failed sink.old) (K.failed sink.new) }
     ensures counted { K.faults sink.old ≤ K.faults sink.new }
 {
     match text_of(rt, alloc, plan, gate) {
@@ -67,7 +70,7 @@ fn text_of<R: Threads + Sync, G: Gate + Sync>(
     requires { IsInRange plan.now }
     ensures { IfOk result (λ text. plan.now.rows ≡ None → IsTrial plan.now text.items) }
 {
-    one_capture();
+    one_input();
     made_capture_law();
     serving_laws();
     let service = service_of(plan);
@@ -115,7 +118,7 @@ fn try_packets<R: Threads + Sync, S: Source + Send, G: Gate + Sync>(
     alloc: Global,
     service: &Service,
     workspace: &mut Workspace,
-    reader: &mut Reader,
+    reader: &mut AnyReader,
     source: &mut S,
     gate: &G,
 ) -> Result<Tried, AllocError>
@@ -181,7 +184,7 @@ fn try_packets<R: Threads + Sync, S: Source + Send, G: Gate + Sync>(
 fn read_and_deal<S: Source>(
     alloc: Global,
     service: &Service,
-    reader: &mut Reader,
+    reader: &mut AnyReader,
     source: &mut S,
     before: u32,
     next: &mut Vec<(u32, Call)>,
@@ -220,7 +223,7 @@ fn try_and_read<R: Threads + Sync, S: Source + Send, G: Gate + Sync>(
     shares: Vec<Vec<(u32, Call)>>,
     demand: &Demand,
     gate: &G,
-    reader: &mut Reader,
+    reader: &mut AnyReader,
     source: &mut S,
     before: u32,
     next: &mut Vec<(u32, Call)>,

@@ -54,6 +54,9 @@ const BROWSER: Endpoint = ([192, 168, 1, 10], 50412);
 
 const WEB: Endpoint = ([93, 184, 216, 34], 443);
 
+/// The bytes by which the page is asked for.
+const PAGE_WANTED: [u8; 100] = [b'x'; 100];
+
 /// A name is looked up, and a page is fetched.
 pub(super) const DNS_AND_WEB: [Part; 10] = [
     Part::Bytes(&HEAD),
@@ -62,7 +65,7 @@ pub(super) const DNS_AND_WEB: [Part; 10] = [
     Part::Tcp(BROWSER, WEB, SYN, &[]),
     Part::Tcp(WEB, BROWSER, SYN_ACK, &[]),
     Part::Tcp(BROWSER, WEB, ACK, &[]),
-    Part::Tcp(BROWSER, WEB, ACK, b"data"),
+    Part::Tcp(BROWSER, WEB, ACK, &PAGE_WANTED),
     Part::Tcp(BROWSER, WEB, FIN_ACK, &[]),
     Part::Tcp(WEB, BROWSER, FIN_ACK, &[]),
     Part::Tcp(BROWSER, WEB, ACK, &[]),
@@ -134,7 +137,7 @@ fn put_tcp(
     flags: u8,
     data: &[u8],
 ) -> Result<(), AllocError> {
-    let payload = 20 + (data.len() & 0x3f) as u8;
+    let payload = 20 + (data.len() & 0x7f) as u8;
     put_heads(file, payload, 6, source.0, target.0)?;
     put_ports(file, source.1, target.1)?;
     file.extend_from_slice(&[0; 8])?;

@@ -14,13 +14,18 @@ use std::thread::Threads;
 const ONE_SEAT: &str = "serve --seats 1";
 
 /// Where the records of the name and the page end.
-const ENDS: [u64; 9] = [82, 140, 210, 280, 350, 424, 494, 564, 634];
+const ENDS: [u64; 9] = [82, 140, 210, 280, 350, 520, 590, 660, 730];
 
-const NAME_SESSION: &str = "session 192.168.1.1:53-192.168.1.10:53211/udp 1\n";
+const NAME_SESSION: &str = "session 192.168.1.1:53-192.168.1.10:53211/udp 1 bytes 0\n";
 
 const BOTH_SESSIONS: &str = "\
-    session 93.184.216.34:443-192.168.1.10:50412/tcp 3\n\
-    session 192.168.1.1:53-192.168.1.10:53211/udp 1\n";
+    session 93.184.216.34:443-192.168.1.10:50412/tcp 3 bytes 0\n\
+    session 192.168.1.1:53-192.168.1.10:53211/udp 1 bytes 0\n";
+
+/// Behind the packet with 100 bytes.
+const COUNTED_SESSIONS: &str = "\
+    session 93.184.216.34:443-192.168.1.10:50412/tcp 3 bytes 100\n\
+    session 192.168.1.1:53-192.168.1.10:53211/udp 1 bytes 0\n";
 
 /// The report of the first packets of the name and the page, so many, behind which reading failed. The page's session
 /// is there from the third packet to the sixth, and the fourth is the first that looks up.
@@ -35,11 +40,12 @@ fn failed_behind(alloc: Global, packets: u32) -> Result<String, AllocError> {
         text.push_str(&format!(in alloc; "{word}{packet}")?)?;
     }
     let (sessions, steps) = match packets {
-        0 => ("", "update 0 bound 10165 lookup 0"),
-        1 | 2 => (NAME_SESSION, "update 81 bound 10165 lookup 0"),
-        3 => (BOTH_SESSIONS, "update 81 bound 10165 lookup 0"),
-        4..=6 => (BOTH_SESSIONS, "update 81 bound 10165 lookup 13"),
-        _ => (NAME_SESSION, "update 81 bound 10165 lookup 13"),
+        0 => ("", "update 0 bound 12080 lookup 0"),
+        1 | 2 => (NAME_SESSION, "update 151 bound 12080 lookup 0"),
+        3 => (BOTH_SESSIONS, "update 151 bound 12080 lookup 0"),
+        4 | 5 => (BOTH_SESSIONS, "update 151 bound 12080 lookup 21"),
+        6 => (COUNTED_SESSIONS, "update 151 bound 12080 lookup 21"),
+        _ => (NAME_SESSION, "update 151 bound 12080 lookup 21"),
     };
     let end = if packets == 0 { "" } else { "\n" };
     let counts = format!(in alloc;
@@ -51,15 +57,15 @@ fn failed_behind(alloc: Global, packets: u32) -> Result<String, AllocError> {
     Ok(text)
 }
 
-/// 634 bytes by reads of 7: read number j begins at byte 7 * (j - 1), 91 of them give bytes, and the next one meets the
-/// end. Whichever fails, the packets that are whole before it are served; a 93rd is never asked for. No clause compares
+/// 730 bytes by reads of 7: read number j begins at byte 7 * (j - 1), 105 of them give bytes, and the next one meets the
+/// end. Whichever fails, the packets that are whole before it are served; a 107th is never asked for. No clause compares
 /// a read's number with what is served.
 #[test]
 fn each_read_fails_in_turn(rt: HostRuntime) -> Result<(), Fail> {
     let alloc = rt.alloc();
     let file = file_of(alloc, &DNS_AND_WEB)?;
-    assert_eq!(rt; file.len(), 634);
-    for number in 1..=93_u64 {
+    assert_eq!(rt; file.len(), 730);
+    for number in 1..=107_u64 {
         let mut packets: u32 = 0;
         for end in ENDS {
             if end <= 7 * (number - 1) && packets < 9 {
@@ -69,7 +75,7 @@ fn each_read_fails_in_turn(rt: HostRuntime) -> Result<(), Fail> {
         let mut source = MemorySource::new(alloc, &file, 7, &[number])?;
         let mut sink = MemorySink::new(alloc, 2000, &[])?;
         let status = run_line(&rt, alloc, ONE_SEAT, &mut source, &mut sink)?;
-        if number == 93 {
+        if number == 107 {
             assert_eq!(rt; status, Status::Done);
             assert_eq!(rt; sink.bytes(), NAME_AND_PAGE.as_bytes());
         } else {
@@ -88,7 +94,7 @@ fn each_write_fails_in_turn(rt: HostRuntime) -> Result<(), Fail> {
     let alloc = rt.alloc();
     let file = file_of(alloc, &DNS_AND_WEB)?;
     let text = NAME_AND_PAGE.as_bytes();
-    for number in 1..=1_049_u64 {
+    for number in 1..=1_070_u64 {
         let mut source = MemorySource::new(alloc, &file, 1000, &[])?;
         let mut sink = MemorySink::new(alloc, 2000, &[number])?;
         let status = run_line(&rt, alloc, ONE_SEAT, &mut source, &mut sink)?;
@@ -104,7 +110,7 @@ fn each_write_fails_in_turn(rt: HostRuntime) -> Result<(), Fail> {
     Err(Fail::from("more writes than bytes"))
 }
 
-/// A sink with room for fewer bytes than the report's 1,048 takes the front that it has room for, and one with room for
+/// A sink with room for fewer bytes than the report's 1,069 takes the front that it has room for, and one with room for
 /// all of it takes all. That the run says so with a status, and that no byte is lost on the way to a full sink, is no
 /// clause's to say of these bytes.
 #[test]
@@ -112,7 +118,7 @@ fn full_sink_holds_a_front(rt: HostRuntime) -> Result<(), Fail> {
     let alloc = rt.alloc();
     let file = file_of(alloc, &DNS_AND_WEB)?;
     let text = NAME_AND_PAGE.as_bytes();
-    assert_eq!(rt; text.len(), 1_048);
+    assert_eq!(rt; text.len(), 1_069);
     for room in 0..=text.len() {
         let mut source = MemorySource::new(alloc, &file, 1000, &[])?;
         let mut sink = MemorySink::new(alloc, room, &[])?;
@@ -136,20 +142,20 @@ const TWO_LEAVES_HEAD: &str =
 /// The report of no packet, whose input ended so.
 fn no_packet(alloc: Global, ending: &str) -> Result<String, AllocError> {
     let tail =
-        "count packets 0 calls 0 passed 0 full 0 pending 0 unbegun 0\nsteps update 0 bound 423 lookup 0\n";
+        "count packets 0 calls 0 passed 0 full 0 pending 0 unbegun 0\nsteps update 0 bound 634 lookup 0\n";
     format!(in alloc; "{TWO_LEAVES_HEAD}\nleaves 2 depth 1\ninput {ending}\n{tail}")
 }
 
 /// The report of one SYN.
 const ONE_SYN: &str = "\
     flowdir serve seats 1 items 2 depth 1 start 1 hash ports seed 0 share round\n\
-    call 1 seat 0 insert 10.0.0.1:1-10.0.0.2:80/tcp new 1 steps 45 after 0\n\
+    call 1 seat 0 insert 10.0.0.1:1-10.0.0.2:80/tcp new 1 steps 67 after 0\n\
     order 1\n\
-    session 10.0.0.1:1-10.0.0.2:80/tcp 1\n\
+    session 10.0.0.1:1-10.0.0.2:80/tcp 1 bytes 0\n\
     leaves 2 depth 1\n\
     input done rest 0\n\
     count packets 1 calls 1 passed 0 full 0 pending 0 unbegun 0\n\
-    steps update 45 bound 423 lookup 0\n";
+    steps update 67 bound 634 lookup 0\n";
 
 /// Serves the front of a capture of one SYN. The head has 24 bytes, and the record ends at 94.
 fn expect_front<R: Threads + Abort + Sync>(

@@ -11,22 +11,22 @@ const WORDS: &str = "serve --seats 1 --items 2 --depth 1 --start 1 --hash ports"
 /// The report of two SYNs of one flow.
 const TWO_SYNS: &str = "\
     flowdir serve seats 1 items 2 depth 1 start 1 hash ports seed 0 share round\n\
-    call 1 seat 0 insert 10.0.0.1:1-10.0.0.2:80/tcp new 1 steps 45 after 0\n\
-    call 2 seat 0 insert 10.0.0.1:1-10.0.0.2:80/tcp old 1 steps 45 after 1\n\
+    call 1 seat 0 insert 10.0.0.1:1-10.0.0.2:80/tcp new 1 steps 67 after 0\n\
+    call 2 seat 0 insert 10.0.0.1:1-10.0.0.2:80/tcp old 1 steps 67 after 1\n\
     order 1 2\n\
-    session 10.0.0.1:1-10.0.0.2:80/tcp 1\n\
+    session 10.0.0.1:1-10.0.0.2:80/tcp 1 bytes 0\n\
     leaves 2 depth 1\n\
     input done rest 0\n\
     count packets 2 calls 2 passed 0 full 0 pending 0 unbegun 0\n\
-    steps update 45 bound 423 lookup 0\n";
+    steps update 67 bound 634 lookup 0\n";
 
 const TWO_SYNS_PARTS: [Part; 3] = [Part::Bytes(&HEAD), Part::Syn(1), Part::Syn(1)];
 
 /// The lines of the head and of the one batch, which are put before the rest.
 const BATCH_FRONT: &str = "\
     flowdir serve seats 1 items 2 depth 1 start 1 hash ports seed 0 share round\n\
-    call 1 seat 0 insert 10.0.0.1:1-10.0.0.2:80/tcp new 1 steps 45 after 0\n\
-    call 2 seat 0 insert 10.0.0.1:1-10.0.0.2:80/tcp old 1 steps 45 after 1\n\
+    call 1 seat 0 insert 10.0.0.1:1-10.0.0.2:80/tcp new 1 steps 67 after 0\n\
+    call 2 seat 0 insert 10.0.0.1:1-10.0.0.2:80/tcp old 1 steps 67 after 1\n\
     order 1 2\n";
 
 /// A write that fails ends the run, and one that would come after the report's end is never asked.

@@ -52,7 +52,8 @@ fn gate_sees_each_call_and_its_answer(rt: HostRuntime) -> Result<(), Fail> {
     assert_eq!(rt; status, Status::Done);
     assert_eq!(rt; witness.seats.load(Ordering::SeqCst), 0);
     let digits = witness.digits.load(Ordering::SeqCst);
-    assert_eq!(rt; digits, 10_21_30_43_53_63_73_80_90);
+    // the sixth is a tally, whose sum of 100 is added where another call adds its digit
+    assert_eq!(rt; digits, 10_21_30_43_53_60_73_80_90 + 100 * 1_000_000);
     Ok(())
 }
 
@@ -249,37 +250,37 @@ impl Gate for Follower {
 
 /// What is printed where the seats go in this order of their packets: 2 1 4 3 6 5. No call runs beside another, so that
 /// the steps are those of the program of a seat, worked by hand: an update takes 51 where the other seat has announced
-/// nothing and 56 where it has, and a lookup 8, and 3 more where the session is there.
+/// nothing and 81 where it has, and a lookup 8, and 7 more where the session is there.
 const ONE_WAY: &str = "\
     flowdir serve seats 2 items 2 depth 1 start 1 hash ports seed 0 share round\n\
-    call 1 seat 0 lookup 10.0.0.1:1-10.0.0.2:80/tcp found 2 steps 11 after 0,1\n\
-    call 2 seat 1 insert 10.0.0.1:1-10.0.0.2:80/tcp new 2 steps 51 after 0,0\n\
-    call 3 seat 0 remove 10.0.0.1:1-10.0.0.2:80/tcp gone 2 steps 56 after 1,2\n\
-    call 4 seat 1 lookup 10.0.0.1:1-10.0.0.2:80/tcp found 2 steps 11 after 1,1\n\
-    call 5 seat 0 insert 10.0.0.1:1-10.0.0.2:80/tcp new 5 steps 56 after 2,3\n\
+    call 1 seat 0 lookup 10.0.0.1:1-10.0.0.2:80/tcp found 2 steps 15 after 0,1\n\
+    call 2 seat 1 insert 10.0.0.1:1-10.0.0.2:80/tcp new 2 steps 73 after 0,0\n\
+    call 3 seat 0 remove 10.0.0.1:1-10.0.0.2:80/tcp gone 2 steps 81 after 1,2\n\
+    call 4 seat 1 lookup 10.0.0.1:1-10.0.0.2:80/tcp found 2 steps 15 after 1,1\n\
+    call 5 seat 0 insert 10.0.0.1:1-10.0.0.2:80/tcp new 5 steps 81 after 2,3\n\
     call 6 seat 1 lookup 10.0.0.1:1-10.0.0.2:80/tcp absent steps 8 after 2,2\n\
     order 2 1 4 3 6 5\n\
-    session 10.0.0.1:1-10.0.0.2:80/tcp 5\n\
+    session 10.0.0.1:1-10.0.0.2:80/tcp 5 bytes 0\n\
     leaves 2 depth 1\n\
     input done rest 0\n\
     count packets 6 calls 6 passed 0 full 0 pending 0 unbegun 0\n\
-    steps update 56 bound 710 lookup 11\n";
+    steps update 81 bound 1041 lookup 15\n";
 
 /// And in this: 1 2 3 4 5 6.
 const OTHER_WAY: &str = "\
     flowdir serve seats 2 items 2 depth 1 start 1 hash ports seed 0 share round\n\
     call 1 seat 0 lookup 10.0.0.1:1-10.0.0.2:80/tcp absent steps 8 after 0,0\n\
-    call 2 seat 1 insert 10.0.0.1:1-10.0.0.2:80/tcp new 2 steps 51 after 1,0\n\
-    call 3 seat 0 remove 10.0.0.1:1-10.0.0.2:80/tcp gone 2 steps 56 after 1,1\n\
+    call 2 seat 1 insert 10.0.0.1:1-10.0.0.2:80/tcp new 2 steps 73 after 1,0\n\
+    call 3 seat 0 remove 10.0.0.1:1-10.0.0.2:80/tcp gone 2 steps 81 after 1,1\n\
     call 4 seat 1 lookup 10.0.0.1:1-10.0.0.2:80/tcp absent steps 8 after 2,1\n\
-    call 5 seat 0 insert 10.0.0.1:1-10.0.0.2:80/tcp new 5 steps 56 after 2,2\n\
-    call 6 seat 1 lookup 10.0.0.1:1-10.0.0.2:80/tcp found 5 steps 11 after 3,2\n\
+    call 5 seat 0 insert 10.0.0.1:1-10.0.0.2:80/tcp new 5 steps 81 after 2,2\n\
+    call 6 seat 1 lookup 10.0.0.1:1-10.0.0.2:80/tcp found 5 steps 15 after 3,2\n\
     order 1 2 3 4 5 6\n\
-    session 10.0.0.1:1-10.0.0.2:80/tcp 5\n\
+    session 10.0.0.1:1-10.0.0.2:80/tcp 5 bytes 0\n\
     leaves 2 depth 1\n\
     input done rest 0\n\
     count packets 6 calls 6 passed 0 full 0 pending 0 unbegun 0\n\
-    steps update 56 bound 710 lookup 11\n";
+    steps update 81 bound 1041 lookup 15\n";
 
 /// Runs two callers whose six calls the gate holds to an order. No call waits in vain, and the answers are these. What
 /// was put is in the sink.
@@ -343,8 +344,8 @@ const SIX_TRIED: &str = "\
 #[test]
 fn callers_of_a_trial_follow_gate(rt: HostRuntime) -> Result<(), Fail> {
     let rows = [
-        ([(0, 1), (1, 1), (1, 2), (0, 2), (0, 3), (1, 3)], 2_010),
-        ([(1, 1), (1, 2), (1, 3), (0, 1), (0, 2), (0, 3)], 20_001),
+        ([(0, 1), (1, 1), (1, 2), (0, 2), (0, 3), (0, 4)], 2_010),
+        ([(1, 1), (1, 2), (0, 1), (0, 2), (0, 3), (0, 4)], 20_010),
     ];
     for (order, digits) in rows {
         let line = "trial --number 10842 --packets 6 --seats 2";

@@ -1,6 +1,4 @@
-//! Captures of more packets than one batch has, and of more than are served.
-
-ghost use Rattle.std.specs.Prelude.{None};
+//! Captures of more packets than one batch has.
 
 use super::captures::{HEAD, Part, file_of};
 use super::run_line;
@@ -12,17 +10,17 @@ use std::test::Fail;
 /// The report of one flow, whose two SYNs are the first packet of two batches, up to how the input ended.
 const TWO_BATCHES: &str = "\
     flowdir serve seats 1 items 2 depth 1 start 1 hash ports seed 0 share round\n\
-    call 1 seat 0 insert 10.0.0.1:1-10.0.0.2:80/tcp new 1 steps 45 after 0\n\
+    call 1 seat 0 insert 10.0.0.1:1-10.0.0.2:80/tcp new 1 steps 67 after 0\n\
     order 1\n\
-    call 2049 seat 0 insert 10.0.0.1:1-10.0.0.2:80/tcp old 1 steps 45 after 1\n\
+    call 2049 seat 0 insert 10.0.0.1:1-10.0.0.2:80/tcp old 1 steps 67 after 1\n\
     order 2049\n\
-    session 10.0.0.1:1-10.0.0.2:80/tcp 1\n\
+    session 10.0.0.1:1-10.0.0.2:80/tcp 1 bytes 0\n\
     leaves 2 depth 1\n";
 
 /// Its last lines.
 const TWO_BATCHES_END: &str = "\
     count packets 2049 calls 2 passed 2047 full 0 pending 0 unbegun 0\n\
-    steps update 45 bound 423 lookup 0\n";
+    steps update 67 bound 634 lookup 0\n";
 
 /// A SYN, 2,047 records of no byte, and the SYN again.
 fn two_batches(alloc: Global) -> Result<Vec<u8>, AllocError> {
@@ -71,17 +69,17 @@ fn second_batch_has_what_the_first_left(rt: HostRuntime) -> Result<(), Fail> {
 /// there.
 const THREE_BATCHES: &str = "\
     flowdir serve seats 1 items 2 depth 1 start 1 hash ports seed 0 share round\n\
-    call 1 seat 0 insert 10.0.0.1:1-10.0.0.2:80/tcp new 1 steps 45 after 0\n\
+    call 1 seat 0 insert 10.0.0.1:1-10.0.0.2:80/tcp new 1 steps 67 after 0\n\
     order 1\n\
-    call 2049 seat 0 insert 10.0.0.1:1-10.0.0.2:80/tcp old 1 steps 45 after 1\n\
+    call 2049 seat 0 insert 10.0.0.1:1-10.0.0.2:80/tcp old 1 steps 67 after 1\n\
     order 2049\n\
-    call 4097 seat 0 insert 10.0.0.1:1-10.0.0.2:80/tcp old 1 steps 45 after 2\n\
+    call 4097 seat 0 insert 10.0.0.1:1-10.0.0.2:80/tcp old 1 steps 67 after 2\n\
     order 4097\n\
-    session 10.0.0.1:1-10.0.0.2:80/tcp 1\n\
+    session 10.0.0.1:1-10.0.0.2:80/tcp 1 bytes 0\n\
     leaves 2 depth 1\n\
     input done rest 0\n\
     count packets 4098 calls 3 passed 4095 full 0 pending 0 unbegun 0\n\
-    steps update 45 bound 423 lookup 0\n";
+    steps update 67 bound 634 lookup 0\n";
 
 /// While a batch is served, packets of the next are taken which were read with it: a whole batch and more, a part of
 /// one, or none. The report is the same.
@@ -122,54 +120,5 @@ fn lines_are_put_before_the_next_batch_is_read(rt: HostRuntime) -> Result<(), Fa
     assert_eq!(rt; status, Status::WriteFault);
     assert_eq!(rt; sink.bytes().len(), 0);
     assert_eq!(rt; source.read(&mut [0]), Err(Failed));
-    Ok(())
-}
-
-/// A file head, and then records of no byte, of which none is kept.
-#[derive(Drop)]
-struct EmptyRecords {
-    has_begun: bool,
-    /// How many bytes of them are left.
-    left: usize,
-}
-
-impl Source for EmptyRecords {
-    ghost left = { λ _. None };
-
-    ghost faults = { λ _. 0 };
-
-    fn read(&mut self, buf: &mut [u8]) -> Result<usize, Failed> {
-        if !self.has_begun && buf.len() >= HEAD.len() {
-            self.has_begun = true;
-            buf[..HEAD.len()].copy_from_slice(&HEAD);
-            return Ok(HEAD.len());
-        }
-        let count = buf.len().min(self.left);
-        buf[..count].fill(0);
-        self.left -= count;
-        Ok(count)
-    }
-}
-
-/// The report of as many packets as are served at most.
-const AT_THE_LIMIT: &str = "\
-    flowdir serve seats 1 items 1 depth 0 start 0 hash ports seed 0 share round\n\
-    leaves 1 depth 0\n\
-    input limit 4000000\n\
-    count packets 4000000 calls 0 passed 4000000 full 0 pending 0 unbegun 0\n\
-    steps update 0 bound 302 lookup 0\n";
-
-/// One packet more than are served.
-#[test]
-fn packet_beyond_the_limit(rt: HostRuntime) -> Result<(), Fail> {
-    let mut source = EmptyRecords {
-        has_begun: false,
-        left: 16 * 4_000_001,
-    };
-    let mut sink = MemorySink::new(rt.alloc(), 2000, &[])?;
-    let line = "serve --seats 1 --items 1 --depth 0 --hash ports";
-    let status = run_line(&rt, rt.alloc(), line, &mut source, &mut sink)?;
-    assert_eq!(rt; status, Status::Limit);
-    assert_eq!(rt; sink.bytes(), AT_THE_LIMIT.as_bytes());
     Ok(())
 }

@@ -79,15 +79,15 @@ fn served<R: Threads + Abort + Sync>(
 const THREE_SERVED: &str = "\
     flowdir serve seats 1 items 8 depth 10 start 0 hash mix seed 0 share round\n\
     call 1 seat 0 lookup 10.1.0.175:40175-10.2.0.1:443/tcp absent steps 7 after 0\n\
-    call 2 seat 0 insert 10.1.0.244:40244-10.2.0.1:443/tcp new 2 steps 81 after 1\n\
-    call 3 seat 0 insert 10.1.0.79:40079-10.2.0.1:443/tcp new 3 steps 81 after 2\n\
+    call 2 seat 0 insert 10.1.0.244:40244-10.2.0.1:443/tcp new 2 steps 151 after 1\n\
+    call 3 seat 0 insert 10.1.0.79:40079-10.2.0.1:443/tcp new 3 steps 151 after 2\n\
     order 1 2 3\n\
-    session 10.1.0.79:40079-10.2.0.1:443/tcp 3\n\
-    session 10.1.0.244:40244-10.2.0.1:443/tcp 2\n\
+    session 10.1.0.79:40079-10.2.0.1:443/tcp 3 bytes 0\n\
+    session 10.1.0.244:40244-10.2.0.1:443/tcp 2 bytes 0\n\
     leaves 1 depth 0\n\
     input done rest 0\n\
     count packets 3 calls 3 passed 0 full 0 pending 0 unbegun 0\n\
-    steps update 81 bound 10165 lookup 7\n";
+    steps update 151 bound 12080 lookup 7\n";
 
 /// What its trial tells.
 const THREE_TRIED: &str = "\

@@ -9,275 +9,25 @@ use std::process::Abort;
 use std::test::Fail;
 use std::thread::Threads;
 
-/// One seat takes the steps of its calls one after the other, whatever the schedule.
+/// A seat that stops for good behind its announcement is helped, and its call takes effect.
 #[test]
-fn one_seat_plays_alone(rt: HostRuntime) -> Result<(), Fail> {
-    let rows = [
-        Row {
-            line: "play --seats 1 --items 2 --depth 1 --start 1 --hash ports",
-            capture: &[Part::Bytes(&HEAD), Part::Syn(1)],
-            status: Status::Done,
-            text: "\
-                flowdir play seats 1 items 2 depth 1 start 1 hash ports seed 0 share round\n\
-                call 1 seat 0 insert 10.0.0.1:1-10.0.0.2:80/tcp new 1 steps 45 after 0\n\
-                order 1\n\
-                session 10.0.0.1:1-10.0.0.2:80/tcp 1\n\
-                leaves 2 depth 1\n\
-                input done rest 0\n\
-                count packets 1 calls 1 passed 0 full 0 pending 0 unbegun 0\n\
-                steps update 45 bound 423 lookup 0\n",
-        },
-        Row {
-            line: "play --seats 1 --items 2 --depth 1 --start 1 --hash ports",
-            capture: &[Part::Bytes(&HEAD), Part::Ack(1)],
-            status: Status::Done,
-            text: "\
-                flowdir play seats 1 items 2 depth 1 start 1 hash ports seed 0 share round\n\
-                call 1 seat 0 lookup 10.0.0.1:1-10.0.0.2:80/tcp absent steps 7 after 0\n\
-                order 1\n\
-                leaves 2 depth 1\n\
-                input done rest 0\n\
-                count packets 1 calls 1 passed 0 full 0 pending 0 unbegun 0\n\
-                steps update 0 bound 423 lookup 7\n",
-        },
-        Row {
-            line: "play --seats 1 --items 2 --depth 1 --start 1 --hash ports",
-            capture: &[Part::Bytes(&HEAD), Part::Syn(1), Part::Syn(1)],
-            status: Status::Done,
-            text: "\
-                flowdir play seats 1 items 2 depth 1 start 1 hash ports seed 0 share round\n\
-                call 1 seat 0 insert 10.0.0.1:1-10.0.0.2:80/tcp new 1 steps 45 after 0\n\
-                call 2 seat 0 insert 10.0.0.1:1-10.0.0.2:80/tcp old 1 steps 45 after 1\n\
-                order 1 2\n\
-                session 10.0.0.1:1-10.0.0.2:80/tcp 1\n\
-                leaves 2 depth 1\n\
-                input done rest 0\n\
-                count packets 2 calls 2 passed 0 full 0 pending 0 unbegun 0\n\
-                steps update 45 bound 423 lookup 0\n",
-        },
-        Row {
-            line: "play --seats 1 --items 1 --depth 0 --start 0 --hash ports",
-            capture: &[Part::Bytes(&HEAD), Part::Syn(1), Part::Syn(2)],
-            status: Status::Done,
-            text: "\
-                flowdir play seats 1 items 1 depth 0 start 0 hash ports seed 0 share round\n\
-                call 1 seat 0 insert 10.0.0.1:1-10.0.0.2:80/tcp new 1 steps 39 after 0\n\
-                call 2 seat 0 insert 10.0.0.1:2-10.0.0.2:80/tcp noroom steps 39 after 1\n\
-                order 1 2\n\
-                session 10.0.0.1:1-10.0.0.2:80/tcp 1\n\
-                leaves 1 depth 0\n\
-                input done rest 0\n\
-                count packets 2 calls 2 passed 0 full 0 pending 0 unbegun 0\n\
-                steps update 39 bound 302 lookup 0\n",
-        },
-    ];
-    expect_rows(&rt, rt.alloc(), &rows)
-}
-
-/// A full bucket is split: at its first bit, at both, and while a lookup of another seat stands before it.
-#[test]
-fn plays_split_buckets(rt: HostRuntime) -> Result<(), Fail> {
-    let rows = [
-        Row {
-            line: "play --seats 1 --items 2 --depth 2 --start 0 --hash ports",
-            capture: &[
-                Part::Bytes(&HEAD),
-                Part::Syn(1),
-                Part::Syn(16384),
-                Part::Syn(32768),
-            ],
-            status: Status::Done,
-            text: "\
-                flowdir play seats 1 items 2 depth 2 start 0 hash ports seed 0 share round\n\
-                call 1 seat 0 insert 10.0.0.1:1-10.0.0.2:80/tcp new 1 steps 45 after 0\n\
-                call 2 seat 0 insert 10.0.0.1:16384-10.0.0.2:80/tcp new 2 steps 45 after 1\n\
-                call 3 seat 0 insert 10.0.0.1:32768-10.0.0.2:80/tcp new 3 steps 101 after 2\n\
-                order 1 2 3\n\
-                session 10.0.0.1:1-10.0.0.2:80/tcp 1\n\
-                session 10.0.0.1:16384-10.0.0.2:80/tcp 2\n\
-                session 10.0.0.1:32768-10.0.0.2:80/tcp 3\n\
-                leaves 2 depth 1\n\
-                input done rest 0\n\
-                count packets 3 calls 3 passed 0 full 0 pending 0 unbegun 0\n\
-                steps update 101 bound 495 lookup 0\n",
-        },
-        Row {
-            line: "play --seats 1 --items 2 --depth 2 --start 0 --hash ports",
-            capture: &[
-                Part::Bytes(&HEAD),
-                Part::Syn(1),
-                Part::Syn(2),
-                Part::Syn(3),
-                Part::Fin(1),
-                Part::Syn(3),
-            ],
-            status: Status::Done,
-            text: "\
-                flowdir play seats 1 items 2 depth 2 start 0 hash ports seed 0 share round\n\
-                call 1 seat 0 insert 10.0.0.1:1-10.0.0.2:80/tcp new 1 steps 45 after 0\n\
-                call 2 seat 0 insert 10.0.0.1:2-10.0.0.2:80/tcp new 2 steps 45 after 1\n\
-                call 3 seat 0 insert 10.0.0.1:3-10.0.0.2:80/tcp noroom steps 117 after 2\n\
-                call 4 seat 0 remove 10.0.0.1:1-10.0.0.2:80/tcp gone 1 steps 45 after 3\n\
-                call 5 seat 0 insert 10.0.0.1:3-10.0.0.2:80/tcp new 5 steps 45 after 4\n\
-                order 1 2 3 4 5\n\
-                session 10.0.0.1:2-10.0.0.2:80/tcp 2\n\
-                session 10.0.0.1:3-10.0.0.2:80/tcp 5\n\
-                leaves 3 depth 2\n\
-                input done rest 0\n\
-                count packets 5 calls 5 passed 0 full 0 pending 0 unbegun 0\n\
-                steps update 117 bound 495 lookup 0\n",
-        },
-        Row {
-            line: "play --seats 2 --items 2 --depth 1 --start 0 --hash ports --schedule 0*51,1*56,0*5,1*end",
-            capture: &[
-                Part::Bytes(&HEAD),
-                Part::Syn(1),
-                Part::Syn(16384),
-                Part::Ack(32768),
-                Part::Syn(32768),
-            ],
-            status: Status::Done,
-            text: "\
-                flowdir play seats 2 items 2 depth 1 start 0 hash ports seed 0 share round\n\
-                call 1 seat 0 insert 10.0.0.1:1-10.0.0.2:80/tcp new 1 steps 51 after 0,0\n\
-                call 2 seat 1 insert 10.0.0.1:16384-10.0.0.2:80/tcp new 2 steps 56 after 1,0\n\
-                call 3 seat 0 lookup 10.0.0.1:32768-10.0.0.2:80/tcp absent steps 14 after 1,1\n\
-                call 4 seat 1 insert 10.0.0.1:32768-10.0.0.2:80/tcp new 4 steps 124 after 1,1\n\
-                order 1 2 3 4\n\
-                session 10.0.0.1:1-10.0.0.2:80/tcp 1\n\
-                session 10.0.0.1:16384-10.0.0.2:80/tcp 2\n\
-                session 10.0.0.1:32768-10.0.0.2:80/tcp 4\n\
-                leaves 2 depth 1\n\
-                input done rest 0\n\
-                count packets 4 calls 4 passed 0 full 0 pending 0 unbegun 0\n\
-                steps update 124 bound 710 lookup 14\n",
-        },
-    ];
-    expect_rows(&rt, rt.alloc(), &rows)
-}
-
-/// Seats help each other: one stops behind its announcement, both go in turn, one stops before its exchange, and one
-/// that is stopped for good is helped still. A lookup stands in the order where its row stands.
-#[test]
-fn seats_help_each_other(rt: HostRuntime) -> Result<(), Fail> {
-    let rows = [
-        Row {
-            line: "play --seats 2 --items 2 --depth 1 --start 1 --hash ports --schedule 0*8,1*end",
-            capture: &[Part::Bytes(&HEAD), Part::Syn(1), Part::Syn(2)],
-            status: Status::Done,
-            text: "\
+fn stopped_seat_is_helped(rt: HostRuntime) -> Result<(), Fail> {
+    let rows = [Row {
+        line: "play --seats 2 --items 2 --depth 1 --start 1 --hash ports --schedule 0*11,1*end --stop 0:11",
+        capture: &[Part::Bytes(&HEAD), Part::Syn(1), Part::Syn(2)],
+        status: Status::Done,
+        text: "\
                 flowdir play seats 2 items 2 depth 1 start 1 hash ports seed 0 share round\n\
-                call 1 seat 0 insert 10.0.0.1:1-10.0.0.2:80/tcp new 1 steps 28 after 0,0\n\
-                call 2 seat 1 insert 10.0.0.1:2-10.0.0.2:80/tcp new 2 steps 56 after 0,0\n\
-                order 1 2\n\
-                session 10.0.0.1:1-10.0.0.2:80/tcp 1\n\
-                session 10.0.0.1:2-10.0.0.2:80/tcp 2\n\
-                leaves 2 depth 1\n\
-                input done rest 0\n\
-                count packets 2 calls 2 passed 0 full 0 pending 0 unbegun 0\n\
-                steps update 56 bound 710 lookup 0\n",
-        },
-        Row {
-            line: "play --seats 2 --items 2 --depth 1 --start 1 --hash ports",
-            capture: &[Part::Bytes(&HEAD), Part::Syn(1), Part::Syn(2)],
-            status: Status::Done,
-            text: "\
-                flowdir play seats 2 items 2 depth 1 start 1 hash ports seed 0 share round\n\
-                call 1 seat 0 insert 10.0.0.1:1-10.0.0.2:80/tcp new 1 steps 56 after 0,0\n\
-                call 2 seat 1 insert 10.0.0.1:2-10.0.0.2:80/tcp new 2 steps 72 after 0,0\n\
-                order 1 2\n\
-                session 10.0.0.1:1-10.0.0.2:80/tcp 1\n\
-                session 10.0.0.1:2-10.0.0.2:80/tcp 2\n\
-                leaves 2 depth 1\n\
-                input done rest 0\n\
-                count packets 2 calls 2 passed 0 full 0 pending 0 unbegun 0\n\
-                steps update 72 bound 710 lookup 0\n",
-        },
-        Row {
-            line: "play --seats 2 --items 2 --depth 1 --start 1 --hash ports --schedule 0*49,1*end",
-            capture: &[Part::Bytes(&HEAD), Part::Syn(1), Part::Syn(2)],
-            status: Status::Done,
-            text: "\
-                flowdir play seats 2 items 2 depth 1 start 1 hash ports seed 0 share round\n\
-                call 1 seat 0 insert 10.0.0.1:1-10.0.0.2:80/tcp new 1 steps 67 after 0,0\n\
-                call 2 seat 1 insert 10.0.0.1:2-10.0.0.2:80/tcp new 2 steps 56 after 0,0\n\
-                order 1 2\n\
-                session 10.0.0.1:1-10.0.0.2:80/tcp 1\n\
-                session 10.0.0.1:2-10.0.0.2:80/tcp 2\n\
-                leaves 2 depth 1\n\
-                input done rest 0\n\
-                count packets 2 calls 2 passed 0 full 0 pending 0 unbegun 0\n\
-                steps update 67 bound 710 lookup 0\n",
-        },
-        Row {
-            line: "play --seats 2 --items 2 --depth 1 --start 1 --hash ports --schedule 1*end",
-            capture: &[Part::Bytes(&HEAD), Part::Ack(1), Part::Syn(1)],
-            status: Status::Done,
-            text: "\
-                flowdir play seats 2 items 2 depth 1 start 1 hash ports seed 0 share round\n\
-                call 1 seat 0 lookup 10.0.0.1:1-10.0.0.2:80/tcp found 2 steps 11 after 0,1\n\
-                call 2 seat 1 insert 10.0.0.1:1-10.0.0.2:80/tcp new 2 steps 51 after 0,0\n\
-                order 2 1\n\
-                session 10.0.0.1:1-10.0.0.2:80/tcp 2\n\
-                leaves 2 depth 1\n\
-                input done rest 0\n\
-                count packets 2 calls 2 passed 0 full 0 pending 0 unbegun 0\n\
-                steps update 51 bound 710 lookup 11\n",
-        },
-        Row {
-            line: "play --seats 2 --items 2 --depth 1 --start 1 --hash ports --schedule 0*8,1*end --stop 0:8",
-            capture: &[Part::Bytes(&HEAD), Part::Syn(1), Part::Syn(2)],
-            status: Status::Done,
-            text: "\
-                flowdir play seats 2 items 2 depth 1 start 1 hash ports seed 0 share round\n\
-                call 2 seat 1 insert 10.0.0.1:2-10.0.0.2:80/tcp new 2 steps 56 after 0,0\n\
+                call 2 seat 1 insert 10.0.0.1:2-10.0.0.2:80/tcp new 2 steps 81 after 0,0\n\
                 pending 1 seat 0 insert 10.0.0.1:1-10.0.0.2:80/tcp after 0,0\n\
                 order 1 2\n\
-                session 10.0.0.1:1-10.0.0.2:80/tcp 1\n\
-                session 10.0.0.1:2-10.0.0.2:80/tcp 2\n\
+                session 10.0.0.1:1-10.0.0.2:80/tcp 1 bytes 0\n\
+                session 10.0.0.1:2-10.0.0.2:80/tcp 2 bytes 0\n\
                 leaves 2 depth 1\n\
                 input done rest 0\n\
                 count packets 2 calls 2 passed 0 full 0 pending 1 unbegun 0\n\
-                steps update 56 bound 710 lookup 0\n",
-        },
-    ];
-    expect_rows(&rt, rt.alloc(), &rows)
-}
-
-/// A refused call takes no step, and the seat's next call begins in the same slot.
-#[test]
-fn refused_calls_take_no_step(rt: HostRuntime) -> Result<(), Fail> {
-    let rows = [
-        Row {
-            line: "play --seats 1 --items 2 --depth 1 --start 1 --hash ports --rows 1,100,100,10",
-            capture: &[Part::Bytes(&HEAD), Part::Syn(1), Part::Syn(2)],
-            status: Status::Done,
-            text: "\
-                flowdir play seats 1 items 2 depth 1 start 1 hash ports seed 0 share round\n\
-                call 1 seat 0 insert 10.0.0.1:1-10.0.0.2:80/tcp new 1 steps 45 after 0\n\
-                call 2 seat 0 insert 10.0.0.1:2-10.0.0.2:80/tcp full oprows 0 1\n\
-                order 1\n\
-                session 10.0.0.1:1-10.0.0.2:80/tcp 1\n\
-                leaves 2 depth 1\n\
-                input done rest 0\n\
-                count packets 2 calls 2 passed 0 full 1 pending 0 unbegun 0\n\
-                steps update 45 bound 423 lookup 0\n",
-        },
-        Row {
-            line: "play --seats 1 --items 2 --depth 1 --start 1 --hash ports --rows 0,0,0,0 --stop 0:7",
-            capture: &[Part::Bytes(&HEAD), Part::Syn(1), Part::Ack(1), Part::Ack(1)],
-            status: Status::Done,
-            text: "\
-                flowdir play seats 1 items 2 depth 1 start 1 hash ports seed 0 share round\n\
-                call 1 seat 0 insert 10.0.0.1:1-10.0.0.2:80/tcp full oprows 0 1\n\
-                call 2 seat 0 lookup 10.0.0.1:1-10.0.0.2:80/tcp absent steps 7 after 0\n\
-                order 2\n\
-                leaves 2 depth 1\n\
-                input done rest 0\n\
-                count packets 3 calls 3 passed 0 full 1 pending 0 unbegun 1\n\
-                steps update 0 bound 423 lookup 7\n",
-        },
-    ];
+                steps update 81 bound 1041 lookup 0\n",
+    }];
     expect_rows(&rt, rt.alloc(), &rows)
 }
 
@@ -323,12 +73,12 @@ fn text_of_200(alloc: Global, ending: &str) -> Result<String, AllocError> {
     let head = "flowdir play seats 1 items 2 depth 1 start 1 hash ports seed 0 share round";
     let key = "10.0.0.1:1-10.0.0.2:80/tcp";
     let mut text = format!(in alloc;
-        "{head}\ncall 1 seat 0 insert {key} new 1 steps 45 after 0\n"
+        "{head}\ncall 1 seat 0 insert {key} new 1 steps 67 after 0\n"
     )?;
     for packet in 2..=200u32 {
         let before = packet - 1;
         let line = format!(in alloc;
-            "call {packet} seat 0 insert {key} old 1 steps 45 after {before}\n"
+            "call {packet} seat 0 insert {key} old 1 steps 67 after {before}\n"
         )?;
         text.push_str(&line)?;
     }
@@ -342,10 +92,10 @@ fn text_of_200(alloc: Global, ending: &str) -> Result<String, AllocError> {
         let part = format!(in alloc; "{word}{packet}{end}")?;
         text.push_str(&part)?;
     }
-    let tail = format!(in alloc; "session {key} 1\nleaves 2 depth 1\ninput {ending}\n")?;
+    let tail = format!(in alloc; "session {key} 1 bytes 0\nleaves 2 depth 1\ninput {ending}\n")?;
     text.push_str(&tail)?;
     text.push_str("count packets 200 calls 200 passed 0 full 0 pending 0 unbegun 0\n")?;
-    text.push_str("steps update 45 bound 423 lookup 0\n")?;
+    text.push_str("steps update 67 bound 634 lookup 0\n")?;
     Ok(text)
 }
 
@@ -355,7 +105,7 @@ const NOTHING_READ: &str = "\
     leaves 2 depth 1\n\
     input read-fault\n\
     count packets 0 calls 0 passed 0 full 0 pending 0 unbegun 0\n\
-    steps update 0 bound 423 lookup 0\n";
+    steps update 0 bound 634 lookup 0\n";
 
 /// The report of an input without a byte.
 const NO_HEAD: &str = "\
@@ -363,7 +113,7 @@ const NO_HEAD: &str = "\
     leaves 2 depth 1\n\
     input fault short-header at 0 found 0\n\
     count packets 0 calls 0 passed 0 full 0 pending 0 unbegun 0\n\
-    steps update 0 bound 423 lookup 0\n";
+    steps update 0 bound 634 lookup 0\n";
 
 /// Reads that fail, writes that fail, and an input without a head.
 #[test]

@@ -6,5 +6,5 @@ pub returns : goal.returns
 unfolding session_line
 returns c =
     line_whole c.begin_line.ensures.begins
-    (c.put_key.ensures.puts ⨟ c.put_number.ensures.puts)
+    (c.put_key.ensures.puts ⨟ c.put_number.ensures.puts ⨟ c.put_named.ensures.puts)
     c.end_line.ensures.ends

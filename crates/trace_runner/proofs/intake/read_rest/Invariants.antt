@@ -14,6 +14,7 @@ invariant-loop-packets g l =
       whole : l.packets ≡ l.taken → l.calls.items ≡ l.fn.calls.items;
       from : l.taken ≤ l.packets;
       counted : g.S.Source.faults l.fn.source ≤ g.S.Source.faults l.source;
+      failed : g.S.Source.failed l.source ≡ g.S.Source.failed l.fn.source;
       read : (first : Option (List ℕ)) (all : List (ℕ × Call)) →
           HaveCome first (left l.fn.source) l.fn.reader (l.before + l.taken) (all ++ l.fn.calls.items) →
           HaveCome first (left l.source) l.reader (l.before + l.packets) (all ++ l.calls.items);

@@ -1,7 +1,7 @@
 -- The report was put whole, or in part, or nothing was put.
 use Rattle.std.proofs.Common.{subst, sym}
 use Rattle.std.specs.Io.KnownBytes.{Appends}
-use Rattle.edge_traits.specs.Edge.{AppendsFront}
+use Rattle.edge_traits.specs.Edge.{AppendsFront, Rose}
 use Rattle.trace_runner.specs.Playing.{LeavesPlayed}
 use Rattle.trace_runner.proofs.EndLemmas.{Keeps-same}
 use Rattle.trace_runner.proofs.PlayLemmas.{LeavesPlayed-front, LeavesPlayed-nothing, LeavesPlayed-whole}
@@ -9,7 +9,8 @@ use Rattle.trace_runner.proofs.playing.play.Goals as goal
 
 pub returns-in_default-clause-leaves : goal.returns-in_default-clause-leaves
 returns-in_default-clause-leaves g c =
-    LeavesPlayed-nothing c.args.plan.now (g.S.Source.left c.args.source.now) (g.S.Source.left c.read_input.new.source)
+    LeavesPlayed-nothing c.args.plan.now
+    (Rose (g.S.Source.faults c.args.source.now) (g.S.Source.faults c.read_input.new.source)) (g.S.Source.left c.args.source.now) (g.S.Source.left c.read_input.new.source)
     (g.K.Sink.put c.args.sink.now) (g.K.Sink.put c.args.sink.now) (Keeps-same (g.K.Sink.put c.args.sink.now))
 
 pub returns-in-Ok-write_all-clause-leaves : goal.returns-in-Ok-write_all-clause-leaves
@@ -18,8 +19,9 @@ returns-in-Ok-write_all-clause-leaves g c =
     let left = g.S.Source.left c.read_input.new.source in
     let before = g.K.Sink.put c.args.sink.now in
     let after = g.K.Sink.put c.write_all.new.sink in
-    subst (LeavesPlayed c.args.plan.now first left before after) (sym c.of_ending.ensures)
-    (LeavesPlayed-whole c.args.plan.now first left before after c.in-Ok.input.packets c.in-Ok.input.calls.items
+    let failed = (Rose (g.S.Source.faults c.args.source.now) (g.S.Source.faults c.read_input.new.source)) in
+    subst (LeavesPlayed c.args.plan.now failed first left before after) (sym c.of_ending.ensures)
+    (LeavesPlayed-whole c.args.plan.now failed first left before after c.in-Ok.input.packets c.in-Ok.input.calls.items
     c.in-Ok.input.ending c.in-Ok.ensures.ended c.in-Ok-report_of.text.items c.in-Ok-report_of.ensures
     (subst (Appends before after) c.deref.ensures.value c.in-Ok-write_all.ensures.ok))
 
@@ -29,6 +31,8 @@ returns-in-Ok-report_of-clause-leaves g c =
     let left = g.S.Source.left c.read_input.new.source in
     let before = g.K.Sink.put c.args.sink.now in
     let after = g.K.Sink.put c.write_all.new.sink in
-    LeavesPlayed-front c.args.plan.now first left before after c.in-Ok.input.packets c.in-Ok.input.calls.items
+    let failed = (Rose (g.S.Source.faults c.args.source.now) (g.S.Source.faults c.read_input.new.source)) in
+    LeavesPlayed-front c.args.plan.now failed first left before after c.in-Ok.input.packets c.in-Ok.input.calls.items
     c.in-Ok.input.ending c.in-Ok.ensures.ended c.in-Ok-report_of.text.items c.in-Ok-report_of.ensures
+    c.in-Ok.ensures.read_fault
     (subst (AppendsFront before after) c.deref.ensures.value c.in-Err-write_all.ensures.prefix)

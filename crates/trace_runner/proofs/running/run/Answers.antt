@@ -2,7 +2,9 @@ use Rattle.std.proofs.Common.{◌≡◌, Some, None, ap, sym, subst, ◌∙◌}
 use Rattle.command_line.specs.declared.plan.Plan.{Plan}
 use Rattle.trace_runner.specs.Headline.{LeavesAll, LeavesMade, LeavesTried}
 use Rattle.trace_runner.specs.Playing.{LeavesPlayed}
-use Rattle.trace_runner.proofs.EndLemmas.{Keeps-same, LeavesBy-nothing}
+use Rattle.edge_traits.specs.Edge.{Rose}
+use Rattle.trace_runner.proofs.EndLemmas.{Keeps-same}
+use Rattle.trace_runner.proofs.HeadlineLemmas.{leaves_nothing}
 use Rattle.trace_runner.proofs.ExactLemmas.{Leaves-exact}
 use Rattle.trace_runner.proofs.PlayLemmas.{LeavesPlay-exact, LeavesPlayed-nothing}
 use Rattle.trace_runner.proofs.TrialWords.{no_rows}
@@ -15,34 +17,34 @@ same_plan is = cc
 pub returns-in-Ok-clause-headline : goal.returns-in-Ok-clause-headline
 returns-in-Ok-clause-headline g c = λ plan asked serves.
     let same : c.in-Ok.plan ≡ plan = same_plan (sym c.in-Ok.ensures.answers ∙ asked) in
-    subst (λ (p : Plan). LeavesAll p (g.S.Source.left c.args.source.now) (g.S.Source.left c.run_plan.new.source)
+    subst (λ (p : Plan). LeavesAll p (Rose (g.S.Source.faults c.args.source.now) (g.S.Source.faults c.run_plan.new.source)) (g.S.Source.left c.args.source.now) (g.S.Source.left c.run_plan.new.source)
     (g.K.Sink.put c.args.sink.now) (g.K.Sink.put c.run_plan.new.sink) c.run_plan.result) same
     (c.run_plan.ensures.headline (ap (λ (p : Plan). p.mode) same ∙ serves))
 
 pub returns-in-Ok-clause-exact : goal.returns-in-Ok-clause-exact
-returns-in-Ok-clause-exact g c = λ plan bytes records ending asked serves told capture no_read no_write.
+returns-in-Ok-clause-exact g c = λ plan bytes packets ending asked serves told capture no_read no_write.
     let same : c.in-Ok.plan ≡ plan = same_plan (sym c.in-Ok.ensures.answers ∙ asked) in
-    Leaves-exact c.in-Ok.plan bytes _ _ _ c.run_plan.result records ending (c.one_capture.ensures bytes) capture
+    Leaves-exact c.in-Ok.plan _ bytes _ _ _ c.run_plan.result packets ending (c.one_input.ensures bytes) capture
     (λ is. no_read (c.run_plan.ensures.read_fault is)) (λ is. no_write (c.run_plan.ensures.write_fault is))
     ((c.run_plan.ensures.headline (ap (λ (p : Plan). p.mode) same ∙ serves)).told bytes told)
 
 pub returns-in-Ok-clause-played : goal.returns-in-Ok-clause-played
 returns-in-Ok-clause-played g c = λ plan asked plays.
     let same : c.in-Ok.plan ≡ plan = same_plan (sym c.in-Ok.ensures.answers ∙ asked) in
-    subst (λ (p : Plan). LeavesPlayed p (g.S.Source.left c.args.source.now) (g.S.Source.left c.run_plan.new.source)
+    subst (λ (p : Plan). LeavesPlayed p (Rose (g.S.Source.faults c.args.source.now) (g.S.Source.faults c.run_plan.new.source)) (g.S.Source.left c.args.source.now) (g.S.Source.left c.run_plan.new.source)
     (g.K.Sink.put c.args.sink.now) (g.K.Sink.put c.run_plan.new.sink) c.run_plan.result) same
     (c.run_plan.ensures.played (ap (λ (p : Plan). p.mode) same ∙ plays))
 
 pub returns-in-Ok-clause-exact_play : goal.returns-in-Ok-clause-exact_play
-returns-in-Ok-clause-exact_play g c = λ plan bytes records ending asked plays told capture no_read no_write.
+returns-in-Ok-clause-exact_play g c = λ plan bytes packets ending asked plays told capture no_read no_write.
     let same : c.in-Ok.plan ≡ plan = same_plan (sym c.in-Ok.ensures.answers ∙ asked) in
-    LeavesPlay-exact c.in-Ok.plan bytes _ _ _ c.run_plan.result records ending (c.one_capture.ensures bytes) capture
+    LeavesPlay-exact c.in-Ok.plan _ bytes _ _ _ c.run_plan.result packets ending (c.one_input.ensures bytes) capture
     (λ is. no_read (c.run_plan.ensures.read_fault is)) (λ is. no_write (c.run_plan.ensures.write_fault is))
     ((c.run_plan.ensures.played (ap (λ (p : Plan). p.mode) same ∙ plays)).told bytes told)
 
 pub returns-in-Err-Memory-clause-played : goal.returns-in-Err-Memory-clause-played
 returns-in-Err-Memory-clause-played g c = λ plan asked plays.
-    LeavesPlayed-nothing plan (g.S.Source.left c.args.source.now) (g.S.Source.left c.args.source.now)
+    LeavesPlayed-nothing plan (Rose (g.S.Source.faults c.args.source.now) (g.S.Source.faults c.args.source.now)) (g.S.Source.left c.args.source.now) (g.S.Source.left c.args.source.now)
     (g.K.Sink.put c.args.sink.now) (g.K.Sink.put c.args.sink.now) (Keeps-same (g.K.Sink.put c.args.sink.now))
 
 pub returns-in-Ok-clause-made : goal.returns-in-Ok-clause-made
@@ -56,7 +58,7 @@ returns-in-Ok-clause-made g c = λ plan asked makes.
 
 pub returns-in-Err-Memory-clause-headline : goal.returns-in-Err-Memory-clause-headline
 returns-in-Err-Memory-clause-headline g c = λ plan asked serves.
-    LeavesBy-nothing plan (g.S.Source.left c.args.source.now) (g.S.Source.left c.args.source.now)
+    leaves_nothing plan (Rose (g.S.Source.faults c.args.source.now) (g.S.Source.faults c.args.source.now)) (g.S.Source.left c.args.source.now) (g.S.Source.left c.args.source.now)
     (g.K.Sink.put c.args.sink.now) (g.K.Sink.put c.args.sink.now) (Keeps-same (g.K.Sink.put c.args.sink.now))
 
 pub returns-in-Ok-clause-tried : goal.returns-in-Ok-clause-tried

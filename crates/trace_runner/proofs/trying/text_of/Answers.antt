@@ -2,6 +2,7 @@ use Rattle.std.proofs.Common.{◌≡◌, ◌++◌, [], List, ℕ, Option, Some, 
 use Rattle.pcap_reader.specs.Made.{made_capture}
 use Rattle.report_text.specs.Trials.{trial_lines}
 use Rattle.trace_runner.specs.Reading.{HaveCome}
+use Rattle.trace_runner.proofs.ReadingLemmas.{HaveCome-start}
 use Rattle.trace_runner.proofs.TrialLemmas.{IsTrial-tried, none_rose}
 use Rattle.trace_runner.proofs.trying.text_of.Goals as goal
 
@@ -13,9 +14,9 @@ returns-in-Ok g c = λ none.
     let told : Some c.new-source.result ≡ Some bytes = ap (λ (l : List ℕ). Some l) c.new-source.ensures.left in
     let come : HaveCome (Some bytes) (Some c.open.new.source) c.in-Ok.reader 0 [] =
     subst (λ (k : Option (List ℕ)). HaveCome k (Some c.open.new.source) c.in-Ok.reader 0 []) told
-    c.in-Ok.ensures.come in
+    (HaveCome-start (Some c.new-source.result) (Some c.open.new.source) c.in-Ok.reader c.in-Ok.ensures.come) in
     IsTrial-tried plan c.service_of-service.result tried.tried.progress (Some c.try_packets.new.source)
-    tried.tried.ending c.trial_text.new.out.items (c.one_capture.ensures bytes)
+    tried.tried.ending c.trial_text.new.out.items (c.one_input.ensures bytes)
     (c.made_capture_law.ensures plan.number plan.packets) c.requires.packets
     (λ is. none_rose (tried.ensures.read_fault is)) c.serving_laws.ensures c.service_of-service.ensures.asks
     (tried.ensures.tried (Some bytes) come)

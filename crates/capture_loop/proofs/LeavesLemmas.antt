@@ -1,0 +1,307 @@
+-- What was put makes what a run leaves.
+use Rattle.std.proofs.Common.{◌≡◌, ◌≤◌, ◌⊎◌, ℕ, List, [], ◌∷◌, ◌++◌, length, Option, Some, None, Result, Ok, Err, inl, inr, refl, sym, ap, subst, ◌∙◌, append_assoc, append-nil, arith, IsErr, IsErrAnd}
+use Rattle.std.specs.List.{flat_map, AllByRecursion}
+use Rattle.std.specs.Io.KnownBytes.{Appends, Keeps}
+use Rattle.std.proofs.KnownBytes.{Appends-trans, Appends-nil, Consumes-nil}
+use Rattle.edge_traits.specs.Edge.{AppendsFront}
+use Rattle.pcapng_reader.specs.Reading.{Reading}
+use Rattle.pcapng_reader.proofs.ReadFacts.{read_longer}
+use Rattle.report_text.specs.declared.parts.Ending.{Ending}
+use Rattle.capture_loop.specs.declared.stop.Stop.{Stop}
+use Rattle.capture_loop.specs.declared.stop.Stop.TheVariants.{Memory, NotPut}
+use Rattle.capture_loop.specs.Input.{Begins, IsFirst, packet_limit}
+use Rattle.capture_loop.specs.Reading.{HaveCome, HaveEnded}
+use Rattle.capture_loop.specs.Batches.{AreBatches, AreWhole, IsWhole}
+use Rattle.capture_loop.specs.Leaves.{IsMet, LeavesAll, Lines, Reports}
+use Rattle.capture_loop.specs.Looping.{HasPut, HaveFirst, OnMemory, OnNotPut}
+use Rattle.capture_loop.proofs.ReadingLemmas.{taken_by, told_by}
+use Rattle.capture_loop.proofs.ServingLemmas.{begins_read, first_read}
+
+-- ---- the text that was put
+
+-- a front of a text that goes on behind what was put
+pub AppendsFront-behind : (before mid after : Option (List ℕ)) (done text whole : List ℕ) → Appends before mid done →
+    done ++ text ≡ whole → AppendsFront mid after text → AppendsFront before after whole
+AppendsFront-behind before mid after done text whole put is front =
+    record {
+      front = done ++ front.front;
+      rest = front.rest;
+      parts = sym is ∙ ap (λ (t : List ℕ). done ++ t) front.parts ∙ sym (append_assoc done front.front front.rest);
+      appended = Appends-trans before mid after done front.front put front.appended;
+    }
+
+-- a text that was put is a front of a longer one
+pub AppendsFront-longer : (before after : Option (List ℕ)) (text rest : List ℕ) → AppendsFront before after text →
+    AppendsFront before after (text ++ rest)
+AppendsFront-longer before after text rest front =
+    record {
+      front = front.front;
+      rest = front.rest ++ rest;
+      parts = ap (λ (t : List ℕ). t ++ rest) front.parts ∙ append_assoc front.front front.rest rest;
+      appended = front.appended;
+    }
+
+-- what was put, where some text is held besides, is a front of both
+pub HasPut-front : (before now : Option (List ℕ)) (held text : List ℕ) → HasPut before now held text →
+    AppendsFront before now text
+HasPut-front before now held text put =
+    record { front = put.done; rest = held; parts = sym put.parts; appended = put.put }
+
+-- all that is held is put, with more behind it
+pub HasPut-more : (before mid after : Option (List ℕ)) (held text more : List ℕ) → HasPut before mid held text →
+    Appends mid after (held ++ more) → HasPut before after [] (text ++ more)
+HasPut-more before mid after held text more put appended =
+    record {
+      done = text ++ more;
+      put = subst (Appends before after)
+          (sym (append_assoc put.done held more) ∙ ap (λ (t : List ℕ). t ++ more) put.parts)
+          (Appends-trans before mid after put.done (held ++ more) put.put appended);
+      parts = append-nil (text ++ more);
+      whole = inr refl;
+    }
+
+pub HasPut-cut : (before mid after : Option (List ℕ)) (held text more : List ℕ) → HasPut before mid held text →
+    AppendsFront mid after (held ++ more) → AppendsFront before after (text ++ more)
+HasPut-cut before mid after held text more put front =
+    AppendsFront-behind before mid after put.done (held ++ more) (text ++ more) put.put
+    (sym (append_assoc put.done held more) ∙ ap (λ (t : List ℕ). t ++ more) put.parts) front
+
+-- nothing more is what it was
+Keeps-nothing : (before now : Option (List ℕ)) → Appends before now [] → Keeps before now
+Keeps-nothing None now put = tt
+Keeps-nothing (Some xs) None put = absurd put
+Keeps-nothing (Some xs) (Some ys) put = put ∙ append-nil xs
+
+-- what was put, where memory runs out: nothing, or all
+pub HasPut-kept : (before now : Option (List ℕ)) (held text : List ℕ) → HasPut before now held text →
+    Keeps before now ⊎ Appends before now text
+HasPut-kept before now held text put = choose put.whole
+  where
+    choose : (put.done ≡ []) ⊎ (held ≡ []) → Keeps before now ⊎ Appends before now text
+    choose (inl none) = inl (Keeps-nothing before now (subst (Appends before now) none put.put))
+    choose (inr none) =
+        inr (subst (Appends before now)
+        (sym (append-nil put.done) ∙ ap (λ (l : List ℕ). put.done ++ l) (sym none) ∙ put.parts) put.put)
+
+pub HasPut-start : (now : Option (List ℕ)) (held : List ℕ) → HasPut now now held held
+HasPut-start now held = record { done = []; put = Appends-nil now; parts = refl; whole = inl refl }
+
+-- ---- batches
+
+all_more : (xs : List (List (List ℕ))) (x : List (List ℕ)) → AllByRecursion IsWhole xs → IsWhole x →
+    AllByRecursion IsWhole (xs ++ x ∷ [])
+all_more [] x all one = (one, tt)
+all_more (y ∷ xs) x all one = (all.0, all_more xs x all.1 one)
+
+parts_more : (xs : List (List (List ℕ))) (x : List (List ℕ)) →
+    flat_map (λ batch. batch) (xs ++ x ∷ []) ≡ flat_map (λ batch. batch) xs ++ x
+parts_more [] x = append-nil x
+parts_more (y ∷ xs) x =
+    ap (λ (ps : List (List ℕ)). y ++ ps) (parts_more xs x) ∙ sym (append_assoc y (flat_map (λ batch. batch) xs) x)
+
+pub AreWhole-none : AreWhole [] []
+AreWhole-none = record { parts = refl; each = tt }
+
+pub AreWhole-more : (all more : List (List ℕ)) (batches : List (List (List ℕ))) → AreWhole all batches →
+    length more ≡ 2048 → AreWhole (all ++ more) (batches ++ more ∷ [])
+AreWhole-more all more batches whole long =
+    record {
+      parts = parts_more batches more ∙ ap (λ (ps : List (List ℕ)). ps ++ more) whole.parts;
+      each = all_more batches more whole.each long;
+    }
+
+-- a last batch is begun, which may have fewer packets
+pub AreBatches-last : (all last : List (List ℕ)) (batches : List (List (List ℕ))) → AreWhole all batches →
+    length last ≤ 2048 → (last ≡ [] → batches ≡ []) → AreBatches (all ++ last) (batches ++ last ∷ [])
+AreBatches-last all last batches whole few begun =
+    record {
+      front = batches;
+      last = last;
+      parts = refl;
+      all = parts_more batches last ∙ ap (λ (ps : List (List ℕ)). ps ++ last) whole.parts;
+      whole = whole.each;
+      few = few;
+      begun = begun;
+    }
+
+-- or all batches are whole, and there are some
+last_of : (batch : List (List ℕ)) (batches : List (List (List ℕ))) → AllByRecursion IsWhole (batch ∷ batches) →
+    (front : List (List (List ℕ))) × (last : List (List ℕ)) × (batch ∷ batches ≡ front ++ last ∷ [])
+    × AllByRecursion IsWhole front × IsWhole last
+last_of batch [] all = ([], batch, refl, tt, all.0)
+last_of batch (next ∷ batches) all =
+    let rest = last_of next batches all.1 in (
+      batch ∷ rest.0,
+      rest.1,
+      ap (λ (bs : List (List (List ℕ))). batch ∷ bs) rest.2,
+      (all.0, rest.3),
+      rest.4,
+    )
+
+long_not_none : (last : List (List ℕ)) → IsWhole last → last ≡ [] → ⊥
+long_not_none [] long none = omega (arith, long)
+long_not_none (p ∷ last) long none = cc
+
+pub AreBatches-whole : (all : List (List ℕ)) (batches : List (List (List ℕ))) → AreWhole all batches →
+    0 ≤ length all → (length all ≡ 0) ⊎ AreBatches all batches
+AreBatches-whole all [] whole some = inl (ap length (sym whole.parts))
+AreBatches-whole all (batch ∷ batches) whole some =
+    let cut = last_of batch batches whole.each in
+    inr (record {
+      front = cut.0;
+      last = cut.1;
+      parts = cut.2;
+      all = whole.parts;
+      whole = cut.3;
+      few = omega (arith, cut.4);
+      begun = λ none. absurd (long_not_none cut.1 cut.4 none);
+    })
+
+-- ---- the input
+
+-- the packets that were read are its first
+come_first : (first now : Option (List ℕ)) (reading : Reading) (packets : List (List ℕ)) (bytes : List ℕ) →
+    length packets ≤ packet_limit → (come : HaveCome first now reading packets) → first ≡ Some bytes →
+    IsFirst bytes packets
+come_first first now reading packets bytes few come is =
+    told_by (λ told left. IsFirst told packets) first now bytes come.0 is come.1
+    (λ others left.
+    first_read (come.0 ++ others) others reading packets few (read_longer come.0 [] others reading packets come.2))
+
+pub HaveFirst-come : (first now : Option (List ℕ)) (reading : Reading) (packets : List (List ℕ)) →
+    length packets ≤ packet_limit → HaveCome first now reading packets → HaveFirst first packets
+HaveFirst-come first now reading packets few come =
+    record {
+      told = λ bytes is. come_first first now reading packets bytes few come is;
+      took = (now, (come.0, come.1, first_read come.0 [] reading packets few come.2));
+    }
+
+-- no packets are the first of any input
+pub HaveFirst-none : (first : Option (List ℕ)) → HaveFirst first []
+HaveFirst-none first =
+    record {
+      told = λ bytes is. (omega arith, inl refl);
+      took = (first, ([], Consumes-nil first, (omega arith, inl refl)));
+    }
+
+-- ---- what is left
+
+module _ (lines : Lines) (report : Reports) (read_failed : Type 0) (first left before after : Option (List ℕ)) where
+  -- nothing was put
+  pub leaves_nothing : Keeps before after → LeavesAll lines report read_failed first left before after (Err Memory)
+  leaves_nothing kept =
+      record { told = λ bytes told. inl kept; took = (first, ([], Consumes-nil first, inl kept)) }
+
+  module _ (packets : List (List ℕ)) (batches : List (List (List ℕ))) (ending : Ending) (text : List ℕ)
+      (ended : HaveEnded packet_limit first left packets ending) (cut : AreBatches packets batches)
+      (met : IsMet read_failed ending) where
+    -- the whole report was put
+    pub leaves_whole : report batches ending text → Appends before after text →
+        LeavesAll lines report read_failed first left before after (Ok ending)
+    leaves_whole is put =
+        record {
+          told = λ bytes told. (met, (text, (packets, ended.told bytes told, (batches, cut, is)), put));
+          took = (ended.took.0, ended.took.1, (met, (text, (packets, ended.took.2, (batches, cut, is)), put)));
+        }
+
+    -- or a front of it
+    pub leaves_front : report batches ending text → AppendsFront before after text →
+        LeavesAll lines report read_failed first left before after (Err NotPut)
+    leaves_front is put =
+        record {
+          told = λ bytes told. inl (ending, met, (text, (packets, ended.told bytes told, (batches, cut, is)), put));
+          took = (
+            ended.took.0,
+            ended.took.1,
+            inl (ending, met, (text, (packets, ended.took.2, (batches, cut, is)), put)),
+          );
+        }
+
+    -- or the lines of all batches
+    pub leaves_less : lines batches text → Keeps before after ⊎ Appends before after text →
+        LeavesAll lines report read_failed first left before after (Err Memory)
+    leaves_less is (inl kept) = leaves_nothing kept
+    leaves_less is (inr put) =
+        record {
+          told = λ bytes told.
+              inr (inl (ending, met, (text, (packets, ended.told bytes told, (batches, cut, is)), put)));
+          took = (
+            left,
+            (
+              ended.took.0,
+              ended.took.1,
+              inr (inl (ending, met, (text, (packets, ended.took.2, (batches, cut, is)), put))),
+            ),
+          );
+        }
+
+  -- lines of whole batches were put, and how the input ends is not known
+  pub leaves_before : (packets : List (List ℕ)) (batches : List (List (List ℕ))) (text : List ℕ) →
+      HaveFirst first packets → AreWhole packets batches → lines batches text →
+      Keeps before after ⊎ Appends before after text →
+      LeavesAll lines report read_failed first left before after (Err Memory)
+  leaves_before packets batches text firsts whole is (inl kept) = leaves_nothing kept
+  leaves_before packets batches text firsts whole is (inr put) =
+      record {
+        told = λ bytes told. inr (inr (packets, firsts.told bytes told, (text, (batches, whole, is), put)));
+        took =
+            let took = firsts.took in
+            (took.0, (took.1.0, took.1.1, inr (inr (packets, took.1.2, (text, (batches, whole, is), put)))));
+      }
+
+  module _ (reading : Reading) (packets : List (List ℕ)) (batches : List (List (List ℕ)))
+      (text : List ℕ) (come : HaveCome first left reading packets) (few : length packets ≤ packet_limit)
+      (whole : AreWhole packets batches) (is : lines batches text) where
+    pub leaves_some : AppendsFront before after text →
+        LeavesAll lines report read_failed first left before after (Err NotPut)
+    leaves_some put =
+        record {
+          told = λ bytes told.
+              inr (
+                packets,
+                told_by (λ all now. Begins all now packets) first left bytes come.0 told come.1
+                    (λ others now. begins_read come.0 others reading packets few come.2),
+                (text, (batches, whole, is), put),
+              );
+          took = (
+            come.0,
+            come.1,
+            inr (
+              packets,
+              taken_by (λ all now. Begins all now packets) come.0 (begins_read come.0 [] reading packets few come.2),
+              (text, (batches, whole, is), put),
+            ),
+          );
+        }
+
+  -- a run that stops for want of memory
+  pub leaves_memory : (result : Result Ending Stop) →
+      IsErr result × IsErrAnd result (λ (stop : Stop). stop ≡ Memory) →
+      LeavesAll lines report read_failed first left before after (Err Memory) →
+      LeavesAll lines report read_failed first left before after result
+  leaves_memory (Ok ending) is leaves = absurd (cc)
+  leaves_memory (Err stop) is leaves =
+      subst (λ (s : Stop). LeavesAll lines report read_failed first left before after (Err s)) (sym is.1) leaves
+
+  -- and one that stops since a write failed
+  pub leaves_not_put : (result : Result Ending Stop) →
+      IsErr result × IsErrAnd result (λ (stop : Stop). stop ≡ NotPut) →
+      LeavesAll lines report read_failed first left before after (Err NotPut) →
+      LeavesAll lines report read_failed first left before after result
+  leaves_not_put (Ok ending) is leaves = absurd (cc)
+  leaves_not_put (Err stop) is leaves =
+      subst (λ (s : Stop). LeavesAll lines report read_failed first left before after (Err s)) (sym is.1) leaves
+
+  -- a run that stops leaves what it leaves where a write failed, and where memory ran out
+  pub leaves_stop : (stop : Stop) (A B : Type 0) →
+      OnNotPut {T = Unit {0}} (Err stop) A → OnMemory {T = Unit {0}} (Err stop) B →
+      (A → LeavesAll lines report read_failed first left before after (Err NotPut)) →
+      (B → LeavesAll lines report read_failed first left before after (Err Memory)) →
+      LeavesAll lines report read_failed first left before after (Err stop)
+  leaves_stop Memory A B a b on_a on_b = on_b b
+  leaves_stop NotPut A B a b on_a on_b = on_a a
+
+-- what is known stays known
+pub Keeps-same : (known : Option (List ℕ)) → Keeps known known
+Keeps-same None = tt
+Keeps-same (Some bytes) = refl

@@ -1,0 +1,5 @@
+pub mod LeavesLemmas
+pub mod LoopLemmas
+pub mod PacketLemmas
+pub mod ReadingLemmas
+pub mod ServingLemmas

@@ -1,0 +1,168 @@
+-- What the last lines, and a batch that could not be served or put, make of what a run leaves.
+use Rattle.std.proofs.Common.{◌≡◌, ◌≤◌, ◌+◌, ◌⊎◌, ℕ, List, [], ◌∷◌, ◌++◌, length, Option, Some, None, MatchOption, IfNone, Result, Ok, Err, inl, inr, refl, sym, ap, subst, ◌∙◌, append_assoc, length-append, arith}
+use Rattle.std.specs.List.{flat_map}
+use Rattle.std.specs.Io.KnownBytes.{Appends}
+use Rattle.std.proofs.KnownBytes.{Appends-trans}
+use Rattle.edge_traits.specs.Edge.{AppendsFront, Rose}
+use Rattle.report_text.specs.declared.parts.Ending.{Ending}
+use Rattle.capture_loop.specs.declared.stop.Stop.{Stop}
+use Rattle.capture_loop.specs.declared.stop.Stop.TheVariants.{Memory, NotPut}
+use Rattle.capture_loop.specs.Endings.{HasFailed}
+use Rattle.capture_loop.specs.Input.{packet_limit}
+use Rattle.pcapng_reader.specs.Reading.{Reading}
+use Rattle.capture_loop.specs.Reading.{HaveCome, HaveEnded}
+use Rattle.capture_loop.specs.Batches.{AreBatches, AreWhole}
+use Rattle.capture_loop.specs.Leaves.{IsMet, LeavesAll, Lines, Reports}
+use Rattle.capture_loop.specs.Looping.{HasPut, OnNotPut, Stands}
+use Rattle.capture_loop.proofs.LeavesLemmas.{AppendsFront-longer, AreBatches-last, AreBatches-whole, AreWhole-more, AreWhole-none, HaveFirst-come, HaveFirst-none, HasPut-cut, HasPut-kept, leaves_before, leaves_front, leaves_less, leaves_whole}
+
+-- all that is held is put, with more behind it
+Appends-more : (before mid after : Option (List ℕ)) (held text more : List ℕ) → HasPut before mid held text →
+    Appends mid after (held ++ more) → Appends before after (text ++ more)
+Appends-more before mid after held text more put appended =
+    subst (Appends before after)
+    (sym (append_assoc put.done held more) ∙ ap (λ (t : List ℕ). t ++ more) put.parts)
+    (Appends-trans before mid after put.done (held ++ more) put.put appended)
+
+-- no batch is whole where there are no packets
+pub none_whole : (all : List (List ℕ)) (batches : List (List (List ℕ))) → AreWhole all batches → length all ≡ 0 →
+    batches ≡ []
+none_whole all [] whole none = refl
+none_whole all (batch ∷ batches) whole none =
+    let each : length batch ≡ 2048 = whole.each.0 in
+    let sum = length-append batch (flat_map (λ (b : List (List ℕ)). b) batches) in
+    absurd (omega (arith, none, ap length whole.parts, sum, each))
+
+no_packets : (last : List (List ℕ)) → last ≡ [] → length last ≡ 0
+no_packets last none = ap length none
+
+module _ (lines : Lines) (report : Reports) (read_failed : Type 0) (first left before : Option (List ℕ))
+    (all : List (List ℕ)) (batches : List (List (List ℕ))) (ending : Ending)
+    (ended : HaveEnded packet_limit first left all ending) (cut : AreBatches all batches)
+    (met : IsMet read_failed ending) where
+  -- the last lines could not be made
+  pub end_memory : (now : Option (List ℕ)) (held done : List ℕ) → HasPut before now held done → lines batches done →
+      LeavesAll lines report read_failed first left before now (Err Memory)
+  end_memory now held done put is =
+      leaves_less lines report read_failed first left before now all batches ending done ended cut met is
+      (HasPut-kept before now held done put)
+
+  -- or not be put
+  pub end_front : (mid after : Option (List ℕ)) (held done rest text : List ℕ) → HasPut before mid held done →
+      text ≡ held ++ rest → report batches ending (done ++ rest) → AppendsFront mid after text →
+      LeavesAll lines report read_failed first left before after (Err NotPut)
+  end_front mid after held done rest text put is reported front =
+      leaves_front lines report read_failed first left before after all batches ending (done ++ rest) ended cut met
+      reported (HasPut-cut before mid after held done rest put (subst (AppendsFront mid after) is front))
+
+  pub end_whole : (mid after : Option (List ℕ)) (held done rest text : List ℕ) → HasPut before mid held done →
+      text ≡ held ++ rest → report batches ending (done ++ rest) → Appends mid after text →
+      LeavesAll lines report read_failed first left before after (Ok ending)
+  end_whole mid after held done rest text put is reported appended =
+      leaves_whole lines report read_failed first left before after all batches ending (done ++ rest) ended cut met
+      reported (Appends-more before mid after held done rest put (subst (Appends mid after) is appended))
+
+  -- the lines of the last batch could not be put
+  pub last_front : (after : Option (List ℕ)) (done : List ℕ) →
+      ((rest : List ℕ) × report batches ending (done ++ rest)) → AppendsFront before after done →
+      LeavesAll lines report read_failed first left before after (Err NotPut)
+  last_front after done more front =
+      leaves_front lines report read_failed first left before after all batches ending (done ++ more.0) ended cut met
+      more.1 (AppendsFront-longer before after done more.0 front)
+
+-- a last batch is begun where there are packets of it, or none at all
+pub last_cut : (served : List (List (List ℕ)) → List ℕ → Type 0) (first : Option (List ℕ)) (many packets : ℕ)
+    (all last : List (List ℕ)) (before now : Option (List ℕ)) (held : List ℕ) →
+    (stands : Stands served first many all before now held) → length last ≡ packets → packets ≤ 2048 →
+    (packets ≡ 0 → many ≡ 0) → AreBatches (all ++ last) (stands.batches ++ last ∷ [])
+last_cut served first many packets all last before now held stands count few begun =
+    AreBatches-last all last stands.batches stands.whole (omega (arith, count, few))
+    (λ none. none_whole all stands.batches stands.whole
+    (stands.count ∙ begun (sym count ∙ no_packets last none)))
+
+-- a run without packets has a batch all the same, and one with whole batches has them
+pub whole_cut : (all : List (List ℕ)) (batches : List (List (List ℕ))) → AreWhole all batches →
+    (length all ≡ 0 → ⊥) → AreBatches all batches
+whole_cut all batches whole some = choose (AreBatches-whole all batches whole (omega arith))
+  where
+    choose : (length all ≡ 0) ⊎ AreBatches all batches → AreBatches all batches
+    choose (inl none) = absurd (some none)
+    choose (inr cut) = cut
+
+-- the last batch could not be served
+pub last_memory : (lines : Lines) (report : Reports) (read_failed : Type 0)
+    (served : List (List (List ℕ)) → List ℕ → Type 0) (first left : Option (List ℕ)) (many : ℕ) (all : List (List ℕ))
+    (before now : Option (List ℕ)) (held : List ℕ) → (stands : Stands served first many all before now held) →
+    lines stands.batches stands.text → LeavesAll lines report read_failed first left before now (Err Memory)
+last_memory lines report read_failed served first left many all before now held stands is =
+    leaves_before lines report read_failed first left before now all stands.batches stands.text stands.firsts
+    stands.whole is (HasPut-kept before now held stands.text stands.put)
+
+-- ---- a choice
+
+-- what it holds, where it is known
+pub at_some : {X : Type 0} (N : Type 0) (S : X → Type 0) (choice : Option X) (x : X) → choice ≡ Some x →
+    MatchOption choice N S → S x
+at_some N S choice x is held = subst (λ (o : Option _). MatchOption o N S) is held
+
+pub at_none : {X : Type 0} (N : Type 0) (S : X → Type 0) (choice : Option X) → choice ≡ None →
+    MatchOption choice N S → N
+at_none N S choice is held = subst (λ (o : Option _). MatchOption o N S) is held
+
+pub if_none : {X : Type 0} {P : Type 0} (choice : Option X) → choice ≡ None → IfNone choice P → P
+if_none {X} {P} choice is held = subst (λ (o : Option X). IfNone o P) is held
+
+-- what holds anyway holds where a write failed
+pub OnNotPut-any : {T : Type 0} {P : Type 0} (result : Result T Stop) → P → OnNotPut result P
+OnNotPut-any (Ok done) p = tt
+OnNotPut-any (Err Memory) p = tt
+OnNotPut-any (Err NotPut) p = p
+
+pub none_of : (last : List (List ℕ)) → length last ≡ 0 → last ≡ []
+none_of [] none = refl
+none_of (p ∷ last) none = absurd (omega (arith, none))
+
+-- before any batch the head line is held
+pub at_start : (served : List (List (List ℕ)) → List ℕ → Type 0) (first before now : Option (List ℕ))
+    (held : List ℕ) → served [] held → HasPut before now held held → Stands served first 0 [] before now held
+at_start served first before now held done put =
+    record {
+      batches = [];
+      text = held;
+      count = refl;
+      firsts = HaveFirst-none first;
+      whole = AreWhole-none;
+      done = done;
+      put = put;
+    }
+
+-- one whole batch more
+pub Stands-more : (served served_then : List (List (List ℕ)) → List ℕ → Type 0) (first left : Option (List ℕ))
+    (reading : Reading) (many more : ℕ) (all last : List (List ℕ)) (before mid after : Option (List ℕ))
+    (held held_then lines : List ℕ) → (stands : Stands served first many all before mid held) →
+    HaveCome first left reading (all ++ last) → length last ≡ more → more ≡ 2048 → many + more ≤ packet_limit →
+    served_then (stands.batches ++ last ∷ []) (stands.text ++ lines) →
+    HasPut before after held_then (stands.text ++ lines) →
+    Stands served_then first (many + more) (all ++ last) before after held_then
+Stands-more served served_then first left reading many more all last before mid after held held_then lines stands come
+    size whole few done put =
+    let count : length (all ++ last) ≡ many + more = omega (arith, length-append all last, stands.count, size) in
+    record {
+      batches = stands.batches ++ last ∷ [];
+      text = stands.text ++ lines;
+      count = count;
+      firsts = HaveFirst-come first left reading (all ++ last) (omega (arith, count, few)) come;
+      whole = AreWhole-more all last stands.batches stands.whole (size ∙ whole);
+      done = done;
+      put = put;
+    }
+
+-- a count of faults that rose later rose from before on
+pub Rose-later : (first mid last : ℕ) → first ≤ mid → Rose mid last → Rose first last
+Rose-later first mid last still (inl rose) = inl (omega (arith, still, rose))
+Rose-later first mid last still (inr most) = inr most
+
+-- no read has failed where the input goes on
+pub none_failed : (ending : Option Ending) (before after : ℕ) → ending ≡ None → HasFailed ending before after →
+    after ≡ before
+none_failed ending before after is = subst (λ (o : Option Ending). HasFailed o before after) is

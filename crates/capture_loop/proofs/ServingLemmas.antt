@@ -1,0 +1,199 @@
+-- Which packets are served of an input, of which some bytes were taken and others are left.
+use Rattle.std.proofs.Common.{◌≡◌, ◌≤◌, ◌<◌, ℕ, ◌+◌, List, [], ◌∷◌, ◌++◌, length, take, Some, Result, Ok, Err, sym, ◌∙◌, ap, subst, refl, append_assoc, append-nil, length-append, arith, inl, inr}
+use Rattle.std.proofs.Math.Seq.{take-append_seam}
+use Rattle.pcap_reader.specs.declared.fault.CaptureFault.TheVariants.{ShortHeader}
+use Rattle.pcap_reader.specs.Capture.{file_head_length}
+use Rattle.pcap_reader.specs.Reading.{buffer_length}
+use Rattle.pcapng_reader.specs.declared.fault.AnyFault.{AnyFault}
+use Rattle.pcapng_reader.specs.declared.fault.AnyFault.TheVariants as fault
+use Rattle.pcapng_reader.specs.Input.{Input, IsPcapng}
+use Rattle.pcapng_reader.specs.Laws.{HasInput, HoldsFront, Reaches}
+use Rattle.pcapng_reader.specs.Reading.{Form, HasRead, MeetsEnding, OfBlocks, OfRecords, Reading, beyond}
+use Rattle.pcapng_reader.proofs.InputFacts.{input_refused}
+use Rattle.pcapng_reader.proofs.ReadFacts.{end_few, read_ends, read_faults, read_few, read_longer}
+use Rattle.report_text.specs.declared.parts.Ending.{Ending}
+use Rattle.report_text.specs.declared.parts.Ending.TheVariants.{Done, ReadFault, Limit, Fault}
+use Rattle.capture_loop.specs.Input.{Begins, IsFirst, ServesUpTo, TakesFew, packet_limit}
+
+-- A reader met this ending, of these bytes that were taken of its source, which then had the others left.
+abbrev pub EndsBy : (old new : Reading) → Ending → (taken others : List ℕ) → Type 0
+EndsBy old new (Done rest) taken others = MeetsEnding old new (Ok rest) taken × (others ≡ [])
+EndsBy old new (Fault found) taken others = MeetsEnding old new (Err found) taken
+EndsBy old new ReadFault taken others = (rest : ℕ) × MeetsEnding old new (Ok rest) taken
+EndsBy old new (Limit limit) taken others = ⊥
+
+-- ---- how much was taken
+
+-- some that reach no further than they may
+few_of : (bytes taken others : List ℕ) (packets next : List (List ℕ)) (form : Form) (place : ℕ) →
+    bytes ≡ taken ++ others → length next ≤ 1 → Reaches bytes (packets ++ next) form place →
+    length bytes ≤ place + beyond form + length others → TakesFew bytes (Some others) packets
+few_of bytes taken others packets next form place parts one reaches few =
+    record {
+      taken = taken;
+      others = others;
+      parts = parts;
+      rest = refl;
+      few = inr (
+        next,
+        form,
+        place,
+        one,
+        reaches,
+        omega (arith, few, ap length parts, length-append taken others),
+      );
+    }
+
+-- no packet, and no more than a buffer
+few_none : (taken others : List ℕ) → length taken ≤ buffer_length → TakesFew (taken ++ others) (Some others) []
+few_none taken others room =
+    record { taken = taken; others = others; parts = refl; rest = refl; few = inl (refl, room) }
+
+-- a buffer is no more than is allowed
+buffer_beyond : (form : Form) → buffer_length ≤ beyond form
+buffer_beyond (OfRecords order) = omega arith
+buffer_beyond (OfBlocks state) = omega arith
+
+-- where an ending was met
+few_ended : (bytes all others : List ℕ) (old new : Reading) (taken : List ℕ) (packets : List (List ℕ))
+    (ending : Result ℕ AnyFault) → bytes ≡ all ++ others → HasRead bytes old (Some (taken ++ others)) packets →
+    MeetsEnding old new ending taken → TakesFew bytes (Some others) packets
+few_ended bytes all others old new taken packets ending parts read meets =
+    let few = end_few bytes old new taken others packets ending read meets in
+    few_of bytes all others packets [] few.0 few.1 parts (omega arith)
+    (subst (λ (ps : List (List ℕ)). Reaches bytes ps few.0 few.1) (sym (append-nil packets)) few.2) few.3
+
+-- ---- the end
+
+module _ (most : ℕ) (front taken others : List ℕ) (old new : Reading) (packets : List (List ℕ))
+    (read : HasRead front old (Some []) packets) (few : length packets ≤ most) where
+  parts : front ++ (taken ++ others) ≡ (front ++ taken) ++ others
+  parts = sym (append_assoc front taken others)
+
+  -- the packets so far are all that are whole in what was taken
+  cut : (rest : ℕ) → MeetsEnding old new (Ok rest) taken → Input (front ++ taken) packets (Ok rest)
+  cut rest meets =
+      read_ends (front ++ taken) old new taken packets (Ok rest) (read_longer front [] taken old packets read) meets
+
+  takes : (ending : Result ℕ AnyFault) → MeetsEnding old new ending taken →
+      TakesFew (front ++ (taken ++ others)) (Some others) packets
+  takes ending meets =
+      few_ended (front ++ (taken ++ others)) (front ++ taken) others old new taken packets ending parts
+      (read_longer front [] (taken ++ others) old packets read) meets
+
+  -- the packets so far are served
+  pub Serves-by : (ending : Ending) → EndsBy old new ending taken others →
+      ServesUpTo most (front ++ (taken ++ others)) (Some others) packets ending
+  Serves-by (Done rest) meets =
+      let same : front ++ taken ≡ front ++ (taken ++ others) =
+      ap (λ (l : List ℕ). front ++ l) (sym (append-nil taken))
+      ∙ ap (λ (l : List ℕ). front ++ (taken ++ l)) (sym meets.1) in
+      record {
+        holds = (
+          (subst (λ (l : List ℕ). Input l packets (Ok rest)) same (cut rest meets.0), few),
+          ap (λ (l : List ℕ). Some l) meets.1,
+        );
+        takes = takes (Ok rest) meets.0;
+      }
+  Serves-by (Fault found) meets =
+      record {
+        holds = (
+          read_faults (front ++ (taken ++ others)) old new taken others packets found
+              (read_longer front [] (taken ++ others) old packets read) meets,
+          few,
+        );
+        takes = takes (Err found) meets;
+      }
+  Serves-by ReadFault meets =
+      record {
+        holds = (
+          front ++ taken,
+          others,
+          Ok meets.0,
+          parts,
+          refl,
+          inl (meets.0, refl),
+          (cut meets.0 meets.1, few),
+        );
+        takes = takes (Ok meets.0) meets.1;
+      }
+  Serves-by (Limit limit) meets = absurd meets
+
+-- one packet more was given than are served
+pub Serves-limit : (most : ℕ) (front others : List ℕ) (new : Reading) (packets : List (List ℕ)) (packet : List ℕ)
+    (limit : ℕ) → HasInput (front ++ others) → HoldsFront (front ++ others) →
+    HasRead front new (Some []) (packets ++ packet ∷ []) → length packets ≡ most → limit ≡ most →
+    ServesUpTo most (front ++ others) (Some others) packets (Limit limit)
+Serves-limit most front others new packets packet limit input first read many is =
+    let bytes : List ℕ = front ++ others in
+    let further : List (List ℕ) = packets ++ packet ∷ [] in
+    let few = read_few bytes others new further (read_longer front [] others new further read) in
+    let more = first further input.0 few.0 few.1 input.1 few.2 input.2 in
+    let all : input.0 ≡ packets ++ (packet ∷ more.0) = more.1 ∙ append_assoc packets (packet ∷ []) more.0 in
+    let longer : most < length input.0 =
+    omega (arith, ap length all, length-append packets (packet ∷ more.0), many) in
+    let served : take most input.0 ≡ packets =
+    ap (λ (n : ℕ). take n input.0) (sym many) ∙ ap (take (length packets)) all
+    ∙ take-append_seam packets (packet ∷ more.0) in
+    record {
+      holds = ((input.0, input.1, input.2, longer, sym served), is);
+      takes = few_of bytes front others packets (packet ∷ []) few.0 few.1 refl (omega arith) few.2
+          (omega (arith, few.3, buffer_beyond few.0));
+    }
+
+-- ---- an input that could not be opened
+
+-- its head shows a fault
+pub Serves-refused : (most : ℕ) (taken others : List ℕ) (found : AnyFault) →
+    Input (taken ++ others) [] (Err found) → length taken ≤ buffer_length →
+    ServesUpTo most (taken ++ others) (Some others) [] (Fault found)
+Serves-refused most taken others found input room =
+    record { holds = (input, omega arith); takes = few_none taken others room }
+
+-- fewer bytes than a head are no pcapng input
+pub short_no_pcapng : (bytes : List ℕ) → length bytes < file_head_length → IsPcapng bytes → ⊥
+short_no_pcapng bytes short h = omega (arith, short, h.whole)
+
+pub short_input : (bytes : List ℕ) → length bytes < file_head_length →
+    Input bytes [] (Err (fault.Capture (ShortHeader (length bytes))))
+short_input bytes short = input_refused bytes (ShortHeader (length bytes)) (short_no_pcapng bytes short) (short, refl)
+
+-- a read that failed before the head was there leaves no packet to serve
+pub Serves-none : (most : ℕ) (taken others : List ℕ) → length taken < file_head_length →
+    ServesUpTo most (taken ++ others) (Some others) [] ReadFault
+Serves-none most taken others fewer =
+    record {
+      holds = (
+        taken,
+        others,
+        Err (fault.Capture (ShortHeader (length taken))),
+        refl,
+        refl,
+        inr (length taken, refl),
+        (short_input taken fewer, omega arith),
+      );
+      takes = few_none taken others (omega (arith, fewer));
+    }
+
+-- ---- how it begins
+
+-- the packets that were read are its first
+pub first_read : (bytes left : List ℕ) (reading : Reading) (packets : List (List ℕ)) → length packets ≤ packet_limit →
+    HasRead bytes reading (Some left) packets → IsFirst bytes packets
+first_read bytes left reading packets few read =
+    let reach = read_few bytes left reading packets read in
+    (few, inr (reach.0, reach.1, reach.2))
+
+pub begins_read : (front others : List ℕ) (reading : Reading) (packets : List (List ℕ)) →
+    length packets ≤ packet_limit → HasRead front reading (Some []) packets →
+    Begins (front ++ others) (Some others) packets
+begins_read front others reading packets few read =
+    let bytes : List ℕ = front ++ others in
+    let longer = read_longer front [] others reading packets read in
+    let reach = read_few bytes others reading packets longer in
+    record {
+      first = first_read bytes others reading packets few longer;
+      takes = few_of bytes front others packets [] reach.0 reach.1 refl (omega arith)
+          (subst (λ (ps : List (List ℕ)). Reaches bytes ps reach.0 reach.1) (sym (append-nil packets)) reach.2)
+          (omega (arith, reach.3, buffer_beyond reach.0));
+    }

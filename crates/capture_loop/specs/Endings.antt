@@ -1,0 +1,32 @@
+-- How an input ends that could not be opened.
+use Rattle.std.specs.Prelude.{◌≡◌, ℕ, Option, Some, None}
+use Rattle.edge_traits.specs.Edge.{count_after}
+use Rattle.pcap_reader.specs.declared.fault.CaptureFault.TheVariants as capture
+use Rattle.pcapng_reader.specs.declared.fault.AnyFault.{AnyFault}
+use Rattle.pcapng_reader.specs.declared.fault.AnyFault.TheVariants as fault
+use Rattle.report_text.specs.declared.parts.Ending.{Ending}
+use Rattle.report_text.specs.declared.parts.Ending.TheVariants.{ReadFault, Fault}
+use Rattle.capture_loop.specs.declared.opening.Unopened.{Unopened}
+use Rattle.capture_loop.specs.declared.opening.Unopened.TheVariants.{Memory, Ends}
+
+-- the ending that a fault of the reader is; want of memory is none
+abbrev pub ending_at : AnyFault → Option Ending
+ending_at (fault.Capture capture.ReadFault) = Some ReadFault
+ending_at (fault.Capture capture.Memory) = None
+ending_at found = Some (Fault found)
+
+-- the ending that a fault behind the head is, where there is never want of memory
+abbrev pub ending_of : AnyFault → Ending
+ending_of (fault.Capture capture.ReadFault) = ReadFault
+ending_of found = Fault found
+
+-- a fact of the ending of an input that could not be opened
+abbrev pub OnEnds : Unopened → (Ending → Type 0) → Type 0
+OnEnds Memory P = Unit {0}
+OnEnds (Ends ending) P = P ending
+
+-- how many reads have failed where an input has this ending, or goes on: one more, where a failed read ended it
+abbrev pub HasFailed : Option Ending → (before after : ℕ) → Type 0
+HasFailed None before after = after ≡ before
+HasFailed (Some ReadFault) before after = after ≡ count_after before 1
+HasFailed (Some ending) before after = after ≡ before

@@ -1,0 +1,24 @@
+-- What was read of a batch.
+use Rattle.std.specs.Prelude.{◌≡◌, ◌≤◌, ℕ, ◌+◌, List, ◌++◌, length, Option, MatchOption, false}
+use Rattle.pcapng_reader.specs.Reading.{Reading}
+use Rattle.capture_loop.specs.declared.intake.Part.{Part}
+use Rattle.capture_loop.specs.declared.job.TheConstants.{BATCH, PACKET_LIMIT}
+use Rattle.capture_loop.specs.Reading.{HaveCome, HaveEnded}
+
+-- Of a batch behind so many packets, of which the old ones were taken already, these more were read, by a reader that
+-- stood at `old`, of a source with these bytes left before and now.
+abbrev pub IsRead : (most many : ℕ) → (before now : Option (List ℕ)) → (old new : Reading) →
+    (taken more : List (List ℕ)) → Part → Type 0
+IsRead most many before now old new taken more part =
+    (first : Option (List ℕ)) (all : List (List ℕ)) → length all ≡ many → HaveCome first before old (all ++ taken) →
+    MatchOption part.ending (HaveCome first now new (all ++ (taken ++ more)))
+    (HaveEnded most first now (all ++ (taken ++ more)))
+
+-- So these were taken of what a reader held, whatever its source has left.
+pub record IsTaken (old new : Reading) (many : ℕ) (more : List (List ℕ)) : Type 0 where
+  pub come : (first now : Option (List ℕ)) (all : List (List ℕ)) → HaveCome first now old all →
+      HaveCome first now new (all ++ more)
+  pub going : new.ended ≡ false
+  pub given : new.given ≡ many + length more
+  pub few : length more ≤ BATCH
+  pub limited : many + length more ≤ PACKET_LIMIT

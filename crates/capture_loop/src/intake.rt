@@ -1,0 +1,100 @@
+//! The packets of a batch.
+
+ghost use Rattle.std.specs.Prelude.{◌≡◌, ◌<◌, ◌≤◌, ◌+◌, ℕ, List, [], ◌++◌, false, length, Option, Some, MatchOption, IfOk, IfSome, IfNone, OnErr};
+ghost use Rattle.edge_traits.specs.Edge.{Rose};
+ghost use Rattle.report_text.specs.Report.{IsEnding};
+ghost use Rattle.capture_loop.specs.Endings.{HasFailed};
+ghost use Rattle.capture_loop.specs.Intake.{IsRead, IsTaken};
+
+use crate::job::{BATCH, PACKET_LIMIT, Pile};
+use crate::opening::{read_on, read_past};
+use edge_traits::Source;
+use pcapng_reader::AnyReader;
+use report_text::Ending;
+use std::alloc::AllocError;
+
+/// What was read of a batch.
+#[derive(Clone, Copy)]
+pub struct Part {
+    /// How many packets were read whole.
+    pub packets: u32,
+    /// How the input ended, where it did.
+    pub ending: Option<Ending>,
+}
+
+/// Reads the packets of a batch, behind so many that were read before, where so many of the batch were taken already.
+/// No more than `limit` are taken in all.
+pub fn read_rest<S: Source, P: Pile>(
+    reader: &mut AnyReader,
+    source: &mut S,
+    before: u32,
+    taken: u32,
+    limit: u32,
+    pile: &mut P,
+) -> Result<Part, AllocError>
+    requires going { reader.old.ended ≡ false }
+    requires given { reader.old.given ≡ before + taken }
+    requires few { before < limit }
+    requires limited { limit ≤ PACKET_LIMIT }
+    requires few_taken { (taken ≤ BATCH) × (before + taken ≤ limit) }
+    requires piled { (packets : List (List ℕ)) × P.holds pile.old before packets × (length packets ≡ taken) }
+    ensures read { IfOk result (λ part. (old : List (List ℕ)) → P.holds pile.old before old → length old ≡ taken →
+        (more : List (List ℕ)) × P.holds pile.new before (old ++ more) × (length (old ++ more) ≡ part.packets)
+        × IsRead limit before (S.left source.old) (S.left source.new) reader.old reader.new old more part) }
+    ensures goes_on { IfOk result (λ part. IfNone part.ending ((reader.new.ended ≡ false)
+        × (reader.new.given ≡ before + part.packets) × (part.packets ≡ BATCH)
+        × (before + part.packets < limit))) }
+    ensures few_packets { IfOk result (λ part. (part.packets ≤ BATCH) × (before + part.packets ≤ limit)) }
+    ensures ending { IfOk result (λ part. IfSome part.ending IsEnding) }
+    ensures read_fault { IfOk result (λ part. part.ending ≡ Some Ending.ReadFault →
+        Rose (S.faults source.old) (S.faults source.new)) }
+    ensures counted { S.faults source.old ≤ S.faults source.new }
+    ensures failed { IfOk result (λ part. HasFailed part.ending (S.failed source.old) (S.failed source.new)) }
+    ensures none_failed { OnErr result (S.failed source.new ≡ S.failed source.old) }
+{
+    let most = BATCH.min(limit - before);
+    for packets in taken..most {
+        if let Some(ending) = read_on(reader, source) {
+            return Ok(Part {
+                packets,
+                ending: Some(ending),
+            });
+        }
+        pile.take(before + packets + 1, reader.packet())?;
+    }
+    if before + most < limit {
+        return Ok(Part {
+            packets: most,
+            ending: None,
+        });
+    }
+    Ok(Part {
+        packets: most,
+        ending: Some(read_past(reader, source, limit)),
+    })
+}
+
+/// Takes the packets that the reader holds, behind so many, into a pile that is empty, as far as they are of one batch,
+/// and prepares the pile where the batch is whole. Nothing is read.
+pub fn take_held<P: Pile>(
+    reader: &mut AnyReader,
+    before: u32,
+    pile: &mut P,
+) -> Result<u32, AllocError>
+    requires going { reader.old.ended ≡ false }
+    requires given { reader.old.given ≡ before }
+    requires few { before < PACKET_LIMIT }
+    requires none { P.holds pile.old before [] }
+    ensures { IfOk result (λ packets. (more : List (List ℕ)) × P.holds pile.new before more
+        × (length more ≡ packets) × IsTaken reader.old reader.new before more) }
+{
+    let most = BATCH.min(PACKET_LIMIT - before);
+    for packets in 0..most {
+        if !reader.next_held() {
+            return Ok(packets);
+        }
+        pile.take(before + packets + 1, reader.packet())?;
+    }
+    pile.prepare()?;
+    Ok(most)
+}

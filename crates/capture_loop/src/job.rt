@@ -1,0 +1,111 @@
+//! What a mode makes of the packets of a capture.
+
+ghost use Rattle.std.specs.Prelude.{◌≡◌, ◌≤◌, ◌+◌, ◌∷◌, ◌++◌, [], ℕ, List, length, IfOk, OnOk};
+ghost use Rattle.report_text.specs.declared.parts.Ending.{Ending as AnEnding};
+ghost use Rattle.report_text.specs.Report.{IsEnding};
+
+use edge_traits::Gate;
+use report_text::Ending;
+use std::alloc::{AllocError, Global};
+use std::thread::Threads;
+
+/// What all batches of a run are served with.
+#[derive(Drop)]
+pub struct Means<'a, R: Threads + Sync, G: Gate + Sync> {
+    /// Where threads come from.
+    pub rt: &'a R,
+    /// Where memory comes from.
+    pub alloc: Global,
+    /// What callers pass before each call.
+    pub gate: &'a G,
+}
+
+/// The packets of a batch, and those of the next one that are taken while it is served.
+#[derive(Drop)]
+pub struct Piles<P: Pile> {
+    pub now: P,
+    pub next: P,
+}
+
+/// How many packets a batch has; the last one may have fewer.
+pub const BATCH: u32 = 2_048;
+
+/// How many packets are taken at most.
+pub const PACKET_LIMIT: u32 = 4_000_000;
+
+/// What is kept of the packets of a batch until they are served.
+pub trait Pile {
+    // It has these packets, which stand behind so many others.
+    ghost holds: { Self → ℕ → List (List ℕ) → Type 0 };
+
+    /// Takes the packet with this number, from 1.
+    fn take(&mut self, number: u32, packet: &[u8]) -> Result<(), AllocError>
+        requires some { (before : ℕ) × (packets : List (List ℕ)) × holds self.old before packets
+            × (number ≡ before + length packets + 1) × (length packets + 1 ≤ BATCH) }
+        requires short { length packet.now ≤ 262144 }
+        ensures { OnOk result ((before : ℕ) (packets : List (List ℕ)) → holds self.old before packets →
+            number ≡ before + length packets + 1 → holds self.new before (packets ++ packet.now ∷ [])) };
+
+    /// Does what can be done of a whole batch before it is served.
+    fn prepare(&mut self) -> Result<(), AllocError>
+        requires some { (before : ℕ) × (packets : List (List ℕ)) × holds self.old before packets }
+        ensures { OnOk result ((before : ℕ) (packets : List (List ℕ)) → holds self.old before packets →
+            holds self.new before packets) };
+
+    /// Gives up all its packets; the next one stands behind so many.
+    fn clear(&mut self, before: u32)
+        ensures { holds self.new before [] };
+}
+
+/// A mode that goes through a capture batch by batch, by a plan.
+pub trait Job<P> {
+    /// What it keeps of a batch's packets.
+    type Pile: Pile;
+
+    // The text is the head line and the lines of these batches; the text is a report of them, with this ending.
+    ghost lines: { P → List (List (List ℕ)) → List ℕ → Type 0 };
+
+    ghost report: { P → List (List (List ℕ)) → AnEnding → List ℕ → Type 0 };
+
+    // So many packets were served.
+    ghost going: { Self → ℕ → Type 0 };
+
+    // By this plan these batches were served, and this is the text of them.
+    ghost done: { Self → P → List (List (List ℕ)) → List ℕ → Type 0 };
+
+    /// Serves the packets of one batch more, and appends their lines. Before the caller's thread serves it does this
+    /// once, and answers what this gave. The only error is want of memory.
+    fn serve<R: Threads + Sync, G: Gate + Sync, F: FnMut() -> A, A: Drop>(
+        &mut self,
+        means: &Means<R, G>,
+        pile: &mut Self::Pile,
+        text: &mut Vec<u8>,
+        beside: &mut F,
+    ) -> Result<A, AllocError>
+        requires going { (before : ℕ) × (packets : List (List ℕ)) × going self.old before
+            × Self.Pile.holds pile.old before packets × (length packets ≤ BATCH)
+            × (before + length packets ≤ PACKET_LIMIT) }
+        requires beside { F.pre beside.old }
+        ensures going { OnOk result ((before : ℕ) (packets : List (List ℕ)) → going self.old before →
+            Self.Pile.holds pile.old before packets → going self.new (before + length packets)) }
+        ensures served { OnOk result ((plan : P) (batches : List (List (List ℕ))) (put : List ℕ) (before : ℕ)
+            (packets : List (List ℕ)) → done self.old plan batches put → going self.old before →
+            Self.Pile.holds pile.old before packets → (lines : List ℕ) × (text.new.items ≡ text.old.items ++ lines)
+            × done self.new plan (batches ++ packets ∷ []) (put ++ lines)) }
+        ensures beside { IfOk result (λ made. F.step beside.old made beside.new) };
+
+    /// Appends the last lines. The only error is want of memory.
+    fn finish(&self, packets: u32, ending: &Ending, text: &mut Vec<u8>) -> Result<(), AllocError>
+        requires going { going self.now packets }
+        requires ending { IsEnding ending.now }
+        ensures { OnOk result ((plan : P) (batches : List (List (List ℕ))) (put : List ℕ) →
+            done self.now plan batches put → (rest : List ℕ) × (text.new.items ≡ text.old.items ++ rest)
+            × report plan batches ending.now (put ++ rest)) };
+
+    // The text of what was served is that of its lines, and goes on to a report with each ending.
+    ghost told: { (job : Self) (plan : P) (batches : List (List (List ℕ))) (put : List ℕ) →
+        done job plan batches put → lines plan batches put };
+
+    ghost begins: { (job : Self) (plan : P) (batches : List (List (List ℕ))) (put : List ℕ) (ending : AnEnding) →
+        done job plan batches put → (rest : List ℕ) × report plan batches ending (put ++ rest) };
+}

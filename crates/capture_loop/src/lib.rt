@@ -1,0 +1,15 @@
+//! One loop for every mode that goes through a capture batch by batch: what is read, in which batches it is handed on, and
+//! what is put.
+#![tactic(auto)]
+
+mod intake;
+mod job;
+mod looping;
+mod opening;
+mod stop;
+
+pub use intake::{Part, read_rest, take_held};
+pub use job::{BATCH, Job, Means, PACKET_LIMIT, Pile, Piles};
+pub use looping::run_job;
+pub use opening::{Unopened, open, read_on, read_past};
+pub use stop::Stop;

@@ -1,0 +1,13 @@
+pub mod AnswerFacts
+pub mod AnyFacts
+pub mod BlockFacts
+pub mod Decisions
+pub mod EveryInput
+pub mod InputFacts
+pub mod LongFacts
+pub mod LookFacts
+pub mod NextFacts
+pub mod OneInput
+pub mod PassFacts
+pub mod ReadFacts
+pub mod WaitFacts

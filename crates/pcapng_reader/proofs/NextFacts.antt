@@ -1,0 +1,150 @@
+-- What a block that is given out or passed makes of a reader.
+use Rattle.std.proofs.Common.{◌≡◌, ◌≤◌, ℕ, ◌+◌, Bool, true, false, if◌then◌else◌, nat_eq, List, [], ◌∷◌, ◌++◌, length, take, drop, sym, ap, ◌∙◌, subst, inl, inr, refl, arith, append-nil, length-drop, length-take-le, take-append-drop}
+use Rattle.std.proofs.lemmas.Bool.{cases_lt}
+use Rattle.std.proofs.lemmas.List.{drop-append-le, take-append-le}
+use Rattle.pcap_reader.specs.declared.order.Order.{Order}
+use Rattle.pcap_reader.specs.Capture.{number}
+use Rattle.pcap_reader.specs.Reading.{buffer_length}
+use Rattle.pcapng_reader.specs.declared.section.Interface.{Interface as AnInterface}
+use Rattle.pcapng_reader.specs.declared.block.Kind.{Kind}
+use Rattle.pcapng_reader.specs.declared.block.Kind.TheVariants.{Section, Interface, Enhanced, Simple, Other}
+use Rattle.pcapng_reader.specs.declared.block.Seen.{Seen}
+use Rattle.pcapng_reader.specs.declared.block.Seen.TheVariants as seen
+use Rattle.pcapng_reader.specs.Section.{State}
+use Rattle.pcapng_reader.specs.Blocks.{AreBlocks, IsBlock, IsTooLong, Sees, SeesKind, given_length, interface_at, padded, simple_length}
+use Rattle.pcapng_reader.specs.Reading.{AreParts, Form, GivesPacket, HoldsPacket, OfBlocks, Reading}
+use Rattle.pcapng_reader.proofs.BlockFacts.{least_4, whole_parts}
+use Rattle.pcapng_reader.proofs.EveryInput.{first_block}
+
+-- ---- where a packet lies
+
+-- no more is given than was captured
+pub given_le : (flag : Bool) (captured : ℕ) → (if flag then captured else 0) ≤ captured
+given_le true captured = omega arith
+given_le false captured = omega arith
+
+-- where the part of a block ends that is given
+end_of : Seen → ℕ
+end_of (seen.Packet size at count) = at + count
+end_of seen.Cut = 0
+end_of (seen.Fault found) = 0
+end_of (seen.Section size order) = 0
+end_of (seen.Interface size interface) = 0
+end_of (seen.Other size) = 0
+
+-- a captured length that is not too long fits
+fits : (captured at size : ℕ) → (IsTooLong captured at size → ⊥) → at + captured + 4 ≤ size
+fits captured at size not = elim (cases_lt size (at + padded captured + 4)) [
+  | inl few ↦ absurd (not (inr few))
+  | inr enough ↦ omega (arith, enough)
+]
+
+-- and so does what is given of it
+fits_given : (interface : AnInterface) (captured at size : ℕ) → (IsTooLong captured at size → ⊥) →
+    at + given_length interface captured + 4 ≤ size
+fits_given interface captured at size not =
+    omega (arith, fits captured at size not, given_le (nat_eq interface.link 1) captured)
+
+-- what is given of a packet lies in its block, before the second length
+packet_end : (state : State) (offset : ℕ) (order : Order) (kind : Kind) (size : ℕ) (bytes : List ℕ) (x : Seen) →
+    12 ≤ size → SeesKind state offset order kind size bytes x → end_of x + 4 ≤ size
+unfolding end_of
+packet_end state offset order Section size bytes x least (inr p) = omega (arith, least, ap end_of p.1)
+packet_end state offset order Section size bytes x least (inl (v, inl p)) = omega (arith, least, ap end_of p.1)
+packet_end state offset order Section size bytes x least (inl (v, inr p)) = omega (arith, least, ap end_of p.1)
+packet_end state offset order Interface size bytes x least (inl p) = omega (arith, least, ap end_of p.1)
+packet_end state offset order Interface size bytes x least (inr (v, inl p)) = omega (arith, least, ap end_of p.1)
+packet_end state offset order Interface size bytes x least (inr (v, inr p)) = omega (arith, least, ap end_of p.1)
+packet_end state offset order Enhanced size bytes x least (inl p) = omega (arith, least, ap end_of p.1)
+packet_end state offset order Enhanced size bytes x least (inr (v, inl p)) = omega (arith, least, ap end_of p.1)
+packet_end state offset order Enhanced size bytes x least (inr (v, inr p)) =
+    let end : end_of x
+    ≡ 28 + given_length (interface_at state (number order 4 (drop 8 bytes))) (number order 4 (drop 20 bytes)) =
+    ap end_of p.1 in
+    omega (
+      arith,
+      fits_given (interface_at state (number order 4 (drop 8 bytes))) (number order 4 (drop 20 bytes)) 28 size p.0,
+      end,
+    )
+packet_end state offset order Simple size bytes x least (inl p) = omega (arith, least, ap end_of p.1)
+packet_end state offset order Simple size bytes x least (inr (v, inl p)) = omega (arith, least, ap end_of p.1)
+packet_end state offset order Simple size bytes x least (inr (v, inr p)) =
+    let captured : ℕ = simple_length (interface_at state 0) (number order 4 (drop 8 bytes)) in
+    let end : end_of x ≡ 12 + given_length (interface_at state 0) captured = ap end_of p.1 in
+    omega (arith, fits_given (interface_at state 0) captured 12 size p.0, end)
+packet_end state offset order Other size bytes x least (inl p) = omega (arith, least, ap end_of p.1)
+packet_end state offset order Other size bytes x least (inr p) = omega (arith, least, ap end_of p.1)
+
+-- where a whole block with a packet lies
+pub record PacketLies (bytes : List ℕ) (size at count : ℕ) : Type 0 where
+  pub part : at + count ≤ size
+  pub there : size ≤ length bytes
+  pub limit : size ≤ 16777216
+
+-- a whole block with a packet lies so
+pub packet_lies : (state : State) (offset : ℕ) (bytes : List ℕ) (size at count : ℕ) →
+    Sees state offset bytes (seen.Packet size at count) → PacketLies bytes size at count
+unfolding end_of
+packet_lies state offset bytes size at count shows =
+    let parts = whole_parts state offset bytes (seen.Packet size at count) size refl shows in
+    let end = packet_end state offset parts.order parts.kind size bytes (seen.Packet size at count)
+    (least_4 parts.kind size parts.right) parts.inside in
+    record { part = omega (arith, end); there = parts.there; limit = parts.right.1 }
+
+-- ---- a packet is given out
+
+-- a reader behind the block that the bytes begin with
+abbrev pub behind_packet : Reading → Form → List ℕ → (size at count : ℕ) → Reading
+behind_packet old form bytes size at count =
+    record {
+      form = form;
+      pending = drop size bytes;
+      packet = take count (drop at bytes);
+      offset = old.offset + size;
+      given = old.given + 1;
+      ended = old.ended;
+    }
+
+-- a part of a front is that of the whole
+pub part_of_front : (bytes : List ℕ) (size at count : ℕ) → at + count ≤ size → size ≤ length bytes →
+    take count (drop at (take size bytes)) ≡ take count (drop at bytes)
+part_of_front bytes size at count part there =
+    let front : List ℕ = take size bytes in
+    let long : length front ≡ size = length-take-le size bytes there in
+    let inside : count ≤ length (drop at front) = omega (arith, length-drop at front, long, part) in
+    sym (ap (λ (l : List ℕ). take count (drop at l)) (sym (take-append-drop size bytes))
+    ∙ ap (take count) (drop-append-le at front (drop size bytes) (omega (arith, long, part)))
+    ∙ take-append-le count (drop at front) (drop size bytes) inside)
+
+-- where bytes begin with a block that has a packet, it is given out
+pub gives_packet : (old : Reading) (state : State) (bytes taken : List ℕ) (size at count : ℕ) →
+    old.form ≡ OfBlocks state → old.ended ≡ false → old.pending ++ taken ≡ bytes → length bytes ≤ buffer_length →
+    Sees state old.offset bytes (seen.Packet size at count) →
+    GivesPacket old (behind_packet old (OfBlocks state) bytes size at count) taken
+gives_packet old state bytes taken size at count form going held room shows =
+    let lies = packet_lies state old.offset bytes size at count shows in
+    let block : List ℕ = take size bytes in
+    let long : length block ≡ size = length-take-le size bytes lies.there in
+    let is : IsBlock state old.offset block (seen.Packet size at count) =
+    first_block state old.offset bytes (seen.Packet size at count) size refl shows in
+    let packet : take count (drop at bytes) ≡ take count (drop at block) =
+    sym (part_of_front bytes size at count lies.part lies.there) in
+    let each : AreBlocks state old.offset (block ∷ []) (take count (drop at bytes) ∷ []) state =
+    (seen.Packet size at count, [], is, (refl, refl), ap (λ (l : List ℕ). l ∷ []) packet) in
+    let here : AreParts (OfBlocks state) old.offset block (take count (drop at bytes) ∷ []) (OfBlocks state) =
+    (block ∷ [], state, each, sym (append-nil block), refl) in
+    record {
+      passed = block;
+      parts = subst (λ (f : Form). AreParts f old.offset block (take count (drop at bytes) ∷ []) (OfBlocks state))
+          (sym form) here;
+      held = held ∙ sym (take-append-drop size bytes);
+      room = omega (arith, length-drop size bytes, room);
+      offset = omega (arith, long);
+      given = refl;
+      goes_on = going;
+    }
+
+-- a packet that is held, of a reader that is seen by its fields
+pub held_by : (seen_as now : Reading) → seen_as ≡ now → HoldsPacket now.form now.offset now.pending →
+    HoldsPacket seen_as.form seen_as.offset seen_as.pending
+held_by seen_as now is = subst (λ (r : Reading). HoldsPacket r.form r.offset r.pending) (sym is)

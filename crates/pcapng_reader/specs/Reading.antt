@@ -1,0 +1,172 @@
+-- A reader of an input as its clauses see it, and what its calls do to it.
+use Rattle.std.specs.Prelude.{◌≡◌, ◌≤◌, ◌<◌, ℕ, ◌+◌, ◌++◌, Bool, true, false, List, [], ◌∷◌, length, drop, All, Option, Some, IfSome, Result, Ok, Err}
+use Rattle.std.specs.List.{flat_map}
+use Rattle.std.specs.Io.KnownBytes.{prepend_known}
+use Rattle.pcap_reader.specs.declared.order.Order.{Order}
+use Rattle.pcap_reader.specs.declared.fault.CaptureFault.{CaptureFault}
+use Rattle.pcap_reader.specs.declared.fault.CaptureFault.TheVariants as capture
+use Rattle.pcap_reader.specs.declared.reader.Item.{Item}
+use Rattle.pcap_reader.specs.declared.reader.Item.TheVariants.{Packet, End, Rest}
+use Rattle.pcap_reader.specs.Capture.{Saved, bytes_of, HasFileHead, IsRemainder, IsSaved, ShowsFault, file_head_length}
+use Rattle.pcap_reader.specs.Reading.{Took, TakesFewer, buffer_length}
+use Rattle.pcapng_reader.specs.declared.fault.AnyFault.{AnyFault}
+use Rattle.pcapng_reader.specs.declared.fault.AnyFault.TheVariants as fault
+use Rattle.pcapng_reader.specs.Section.{State, opening}
+use Rattle.pcap_reader.specs.Record.{BeginsRecord}
+use Rattle.pcapng_reader.specs.declared.block.Seen.TheVariants as seen
+use Rattle.pcapng_reader.specs.Blocks.{AreBlocks, IsLast, Sees}
+use Rattle.pcapng_reader.specs.Input.{IsPcapng, any_ending, packets_in}
+
+-- ---- how an input is cut
+
+-- how the bytes still to come are cut: into records of a savefile of that order, or into blocks, where those before
+-- have set that
+pub data Form : Type 0 where
+  OfRecords : (order : Order) → Form
+  OfBlocks : (state : State) → Form
+
+-- how many bytes stand before the first part: a savefile's head
+abbrev pub head_length : Form → ℕ
+head_length (OfRecords order) = file_head_length
+head_length (OfBlocks state) = 0
+
+-- the bytes begin as an input of that form does
+abbrev pub IsOpened : Form → List ℕ → Type 0
+IsOpened (OfRecords order) bytes = HasFileHead order bytes
+IsOpened (OfBlocks state) bytes = IsPcapng bytes × (state ≡ opening)
+
+-- from that form and offset on the bytes are whole records, or whole blocks, that give these packets and leave that
+-- form
+abbrev pub AreParts : Form → ℕ → List ℕ → List (List ℕ) → Form → Type 0
+AreParts (OfRecords order) offset bytes packets last =
+    (records : List Saved) × All (IsSaved order) records × (bytes ≡ flat_map bytes_of records)
+    × (packets ≡ packets_in records) × (last ≡ OfRecords order)
+AreParts (OfBlocks state) offset bytes packets last =
+    (each : List (List ℕ)) × (behind : State) × AreBlocks state offset each packets behind
+    × (bytes ≡ flat_map (λ block. block) each) × (last ≡ OfBlocks behind)
+
+-- behind whole parts, at that offset, these bytes give that ending
+abbrev pub IsEnd : Form → ℕ → List ℕ → Result ℕ AnyFault → Type 0
+IsEnd (OfRecords order) offset bytes ending =
+    (kept : Result ℕ CaptureFault) × IsRemainder order offset bytes kept × (ending ≡ any_ending kept)
+IsEnd (OfBlocks state) offset bytes ending = IsLast state offset bytes ending
+
+-- the bytes begin with a whole record, or with a whole block that has a packet
+abbrev pub HoldsPacket : Form → ℕ → List ℕ → Type 0
+HoldsPacket (OfRecords order) offset bytes = (captured : ℕ) × BeginsRecord order bytes captured
+HoldsPacket (OfBlocks state) offset bytes =
+    (size : ℕ) × (at : ℕ) × (count : ℕ) × Sees state offset bytes (seen.Packet size at count)
+
+-- ---- a reader
+
+-- what is known of a reader between two calls
+pub record Reading : Type 0 where
+  -- how the bytes still to come are cut
+  pub form : Form
+  -- the bytes that were taken from the source, and not yet passed
+  pub pending : List ℕ
+  -- the bytes of the packet that was given last
+  pub packet : List ℕ
+  -- where the next record or block starts, in bytes from the input's first
+  pub offset : ℕ
+  -- how many packets were given
+  pub given : ℕ
+  -- an end, a rest or a fault was answered
+  pub ended : Bool
+
+-- The most bytes that are taken of a source beyond the parts that were passed: for a savefile a buffer, and for pcapng
+-- a block that is read and dropped, and a buffer.
+abbrev pub beyond : Form → ℕ
+beyond (OfRecords order) = buffer_length
+beyond (OfBlocks state) = 17301504
+
+-- what was taken of the source shows the form, what is not the head is held, and all has room in the buffer
+abbrev pub IsOpenedOn : Reading → List ℕ → Type 0
+IsOpenedOn reading taken =
+    IsOpened reading.form taken × (reading.pending ≡ drop (head_length reading.form) taken)
+    × (length taken ≤ buffer_length)
+
+-- the reader stands before the first record or block, and has given nothing
+pub record IsAtStart (reading : Reading) : Type 0 where
+  pub offset : reading.offset ≡ head_length reading.form
+  pub given : reading.given ≡ 0
+  pub packet : reading.packet ≡ []
+  pub going : reading.ended ≡ false
+
+-- One packet was given out, of what was held and what was taken of the source: behind parts without a packet.
+pub record GivesPacket (old new : Reading) (taken : List ℕ) : Type 0 where
+  pub passed : List ℕ
+  pub parts : AreParts old.form old.offset passed (new.packet ∷ []) new.form
+  pub held : old.pending ++ taken ≡ passed ++ new.pending
+  pub room : length new.pending ≤ buffer_length
+  pub offset : new.offset ≡ old.offset + length passed
+  pub given : new.given ≡ old.given + 1
+  pub goes_on : new.ended ≡ false
+
+-- An ending was met, of what was held and what was taken of the source: behind parts without a packet.
+pub record MeetsEnding (old new : Reading) (ending : Result ℕ AnyFault) (taken : List ℕ) : Type 0 where
+  pub passed : List ℕ
+  pub last : Form
+  pub parts : AreParts old.form old.offset passed [] last
+  pub rest : List ℕ
+  pub held : old.pending ++ taken ≡ passed ++ rest
+  pub ends : IsEnd last (old.offset + length passed) rest ending
+  pub room : length rest ≤ beyond last
+  pub packet : new.packet ≡ []
+  pub given : new.given ≡ old.given
+  pub ended : new.ended ≡ true
+
+-- the bytes still to come: those that the reader holds, and those left in its source, where it tells them
+abbrev pub to_come : Reading → Option (List ℕ) → Option (List ℕ)
+to_come reading left = prepend_known reading.pending left
+
+-- Of the bytes of an input these packets have been given, and of its source these bytes are left. The reader stands
+-- behind the parts that have the packets.
+pub record HasRead (bytes : List ℕ) (reading : Reading) (left : Option (List ℕ)) (packets : List (List ℕ)) :
+    Type 0 where
+  pub form : Form
+  pub opened : IsOpened form bytes
+  pub passed : List ℕ
+  pub parts : AreParts form (head_length form) passed packets reading.form
+  pub more : List ℕ
+  pub told : to_come reading left ≡ Some more
+  pub whole : drop (head_length form) bytes ≡ passed ++ more
+  pub offset : reading.offset ≡ head_length form + length passed
+  pub room : length reading.pending ≤ buffer_length
+
+-- these packets were given, one call behind the other, of what was held and what was taken of the source
+abbrev pub GivesAll : Reading → List (List ℕ) → (taken : List ℕ) → Reading → Type 0
+GivesAll old [] taken last = (taken ≡ []) × (last ≡ old)
+GivesAll old (packet ∷ packets) taken last =
+    (new : Reading) × (first : List ℕ) × (more : List ℕ) × GivesPacket old new first × (packet ≡ new.packet)
+    × (taken ≡ first ++ more) × GivesAll new packets more last
+
+-- what `next` answers, by what it took of a source whose bytes were `before` and are `after`, where told
+abbrev pub Answers : (old new : Reading) (before after : Option (List ℕ)) → Result Item AnyFault → Type 0
+Answers old new before after (Ok Packet) = Took before after (GivesPacket old new)
+Answers old new before after (Ok End) =
+    Took before after (λ taken. MeetsEnding old new (Ok 0) taken × IfSome before (λ bytes. bytes ≡ taken))
+Answers old new before after (Ok (Rest left)) =
+    (0 < left)
+    × Took before after (λ taken. MeetsEnding old new (Ok left) taken × IfSome before (λ bytes. bytes ≡ taken))
+Answers old new before after (Err (fault.Capture capture.ReadFault)) =
+    Took before after (λ taken. (left : ℕ) × MeetsEnding old new (Ok left) taken)
+Answers old new before after (Err found) = Took before after (MeetsEnding old new (Err found))
+
+-- a fact of every answer but that a read failed
+abbrev pub UnlessReadFault : {T : Type 0} → Result T AnyFault → Type 0 → Type 0
+UnlessReadFault (Ok answer) P = P
+UnlessReadFault (Err (fault.Capture capture.ReadFault)) P = Unit {0}
+UnlessReadFault (Err found) P = P
+
+-- What `open` answers: the fault of a file head, by what was taken, which has room in the buffer. Want of memory comes
+-- before anything is taken.
+abbrev pub OnRefused : AnyFault → (before after : Option (List ℕ)) → Type 0
+OnRefused (fault.Capture capture.ReadFault) before after = TakesFewer file_head_length before after
+OnRefused (fault.Capture capture.Memory) before after = before ≡ after
+OnRefused (fault.Capture (capture.ShortHeader have)) before after =
+    Took before after
+    (λ taken. ShowsFault taken (capture.ShortHeader have) × IfSome before (λ bytes. bytes ≡ taken))
+OnRefused (fault.Capture found) before after =
+    Took before after (λ taken. (¬ IsPcapng taken) × ShowsFault taken found × (length taken ≤ buffer_length))
+OnRefused found before after = ⊥

@@ -1,0 +1,171 @@
+//! A reader of a savefile or of a pcapng input, by its first bytes.
+
+ghost use Rattle.std.specs.Prelude.{◌≡◌, ◌≤◌, ◌<◌, ◌-◌, ◌^◌, [], false, true, length, drop, Err, IfOk, IfErr, OnErr};
+ghost use Rattle.edge_traits.specs.Edge.{Rose, count_after};
+ghost use Rattle.pcap_reader.specs.declared.fault.CaptureFault.TheVariants.{Memory, ReadFault};
+ghost use Rattle.pcap_reader.specs.Reading.{Took};
+ghost use Rattle.pcapng_reader.specs.declared.fault.AnyFault.TheVariants.{Capture};
+ghost use Rattle.pcap_reader.specs.Capture.{ShowsFault};
+ghost use Rattle.pcapng_reader.specs.Section.{opening};
+ghost use Rattle.pcapng_reader.specs.Input.{IsPcapng};
+ghost use Rattle.pcapng_reader.specs.Inner.{reading_of};
+ghost use Rattle.pcapng_reader.specs.Reading.{Answers, GivesPacket, HoldsPacket, IsAtStart, IsOpened, IsOpenedOn, OnRefused, UnlessReadFault, head_length};
+
+use crate::block::begins_section;
+use crate::blocks::BlockReader;
+use crate::{AnyFault, Section};
+use byte_window::Window;
+use edge_traits::Source;
+use pcap_reader::{CaptureFault, FILE_HEAD, Item, Reader};
+use std::alloc::Global;
+use std::marker::Model;
+
+/// A reader of one input.
+#[derive(Debug, Drop)]
+pub struct AnyReader {
+    inner: Inner,
+}
+
+/// The reader of its format.
+#[derive(Debug, Drop)]
+enum Inner {
+    Savefile(Reader),
+    Blocks(BlockReader),
+}
+
+impl Model for AnyReader {
+    ghost use Rattle.pcapng_reader.specs.Reading.{Reading};
+
+    ghost Value = { Reading };
+
+    ghost use Rattle.pcapng_reader.specs.Inner.{reading_of};
+
+    ghost view = { λ r. reading_of r.inner };
+}
+
+impl AnyReader {
+    /// Makes the packet buffer and room for a section's interfaces, and reads the first 24 bytes of an input, which
+    /// show its format.
+    ///
+    /// Where the first four are a section block's type, the input is pcapng, and otherwise a savefile.
+    /// Faults, each a `Capture`: `Memory`, before anything is read; `ReadFault`, only where the source's count rose;
+    /// `ShortHeader`, exactly where the input ends within 24 bytes; `Magic`, `Version` and `LinkType`, exactly where
+    /// the head of a savefile shows them, in this order.
+    /// Source: draft-ietf-opsawg-pcapng, 4.1; pcap-savefile(5), per-file header.
+    pub fn open<S: Source>(alloc: Global, source: &mut S) -> Result<AnyReader, AnyFault>
+        // What was taken shows the form, and what is not the head is held.
+        ensures took { IfOk result (λ reader. Took (S.left source.old) (S.left source.new) (IsOpenedOn reader)) }
+        ensures start { IfOk result IsAtStart }
+
+        // What was taken shows the fault, or the input is shorter than a head.
+        ensures refused { IfErr result (λ fault. OnRefused fault (S.left source.old) (S.left source.new)) }
+        ensures memory { result ≡ Err (Capture Memory) → source.new ≡ source.old }
+        ensures read_fault { result ≡ Err (Capture ReadFault) → Rose (S.faults source.old) (S.faults source.new) }
+        ensures counted { S.faults source.old ≤ S.faults source.new }
+
+        // The first read that failed ended it, and is told.
+        ensures one_failed { result ≡ Err (Capture ReadFault) →
+            S.failed source.new ≡ count_after (S.failed source.old) 1 }
+        ensures none_failed { UnlessReadFault result (S.failed source.new ≡ S.failed source.old) }
+    {
+        let mut window = Window::new(alloc)?;
+        let section = Section::new(alloc)?;
+        match window.hold(FILE_HEAD, source) {
+            Ok(true) => {
+                let inner = inner_of(window, section)?;
+                Ok(AnyReader { inner })
+            }
+            Ok(false) => Err(AnyFault::Capture(CaptureFault::ShortHeader {
+                have: window.unread().len() as u32,
+            })),
+            Err(_failed) => Err(AnyFault::Capture(CaptureFault::ReadFault)),
+        }
+    }
+
+    /// Reads on to the next packet, or to the ending of the input.
+    ///
+    /// Takes no memory. A packet of an interface that is not Ethernet's is given as an empty list of bytes.
+    /// Faults, each exactly where the block or record at the reader's offset shows it: of a savefile
+    /// `Capture(RecordLength)`, and of pcapng all that are no `Capture`; and `Capture(ReadFault)`, only where the
+    /// source's count rose. After an end, a rest or a fault the reader has ended.
+    /// Source: draft-ietf-opsawg-pcapng, 3.1 and 4.1 to 4.4; pcap-savefile(5), per-packet header.
+    pub fn next<S: Source>(&mut self, source: &mut S) -> Result<Item, AnyFault>
+        requires going { self.old.ended ≡ false }
+        requires few { self.old.given < 2 ^ 32 - 1 }
+        ensures answers { Answers self.old self.new (S.left source.old) (S.left source.new) result }
+        ensures read_fault { result ≡ Err (Capture ReadFault) → Rose (S.faults source.old) (S.faults source.new) }
+        ensures counted { S.faults source.old ≤ S.faults source.new }
+
+        // The first read that failed ended it, and is told.
+        ensures one_failed { result ≡ Err (Capture ReadFault) →
+            S.failed source.new ≡ count_after (S.failed source.old) 1 }
+        ensures none_failed { UnlessReadFault result (S.failed source.new ≡ S.failed source.old) }
+
+        // The source is not read where the packet that comes next is whole in what is held.
+        ensures unasked { HoldsPacket self.old.form self.old.offset self.old.pending → source.new ≡ source.old }
+    {
+        match &mut self.inner {
+            Inner::Savefile(reader) => match reader.next(source) {
+                Ok(item) => Ok(item),
+                Err(fault) => Err(AnyFault::Capture(fault)),
+            },
+            Inner::Blocks(reader) => reader.next(source),
+        }
+    }
+
+    /// Gives out the next packet where it comes next and is whole in what is held. No source is needed.
+    ///
+    /// Takes no memory. `false` comes exactly where no packet comes next and is whole there. Then nothing changes, and
+    /// `next` tells what comes.
+    pub fn next_held(&mut self) -> bool
+        requires going { self.old.ended ≡ false }
+        requires few { self.old.given < 2 ^ 32 - 1 }
+        ensures packet { result ≡ true → GivesPacket self.old self.new [] }
+        ensures none { result ≡ false → self.new ≡ self.old }
+        // No packet is whole in what is held as the next part.
+        ensures not_whole { result ≡ false → ¬ HoldsPacket self.old.form self.old.offset self.old.pending }
+    {
+        match &mut self.inner {
+            Inner::Savefile(reader) => reader.next_held(),
+            Inner::Blocks(reader) => reader.next_held(),
+        }
+    }
+
+    /// The bytes of the packet that was given last; none after an ending.
+    pub fn packet(&self) -> &[u8]
+        ensures { result.now ≡ self.now.packet }
+    {
+        match &self.inner {
+            Inner::Savefile(reader) => reader.packet(),
+            Inner::Blocks(reader) => reader.packet(),
+        }
+    }
+
+    /// Whether an end, a rest or a fault was answered.
+    pub fn ended(&self) -> bool
+        ensures { result ≡ self.now.ended }
+    {
+        match &self.inner {
+            Inner::Savefile(reader) => reader.ended(),
+            Inner::Blocks(reader) => reader.ended(),
+        }
+    }
+}
+
+/// The reader of the format that the held bytes show, of which there are as many as a file head has.
+fn inner_of(window: Window, section: Section) -> Result<Inner, CaptureFault>
+    requires whole { FILE_HEAD ≤ length window.unread }
+    requires opening { section ≡ opening }
+    ensures form { IfOk result (λ inner. IsOpened (reading_of inner).form window.unread) }
+    ensures held { IfOk result (λ inner.
+        (reading_of inner).pending ≡ drop (head_length (reading_of inner).form) window.unread) }
+    ensures start { IfOk result (λ inner. IsAtStart (reading_of inner)) }
+    ensures other { OnErr result (¬ IsPcapng window.unread) }
+    ensures fault { IfErr result (λ fault. ShowsFault window.unread fault) }
+{
+    if begins_section(window.unread()) {
+        return Ok(Inner::Blocks(BlockReader::over(window, section)));
+    }
+    let reader = Reader::over(window)?;
+    Ok(Inner::Savefile(reader))
+}

@@ -1,0 +1,183 @@
+//! Gives out the packets of a pcapng input, one at a time and in place.
+
+ghost use Rattle.std.specs.Prelude.{◌≡◌, ◌≤◌, ◌<◌, ◌+◌, ◌-◌, ◌^◌, ℕ, [], false, true, length, take, drop, Err};
+ghost use Rattle.edge_traits.specs.Edge.{Rose, count_after};
+ghost use Rattle.pcap_reader.specs.declared.fault.CaptureFault.TheVariants.{ReadFault};
+ghost use Rattle.pcapng_reader.specs.declared.fault.AnyFault.TheVariants.{Capture};
+ghost use Rattle.pcapng_reader.specs.Reading.{Answers, GivesPacket, HoldsPacket, OfBlocks, UnlessReadFault};
+
+use crate::block::{Seen, look};
+use crate::long::Awaited;
+use crate::waiting::await_packet;
+use crate::{AnyFault, Section};
+use byte_window::Window;
+use edge_traits::Source;
+use pcap_reader::{CaptureFault, Item};
+use std::marker::Model;
+
+/// A reader of one pcapng input.
+#[derive(Debug, Drop)]
+pub struct BlockReader {
+    section: Section,
+    window: Window,
+    offset: u64,
+    given: u32,
+    ended: bool,
+}
+
+impl Model for BlockReader {
+    ghost use Rattle.std.specs.Prelude.{◌≤◌, ◌+◌, ◌*◌};
+    ghost use Rattle.pcapng_reader.specs.Reading.{OfBlocks, Reading};
+
+    ghost Value = { Reading };
+
+    ghost view = { λ r. record {
+      form = OfBlocks r.section;
+      pending = r.window.unread;
+      packet = r.window.last;
+      offset = r.offset;
+      given = r.given;
+      ended = r.ended;
+    } };
+
+    ghost invariant = { λ r. (r.section.others ≤ 4000000) × (r.offset ≤ (r.given + r.section.others) * 16777216) };
+}
+
+impl BlockReader {
+    /// A reader of the input whose first bytes the window holds, with what is set before the first block.
+    pub fn over(window: Window, section: Section) -> BlockReader
+        requires { section.others ≤ 4000000 }
+        ensures { result ≡ record {
+          form = OfBlocks section;
+          pending = window.unread;
+          packet = [];
+          offset = 0;
+          given = 0;
+          ended = false;
+        } }
+    {
+        let mut window = window;
+        window.forget();
+        BlockReader {
+            section,
+            window,
+            offset: 0,
+            given: 0,
+            ended: false,
+        }
+    }
+
+    /// Reads on to the next packet, or to the ending of the input.
+    pub fn next<S: Source>(&mut self, source: &mut S) -> Result<Item, AnyFault>
+        requires going { self.old.ended ≡ false }
+        requires few { self.old.given < 2 ^ 32 - 1 }
+        ensures answers { Answers self.old self.new (S.left source.old) (S.left source.new) result }
+        ensures read_fault { result ≡ Err (Capture ReadFault) → Rose (S.faults source.old) (S.faults source.new) }
+        ensures counted { S.faults source.old ≤ S.faults source.new }
+
+        // The first read that failed ended it, and is told.
+        ensures one_failed { result ≡ Err (Capture ReadFault) →
+            S.failed source.new ≡ count_after (S.failed source.old) 1 }
+        ensures none_failed { UnlessReadFault result (S.failed source.new ≡ S.failed source.old) }
+
+        // The source is not read where the packet that comes next is whole in what is held.
+        ensures unasked { HoldsPacket self.old.form self.old.offset self.old.pending → source.new ≡ source.old }
+    {
+        match await_packet(&mut self.window, &mut self.section, self.offset, source) {
+            Ok(
+                Awaited {
+                    seen,
+                    dropped,
+                    offset,
+                },
+            ) => {
+                self.offset = offset;
+                match seen {
+                    Seen::Packet { size, at, count } => {
+                        self.give(at, count, size, size - dropped);
+                        Ok(Item::Packet)
+                    }
+                    Seen::Fault(fault) => {
+                        self.end();
+                        Err(fault)
+                    }
+                    _ => {
+                        let rest = dropped + self.window.unread().len();
+                        self.end();
+                        Ok(if rest == 0 {
+                            Item::End
+                        } else {
+                            Item::Rest(rest as u32)
+                        })
+                    }
+                }
+            }
+            Err(_failed) => {
+                self.end();
+                Err(AnyFault::Capture(CaptureFault::ReadFault))
+            }
+        }
+    }
+
+    /// Gives out the next packet where its block comes next and is whole in what is held. No source is needed.
+    ///
+    /// Takes no memory. Where it is not, nothing changes: `next` tells what comes.
+    pub fn next_held(&mut self) -> bool
+        requires going { self.old.ended ≡ false }
+        requires few { self.old.given < 2 ^ 32 - 1 }
+        ensures packet { result ≡ true → GivesPacket self.old self.new [] }
+        ensures none { result ≡ false → self.new ≡ self.old }
+        // No packet is whole in what is held as the next part.
+        ensures not_whole { result ≡ false → ¬ HoldsPacket self.old.form self.old.offset self.old.pending }
+    {
+        if let Seen::Packet { size, at, count } = look(
+            &self.section,
+            self.offset,
+            self.window.unread(),
+        ) {
+            self.give(at, count, size, size);
+            return true;
+        }
+        false
+    }
+
+    /// The bytes of the packet that was given last; none after an ending.
+    pub fn packet(&self) -> &[u8]
+        ensures { result.now ≡ self.now.packet }
+    {
+        self.window.last()
+    }
+
+    /// Whether an end, a rest or a fault was answered.
+    pub fn ended(&self) -> bool
+        ensures { result ≡ self.now.ended }
+    {
+        self.ended
+    }
+
+    /// Gives out the packet of the block that comes next, of that size, of which so many bytes are held.
+    fn give(&mut self, at: usize, count: usize, size: usize, held: usize)
+        requires held { held ≤ length self.old.pending }
+        requires part { at + count ≤ held }
+        requires block { size ≤ 16777216 }
+        requires few { self.old.given < 2 ^ 32 - 1 }
+        ensures { self.new ≡ record self.old {
+          pending = drop held self.old.pending;
+          packet = take count (drop at self.old.pending);
+          offset = self.old.offset + size;
+          given = self.old.given + 1;
+        } }
+    {
+        self.window.take_part(at, count, held);
+        self.offset += size as u64;
+        self.given += 1;
+    }
+
+    /// Gives out nothing more.
+    fn end(&mut self)
+        ensures { self.new ≡ record self.old { packet = []; ended = true } }
+    {
+        self.window.forget();
+        self.ended = true;
+    }
+}

@@ -1,0 +1,34 @@
+//! What holds of all inputs.
+
+ghost use Rattle.std.specs.Prelude.{ℕ, List};
+ghost use Rattle.pcapng_reader.specs.Laws.{HasInput, HasOneInput, HoldsFront, ReadsInput};
+
+use pcap_reader::{capture_front, every_capture, one_capture};
+
+/// A list of bytes has at most one input.
+pub fn one_input()
+    ensures { (bytes : List ℕ) → HasOneInput bytes }
+{
+    one_capture();
+}
+
+/// Each list of bytes has an input.
+pub fn every_input()
+    ensures { (bytes : List ℕ) → HasInput bytes }
+{
+    every_capture();
+}
+
+/// The packets of the parts that a list of bytes begins with are the first of its input.
+pub fn input_front()
+    ensures { (bytes : List ℕ) → HoldsFront bytes }
+{
+    capture_front();
+    one_input();
+}
+
+/// What a reader gives from its opening to an ending are the packets and the ending of the input that was taken of its
+/// source, however the reads were cut.
+pub fn reads_input()
+    ensures { ReadsInput }
+{}

@@ -1,0 +1,121 @@
+//! What the blocks before have set: the section's byte order and its interfaces, and how many blocks gave no packet.
+
+ghost use Rattle.std.specs.Prelude.{◌≡◌, ◌<◌, ◌+◌, [], ◌∷◌, ◌++◌, length, get_or, IfOk};
+ghost use Rattle.pcapng_reader.specs.Section.{State, no_interface, opening};
+
+use pcap_reader::Order;
+use std::alloc::{AllocError, Global};
+use std::marker::Model;
+
+/// No section has more interfaces.
+pub const MOST_INTERFACES: usize = 256;
+
+/// No input has more blocks that give no packet.
+pub const MOST_OTHERS: u32 = 4_000_000;
+
+/// An interface of a section.
+#[derive(Clone, Copy, Debug, PartialEq, Eq)]
+pub struct Interface {
+    /// The link type, as in a savefile.
+    pub link: u16,
+    /// The most bytes of a packet that are captured; 0 is no limit.
+    pub snapshot: u32,
+}
+
+/// What the blocks before have set.
+#[derive(Debug, Drop)]
+pub struct Section {
+    order: Order,
+    interfaces: Vec<Interface>,
+    others: u32,
+}
+
+impl Model for Section {
+    ghost use Rattle.std.specs.Prelude.{◌≤◌, length, vec_capacity, vec_len};
+    ghost use Rattle.pcapng_reader.specs.Section.{State};
+
+    ghost Value = { State };
+
+    ghost view = { λ s. record {
+      order = s.order;
+      interfaces = s.interfaces.items;
+      others = s.others;
+    } };
+
+    ghost invariant = { λ s. (256 ≤ vec_capacity s.interfaces) × (vec_len s.interfaces ≤ 256) };
+}
+
+impl Section {
+    /// What is set before the first block, with room for the interfaces of a section.
+    pub fn new(alloc: Global) -> Result<Section, AllocError>
+        ensures { IfOk result (λ section. section ≡ opening) }
+    {
+        Ok(Section {
+            order: Order::Little,
+            interfaces: Vec::with_capacity(alloc, MOST_INTERFACES)?,
+            others: 0,
+        })
+    }
+
+    /// The order of the bytes of a number.
+    pub fn order(&self) -> Order
+        ensures { result ≡ self.now.order }
+    {
+        self.order
+    }
+
+    /// How many interfaces the section has.
+    pub fn interfaces(&self) -> usize
+        ensures { result ≡ length self.now.interfaces }
+    {
+        self.interfaces.len()
+    }
+
+    /// An interface of the section, by its number.
+    pub fn interface(&self, number: usize) -> Interface
+        requires { number < length self.now.interfaces }
+        ensures { result ≡ get_or self.now.interfaces number no_interface }
+    {
+        self.interfaces[number]
+    }
+
+    /// How many blocks gave no packet.
+    pub fn others(&self) -> u32
+        ensures { result ≡ self.now.others }
+    {
+        self.others
+    }
+
+    /// Begins a section, by a block that gives no packet.
+    pub fn begin(&mut self, order: Order)
+        requires { self.old.others < 4000000 }
+        ensures { self.new ≡ record { order = order; interfaces = []; others = self.old.others + 1 } }
+    {
+        self.order = order;
+        self.interfaces.clear();
+        self.count();
+    }
+
+    /// Takes an interface more, by a block that gives no packet.
+    pub fn add(&mut self, interface: Interface)
+        requires few { length self.old.interfaces < 256 }
+        requires others { self.old.others < 4000000 }
+        ensures { self.new ≡ record self.old {
+          interfaces = self.old.interfaces ++ interface ∷ [];
+          others = self.old.others + 1;
+        } }
+    {
+        let Ok(()) = self.interfaces.push(interface) else {
+            unreachable!()
+        };
+        self.count();
+    }
+
+    /// Counts a block that gives no packet.
+    pub fn count(&mut self)
+        requires { self.old.others < 4000000 }
+        ensures { self.new ≡ record self.old { others = self.old.others + 1 } }
+    {
+        self.others += 1;
+    }
+}

@@ -1,0 +1,33 @@
+use Rattle.std.proofs.Common.{◌≡◌, ◌≤◌, ◌<◌, ◌-◌, ◌+◌, ◌++◌, false, [], List, Option, ℕ, length}
+use Rattle.capture_loop.specs.Looping.{HasPut, Stands}
+use Rattle.capture_loop.specs.Reading.{HaveCome}
+use Rattle.command_line.specs.declared.plan.Plan.{Plan as APlan}
+use Rattle.trace_runner.specs.Serving.{HasDone, HoldsCalls, IsServing}
+use Rattle.trace_runner.proofs.looping.go_through.Given as goal
+
+-- so many packets were read, served and put
+abbrev pub invariant-batches : goal.invariant-batches
+invariant-batches g l =
+    let left = g.S.Source.left in
+    let put = g.K.Sink.put in
+    record {
+      reads : l.reader.ended ≡ false;
+      given : l.reader.given ≡ l.packets + l.ahead;
+      few_ahead : (l.ahead ≤ 2048) × (l.packets + l.ahead ≤ 4000000);
+      few : l.packets < 4000000;
+      going : IsServing l.job l.packets;
+      piled : (held : List (List ℕ)) × HoldsCalls l.piles.now l.packets held × (length held ≡ l.ahead);
+      counted_reads : g.S.Source.faults l.fn.source ≤ g.S.Source.faults l.source;
+      counted_writes : g.K.Sink.faults l.fn.sink ≤ g.K.Sink.faults l.sink;
+      reads_failed : g.S.Source.failed l.source ≡ g.S.Source.failed l.fn.source;
+      writes_failed : g.K.Sink.failed l.sink ≡ g.K.Sink.failed l.fn.sink;
+      stands : (plan : APlan) (first before : Option (List ℕ)) →
+          HasDone l.fn.job plan [] l.fn.text.items →
+          HasPut before (put l.fn.sink) l.fn.text.items l.fn.text.items → HaveCome first (left l.fn.source) l.fn.reader [] →
+          (all held : List (List ℕ)) × Stands (HasDone l.job plan) first l.packets all before (put l.sink)
+          l.text.items × HoldsCalls l.piles.now l.packets held × (length held ≡ l.ahead)
+          × HaveCome first (left l.source) l.reader (all ++ held);
+    }
+
+abbrev pub decreases-batches : goal.decreases-batches
+decreases-batches g l = 4000000 - l.packets

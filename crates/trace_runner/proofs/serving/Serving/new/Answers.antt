@@ -1,0 +1,7 @@
+use Rattle.std.proofs.Common.{refl}
+use Rattle.trace_runner.proofs.JobLemmas.{done_none}
+use Rattle.trace_runner.proofs.serving.Serving.new.Goals as goal
+
+pub returns-clause-done : goal.returns-clause-done
+returns-clause-done c = λ plan text asks is.
+    done_none _ plan text refl asks (c.new-2.ensures.served c.args.service) is

@@ -1,0 +1,276 @@
+//! The loop: a batch is read, served and put before more is read.
+
+ghost use Rattle.std.specs.Prelude.{◌≡◌, ◌≤◌, ◌<◌, ◌+◌, ℕ, List, [], ◌∷◌, ◌++◌, length, false, Option, Ok, IfOk, OnOk, OnErr};
+ghost use Rattle.std.specs.Io.KnownBytes.{Appends};
+ghost use Rattle.edge_traits.specs.Edge.{AppendsFront, Rose, count_after};
+ghost use Rattle.pcapng_reader.specs.Reading.{IsAtStart};
+ghost use Rattle.report_text.specs.Report.{IsEnding};
+ghost use Rattle.capture_loop.specs.Batches.{AreBatches};
+ghost use Rattle.capture_loop.specs.Intake.{IsTaken};
+ghost use Rattle.capture_loop.specs.Leaves.{IsMet, LeavesAll, ReadsFailed, WritesFailed};
+ghost use Rattle.capture_loop.specs.Looping.{HasPut, OnMemory, OnNotPut, Stands};
+ghost use Rattle.capture_loop.specs.Reading.{HaveCome, HaveEnded};
+ghost use Rattle.capture_loop.specs.Input.{packet_limit};
+ghost use Rattle.command_line.specs.declared.plan.Plan.{Plan as APlan};
+ghost use Rattle.trace_runner.specs.Serving.{HasDone, HoldsCalls, IsLines, IsServing, IsWholeReport};
+
+use crate::pile::CallPile;
+use crate::serving::Serving;
+use capture_loop::{
+    BATCH, Means, PACKET_LIMIT, Pile, Piles, Stop, Unopened, open, read_rest, take_held,
+};
+use edge_traits::{Failed, Gate, Sink, Source, write_all};
+use pcapng_reader::AnyReader;
+use report_text::Ending;
+use std::alloc::AllocError;
+use std::mem;
+use std::thread::Threads;
+
+/// Goes through the source's packets batch by batch, as the job does, and puts its report into the sink. The text holds
+/// the head line, and the first pile is empty.
+///
+/// While a batch is served, packets of the next one that the reader holds are taken into the other pile; the source is
+/// read only behind the lines of the batch. A read that fails is the input's end, and a write that fails ends the run.
+pub(crate) fn run<R: Threads + Sync, S: Source, K: Sink, G: Gate + Sync>(
+    means: &Means<R, G>,
+    job: &mut Serving,
+    piles: &mut Piles<CallPile>,
+    source: &mut S,
+    text: &mut Vec<u8>,
+    sink: &mut K,
+) -> Result<Ending, Stop>
+    requires going { IsServing job.old 0 }
+    requires none { HoldsCalls piles.old.now 0 [] }
+    ensures leaves { (plan : APlan) → HasDone job.old plan [] text.old.items → LeavesAll (IsLines plan) (IsWholeReport plan)
+        (Rose (S.faults source.old) (S.faults source.new))
+        (S.left source.old) (S.left source.new) (K.put sink.old) (K.put sink.new) result }
+
+    // A device failed, and each that did is answered.
+    ensures read_fault { result ≡ Ok Ending.ReadFault → Rose (S.faults source.old) (S.faults source.new) }
+    ensures write_fault { OnNotPut result (Rose (K.faults sink.old) (K.faults sink.new)) }
+    ensures reads { ReadsFailed result (S.failed source.old) (S.failed source.new) }
+    ensures writes { WritesFailed result (K.failed sink.old) (K.failed sink.new) }
+    ensures counted { (S.faults source.old ≤ S.faults source.new) × (K.faults sink.old ≤ K.faults sink.new) }
+{
+    match open(means.alloc, source) {
+        Ok(mut reader) => go_through(means, job, piles, &mut reader, source, text, sink),
+        Err(unopened) => match unopened {
+            Unopened::Ends(ending) => {
+                let last = Last { packets: 0, ending };
+                serve_last(means, job, &mut piles.now, 0, last, text, sink)
+            }
+            Unopened::Memory => Err(Stop::Memory),
+        },
+    }
+}
+
+/// What was read of the last batch.
+#[derive(Clone, Copy)]
+struct Last {
+    /// How many packets.
+    packets: u32,
+    ending: Ending,
+}
+
+/// The same behind the head of an input.
+fn go_through<R: Threads + Sync, S: Source, K: Sink, G: Gate + Sync>(
+    means: &Means<R, G>,
+    job: &mut Serving,
+    piles: &mut Piles<CallPile>,
+    reader: &mut AnyReader,
+    source: &mut S,
+    text: &mut Vec<u8>,
+    sink: &mut K,
+) -> Result<Ending, Stop>
+    requires start { IsAtStart reader.old }
+    requires going { IsServing job.old 0 }
+    requires none { HoldsCalls piles.old.now 0 [] }
+    ensures leaves { (plan : APlan) (first before : Option (List ℕ)) (faults : ℕ) → faults ≤ S.faults source.old →
+        HasDone job.old plan [] text.old.items → HasPut before (K.put sink.old) text.old.items text.old.items →
+        HaveCome first (S.left source.old) reader.old [] →
+        LeavesAll (IsLines plan) (IsWholeReport plan) (Rose faults (S.faults source.new)) first (S.left source.new)
+        before (K.put sink.new) result }
+    ensures read_fault { result ≡ Ok Ending.ReadFault → Rose (S.faults source.old) (S.faults source.new) }
+    ensures write_fault { OnNotPut result (Rose (K.faults sink.old) (K.faults sink.new)) }
+    ensures reads { ReadsFailed result (S.failed source.old) (S.failed source.new) }
+    ensures writes { WritesFailed result (K.failed sink.old) (K.failed sink.new) }
+    ensures counted { (S.faults source.old ≤ S.faults source.new) × (K.faults sink.old ≤ K.faults sink.new) }
+{
+    let mut packets = 0;
+    let mut ahead = 0;
+    'batches: loop {
+        let pile = &mut piles.now;
+        let part = read_rest(reader, source, packets, ahead, PACKET_LIMIT, pile)?;
+        match part.ending {
+            Some(ending) => {
+                let last = Last {
+                    packets: part.packets,
+                    ending,
+                };
+                return serve_last(means, job, &mut piles.now, packets, last, text, sink);
+            }
+            None => {
+                packets += part.packets;
+                piles.next.clear(packets);
+                let pile = &mut piles.now;
+                let next = &mut piles.next;
+                let taken = serve_ahead(means, job, pile, text, reader, packets, next)?;
+                put(sink, text)?;
+                ahead = taken?;
+                mem::swap(&mut piles.now, &mut piles.next);
+            }
+        }
+    }
+}
+
+/// Serves the packets of one batch more. Meanwhile it takes what the reader holds of the next batch, behind so many
+/// packets, into a pile that is empty; this may want memory for itself.
+fn serve_ahead<R: Threads + Sync, G: Gate + Sync>(
+    means: &Means<R, G>,
+    job: &mut Serving,
+    pile: &mut CallPile,
+    text: &mut Vec<u8>,
+    reader: &mut AnyReader,
+    before: u32,
+    next: &mut CallPile,
+) -> Result<Result<u32, AllocError>, AllocError>
+    requires going { (many : ℕ) × (packets : List (List ℕ)) × IsServing job.old many
+        × HoldsCalls pile.old many packets × (length packets ≤ BATCH) × (many + length packets ≤ PACKET_LIMIT) }
+    requires reads { reader.old.ended ≡ false }
+    requires stands { reader.old.given ≡ before }
+    requires room { before < PACKET_LIMIT }
+    requires none { HoldsCalls next.old before [] }
+    ensures going { OnOk result ((many : ℕ) (packets : List (List ℕ)) → IsServing job.old many →
+        HoldsCalls pile.old many packets → IsServing job.new (many + length packets)) }
+    ensures served { OnOk result ((plan : APlan) (batches : List (List (List ℕ))) (put : List ℕ) (many : ℕ)
+        (packets : List (List ℕ)) → HasDone job.old plan batches put → IsServing job.old many →
+        HoldsCalls pile.old many packets → (lines : List ℕ) × (text.new.items ≡ text.old.items ++ lines)
+        × HasDone job.new plan (batches ++ packets ∷ []) (put ++ lines)) }
+    ensures ahead { IfOk result (λ taken. IfOk taken (λ packets. (more : List (List ℕ))
+        × HoldsCalls next.new before more × (length more ≡ packets) × IsTaken reader.old reader.new before more)) }
+{
+    job.serve(
+        means,
+        pile,
+        text,
+        &mut || -> Result<u32, AllocError>
+            requires { (reader.now.ended ≡ false) × (reader.now.given ≡ before) × (before < PACKET_LIMIT)
+                × HoldsCalls next.now before [] }
+            ensures { IfOk result (λ packets. (more : List (List ℕ)) × HoldsCalls next.exit.now before more
+                × (length more ≡ packets) × IsTaken reader.entry.now reader.exit.now before more) }
+        { take_held(reader, before, next) },
+    )
+}
+
+/// Puts the text that is held, and holds none then.
+fn put<K: Sink>(sink: &mut K, text: &mut Vec<u8>) -> Result<(), Failed>
+    ensures ok { OnOk result (Appends (K.put sink.old) (K.put sink.new) text.old.items) }
+    ensures none { OnOk result (text.new.items ≡ []) }
+    ensures prefix { OnErr result (AppendsFront (K.put sink.old) (K.put sink.new) text.old.items) }
+    ensures failed { OnErr result (Rose (K.faults sink.old) (K.faults sink.new)) }
+    ensures counted { K.faults sink.old ≤ K.faults sink.new }
+    ensures one_failed { OnErr result (K.failed sink.new ≡ count_after (K.failed sink.old) 1) }
+    ensures none_failed { OnOk result (K.failed sink.new ≡ K.failed sink.old) }
+{
+    write_all(sink, text)?;
+    text.clear();
+    Ok(())
+}
+
+/// Serves the packets of one batch more, and puts its lines.
+fn serve_one<R: Threads + Sync, K: Sink, G: Gate + Sync>(
+    means: &Means<R, G>,
+    job: &mut Serving,
+    pile: &mut CallPile,
+    text: &mut Vec<u8>,
+    sink: &mut K,
+) -> Result<(), Stop>
+    requires going { (many : ℕ) × (packets : List (List ℕ)) × IsServing job.old many
+        × HoldsCalls pile.old many packets × (length packets ≤ BATCH) × (many + length packets ≤ PACKET_LIMIT) }
+    ensures going { OnOk result ((many : ℕ) (packets : List (List ℕ)) → IsServing job.old many →
+        HoldsCalls pile.old many packets → IsServing job.new (many + length packets)) }
+    ensures served { OnOk result ((plan : APlan) (batches : List (List (List ℕ))) (done : List ℕ)
+        (before : Option (List ℕ)) (many : ℕ) (packets : List (List ℕ)) → HasDone job.old plan batches done →
+        IsServing job.old many → HoldsCalls pile.old many packets →
+        HasPut before (K.put sink.old) text.old.items done →
+        (lines : List ℕ) × HasDone job.new plan (batches ++ packets ∷ []) (done ++ lines)
+        × HasPut before (K.put sink.new) text.new.items (done ++ lines)) }
+    ensures none { OnOk result (text.new.items ≡ []) }
+    ensures front { OnNotPut result ((plan : APlan) (batches : List (List (List ℕ))) (done : List ℕ)
+        (before : Option (List ℕ)) (many : ℕ) (packets : List (List ℕ)) → HasDone job.old plan batches done →
+        IsServing job.old many → HoldsCalls pile.old many packets →
+        HasPut before (K.put sink.old) text.old.items done →
+        (lines : List ℕ) × HasDone job.new plan (batches ++ packets ∷ []) (done ++ lines)
+        × AppendsFront before (K.put sink.new) (done ++ lines)) }
+    ensures memory { OnMemory result (sink.new ≡ sink.old) }
+    ensures failed { OnNotPut result (Rose (K.faults sink.old) (K.faults sink.new)) }
+    ensures writes { WritesFailed result (K.failed sink.old) (K.failed sink.new) }
+    ensures counted { K.faults sink.old ≤ K.faults sink.new }
+{
+    job.serve(means, pile, text, &mut || {})?;
+    put(sink, text)?;
+    Ok(())
+}
+
+/// Serves the last batch, where one is begun, and puts what is left of the report.
+fn serve_last<R: Threads + Sync, K: Sink, G: Gate + Sync>(
+    means: &Means<R, G>,
+    job: &mut Serving,
+    pile: &mut CallPile,
+    many: u32,
+    last: Last,
+    text: &mut Vec<u8>,
+    sink: &mut K,
+) -> Result<Ending, Stop>
+    requires going { IsServing job.old many }
+    requires piled { (packets : List (List ℕ)) × HoldsCalls pile.old many packets
+        × (length packets ≡ last.packets) }
+    requires few { (last.packets ≤ BATCH) × (many + last.packets ≤ PACKET_LIMIT) }
+    requires ending { IsEnding last.ending }
+    ensures leaves { (plan : APlan) (faults now : ℕ) (first left before : Option (List ℕ)) (all packets : List (List ℕ)) →
+        Stands (HasDone job.old plan) first many all before (K.put sink.old) text.old.items →
+        HoldsCalls pile.old many packets → length packets ≡ last.packets →
+        HaveEnded packet_limit first left (all ++ packets) last.ending → IsMet (Rose faults now) last.ending →
+        LeavesAll (IsLines plan) (IsWholeReport plan) (Rose faults now) first left before (K.put sink.new) result }
+    ensures same { IfOk result (λ ending. ending ≡ last.ending) }
+    ensures write_fault { OnNotPut result (Rose (K.faults sink.old) (K.faults sink.new)) }
+    ensures writes { WritesFailed result (K.failed sink.old) (K.failed sink.new) }
+    ensures counted { K.faults sink.old ≤ K.faults sink.new }
+{
+    if last.packets == 0 && many > 0 {
+        return end_run(job, many, last.ending, text, sink);
+    }
+    match serve_one(means, job, pile, text, sink) {
+        Ok(()) => end_run(job, many + last.packets, last.ending, text, sink),
+        Err(stop) => Err(stop),
+    }
+}
+
+/// Puts what is left of the report, where all batches were served.
+fn end_run<K: Sink>(
+    job: &Serving,
+    packets: u32,
+    ending: Ending,
+    text: &mut Vec<u8>,
+    sink: &mut K,
+) -> Result<Ending, Stop>
+    requires going { IsServing job.now packets }
+    requires ending { IsEnding ending }
+    ensures leaves { (plan : APlan) (faults now : ℕ) (first left before : Option (List ℕ)) (all : List (List ℕ))
+        (batches : List (List (List ℕ))) (done : List ℕ) → HasDone job.now plan batches done →
+        AreBatches all batches → HasPut before (K.put sink.old) text.old.items done →
+        HaveEnded packet_limit first left all ending → IsMet (Rose faults now) ending →
+        LeavesAll (IsLines plan) (IsWholeReport plan) (Rose faults now) first left before (K.put sink.new) result }
+    ensures same { IfOk result (λ last. last ≡ ending) }
+    ensures write_fault { OnNotPut result (Rose (K.faults sink.old) (K.faults sink.new)) }
+    ensures writes { WritesFailed result (K.failed sink.old) (K.failed sink.new) }
+    ensures counted { K.faults sink.old ≤ K.faults sink.new }
+{
+    if let Err(memory) = job.finish(packets, &ending, text) {
+        return Err(Stop::from(memory));
+    }
+    match put(sink, text) {
+        Ok(()) => Ok(ending),
+        Err(failed) => Err(Stop::from(failed)),
+    }
+}
