@@ -1,0 +1,4 @@
+pub mod OneWord
+pub mod Current
+pub mod Replies
+pub mod Glances

@@ -1,0 +1,7 @@
+pub mod SeatHandleValues
+pub mod ReaderHandleValues
+pub mod TableHandleValues
+pub mod FirstSeats
+pub mod Apart
+pub mod Values
+pub mod ShelfLemmas

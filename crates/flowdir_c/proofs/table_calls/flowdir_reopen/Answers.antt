@@ -1,0 +1,25 @@
+use Rattle.std.proofs.Common.{List, [], ◌∷◌, ap, ◌∙◌, subst}
+use Rattle.std.specs.Prelude.{IsSomeAnd}
+use Rattle.step_counts.specs.declared.rows.SeatRows.{SeatRows}
+use Rattle.plain_map.specs.declared.keys.Pair.{Pair}
+use Rattle.shared_table.specs.Values.{TableValue}
+use Rattle.flowdir_c.specs.Opened.{IsOpened}
+use Rattle.flowdir_c.proofs.table_calls.flowdir_reopen.Goals as goal
+
+-- the handle that was there is the one that is taken out
+pub into_loose-requires : goal.into_loose-requires
+into_loose-requires c = (c.requires.0, ap (λ h. h.holders) c.replace.ensures.value ∙ c.requires.1)
+
+-- the next table is what was asked for, with the pairs that were listed
+pub returns-in-Ok-new-clause-opened : goal.returns-in-Ok-new-clause-opened
+returns-in-Ok-new-clause-opened c = λ done. record {
+  shelf = c.into_box-shelf.result.value;
+  next = c.in-Ok.shelf;
+  closed_is = c.of_loose.ensures ∙ ap (λ v. v ∷ []) c.of.ensures;
+  opened_is = c.of_loose-in-Ok.ensures ∙ ap (λ v. v ∷ []) (c.of-in-Ok.ensures ∙ c.in-Ok-new.ensures.ok);
+  settings = c.in-Some.settings;
+  asked = c.in-Some.ensures;
+  runs = subst (λ (u : SeatRows × List Pair). IsSomeAnd c.in-Ok.shelf.table (λ (t : TableValue).
+      IsOpened c.in-Some.settings c.args.options.now.seed u.0 u.1 t.setup))
+      (λ i. (c.to_rows.ensures i, (c.deref.ensures i).pairs)) c.in-Ok.ensures.opened;
+}

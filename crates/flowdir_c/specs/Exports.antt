@@ -1,0 +1,149 @@
+-- What the calls from C promise, of the holders that the handles lead to before and after.
+use Rattle.std.specs.Prelude.{◌≡◌, ℕ, List, [], ◌∷◌, ◌++◌, length, map, replicate, Option, Some, None, IsSomeAnd, IsPermutation, slice_get}
+use Rattle.std.specs.Arc.{arc_value}
+use Rattle.hash_bits.specs.declared.hashing.Hashing.TheVariants.{Mix}
+use Rattle.step_counts.specs.declared.settings.Settings.{Settings}
+use Rattle.step_counts.specs.StepCounts.{automatic_rows_of, step_bound}
+use Rattle.plain_map.specs.declared.keys.Key.{Key}
+use Rattle.plain_map.specs.declared.keys.Pair.{Pair}
+use Rattle.plain_map.specs.declared.calls.Call.{Call}
+use Rattle.core_model.specs.Setup.{Setup, settings_of}
+use Rattle.shared_table.specs.Readers.{StaysReader}
+use Rattle.shared_table.specs.Values.{IsNew, IsSame}
+use Rattle.flowdir_c.specs.declared.answer.Answer.{Answer}
+use Rattle.flowdir_c.specs.declared.answer.FlowPair.{FlowPair}
+use Rattle.flowdir_c.specs.declared.answer.Told.{Told}
+use Rattle.flowdir_c.specs.declared.holder.Holder.{Holder}
+use Rattle.flowdir_c.specs.declared.peeker.Peeker.{Peeker}
+use Rattle.flowdir_c.specs.declared.options.Options.{Options}
+use Rattle.flowdir_c.specs.declared.options.Rows.{Rows}
+use Rattle.flowdir_c.specs.Asked.{AreOptions, rows_of}
+use Rattle.flowdir_c.specs.Told.{HasTold, pair_of, status_of, written}
+use Rattle.flowdir_c.specs.Glimpsed.{HasGlimpsed}
+use Rattle.flowdir_c.specs.Opened.{IsOpened}
+use Rattle.flowdir_c.specs.Shelves.{ArePairsOf, ShelfValue, WasLeftTo}
+
+-- the bound of an update, if there are settings
+abbrev pub bound_in : Option Settings → ℕ
+bound_in None = 0
+bound_in (Some settings) = step_bound settings
+
+-- the bound of an update for such options, or 0
+abbrev pub IsBoundOf : Options → ℕ → Type 0
+IsBoundOf options bound = (made : Option Settings) × AreOptions options made × (bound ≡ bound_in made)
+
+-- the rows that suffice a seat for so many updates
+abbrev pub AreRowsFor : Options → (updates : ℕ) → Rows → Type 0
+AreRowsFor options updates rows =
+    (settings : Settings) × AreOptions options (Some settings) × (rows_of rows ≡ automatic_rows_of settings updates)
+
+-- a table runs that was opened so, with these pairs in some order
+pub record Opens (options : Options) (first : List FlowPair) (holders : List ShelfValue) : Type 0 where
+  pub shelf : ShelfValue
+  pub is : holders ≡ shelf ∷ []
+  pub settings : Settings
+  pub asked : AreOptions options (Some settings)
+  pub pairs : List Pair
+  pub all : IsPermutation (map pair_of first) pairs
+  pub runs : IsSomeAnd shelf.table (λ t. IsOpened settings options.seed (rows_of options.rows) pairs t.setup)
+
+-- the handle leads to a table as before: the same one runs, or none, and as many seats were given back
+pub record StaysTable (was now : List ShelfValue) : Type 0 where
+  pub before : ShelfValue
+  pub after : ShelfValue
+  pub was_is : was ≡ before ∷ []
+  pub now_is : now ≡ after ∷ []
+  pub same : after.table ≡ before.table
+  pub back : after.back ≡ before.back
+
+-- one seat more was given back
+pub record TakesBack (was now : List ShelfValue) (seats : List Holder) : Type 0 where
+  pub before : ShelfValue
+  pub after : ShelfValue
+  pub holder : Holder
+  pub was_is : was ≡ before ∷ []
+  pub now_is : now ≡ after ∷ []
+  pub seat_is : seats ≡ holder ∷ []
+  pub same : after.table ≡ before.table
+  pub back : after.back ≡ before.back ++ holder.seat ∷ []
+
+-- a seat of the table, which has made no call
+pub record HasSeat (tables : List ShelfValue) (seats : List Holder) : Type 0 where
+  pub shelf : ShelfValue
+  pub holder : Holder
+  pub table_is : tables ≡ shelf ∷ []
+  pub seat_is : seats ≡ holder ∷ []
+  pub of_table : Some (arc_value holder.directory) ≡ shelf.table
+  pub new : IsNew (arc_value holder.directory) holder.seat
+
+-- a reader of the table
+pub record HasReader (tables : List ShelfValue) (readers : List Peeker) : Type 0 where
+  pub shelf : ShelfValue
+  pub peeker : Peeker
+  pub table_is : tables ≡ shelf ∷ []
+  pub reader_is : readers ≡ peeker ∷ []
+  pub of_table : Some (arc_value peeker.directory) ≡ shelf.table
+
+-- a call by a seat: what became of it, what its seat is then, and what C is told
+pub record Called (call : Call) (was now : List Holder) (before after : Answer) (status : ℕ) : Type 0 where
+  pub holder : Holder
+  pub then : Holder
+  pub was_is : was ≡ holder ∷ []
+  pub now_is : now ≡ then ∷ []
+  pub told : Told
+  pub became : HasTold call holder.calls holder.seat then.seat told
+  pub same : IsSame holder.seat then.seat
+  pub of_table : arc_value then.directory ≡ arc_value holder.directory
+  pub status_is : status ≡ status_of told
+  pub written_is : after ≡ written before told
+
+-- a peek: its reply is that of some moment, and what its reader is then
+pub record Peeked (key : Key) (was now : List Peeker) (after : Answer) (status : ℕ) : Type 0 where
+  pub peeker : Peeker
+  pub then : Peeker
+  pub was_is : was ≡ peeker ∷ []
+  pub now_is : now ≡ then ∷ []
+  pub held : HasGlimpsed key peeker.reader then.reader after
+  pub same : StaysReader peeker.reader then.reader
+  pub of_table : arc_value then.directory ≡ arc_value peeker.directory
+  pub status_is : status ≡ 0
+
+-- a table is closed, and its words are those of a run that left its seats as they were given back
+pub record IsClosed (was now : List ShelfValue) : Type 0 where
+  pub before : ShelfValue
+  pub after : ShelfValue
+  pub was_is : was ≡ before ∷ []
+  pub now_is : now ≡ after ∷ []
+  pub closed : after.table ≡ None
+  pub left : IsSomeAnd after.left (WasLeftTo before.back)
+
+-- a closed table whose pairs are listed, and how many there are
+pub record IsCounted (holders : List ShelfValue) (count : ℕ) : Type 0 where
+  pub shelf : ShelfValue
+  pub is : holders ≡ shelf ∷ []
+  pub pairs : IsSomeAnd shelf.left (λ left. ArePairsOf left shelf.pairs)
+  pub count_is : count ≡ length shelf.pairs
+
+-- the handle leads to the same as before
+pub record StaysListed (was now : List ShelfValue) : Type 0 where
+  pub before : ShelfValue
+  pub after : ShelfValue
+  pub was_is : was ≡ before ∷ []
+  pub now_is : now ≡ after ∷ []
+  pub same : after ≡ before
+
+-- the pair at this place, if it is there
+abbrev pub IsPairAt : List ShelfValue → (at : ℕ) → FlowPair → Type 0
+IsPairAt holders at pair =
+    (shelf : ShelfValue) × (holders ≡ shelf ∷ []) × (slice_get shelf.pairs at ≡ Some (pair_of pair))
+
+-- a table runs that was opened so, with the pairs that a closed one had listed
+pub record Reopens (options : Options) (closed opened : List ShelfValue) : Type 0 where
+  pub shelf : ShelfValue
+  pub next : ShelfValue
+  pub closed_is : closed ≡ shelf ∷ []
+  pub opened_is : opened ≡ next ∷ []
+  pub settings : Settings
+  pub asked : AreOptions options (Some settings)
+  pub runs : IsSomeAnd next.table (λ t.
+      IsOpened settings options.seed (rows_of options.rows) shelf.pairs t.setup)

@@ -1,0 +1,34 @@
+-- A table that runs or is closed, as C has it.
+use Rattle.std.specs.Prelude.{◌≡◌, ℕ, List, Option, IsPermutation}
+use Rattle.std.specs.List.Sorted.{IsSortedByKey}
+use Rattle.plain_map.specs.declared.keys.Pair.{Pair}
+use Rattle.plain_map.specs.Keys.{key_cmp}
+use Rattle.core_model.specs.Closed.{closed_pairs}
+use Rattle.core_model.specs.Setup.{Setup}
+use Rattle.shared_table.specs.SeatValues.{SeatValue}
+use Rattle.shared_table.specs.Values.{ClosedValue, Ran, TableValue}
+
+-- a run of a table left these words, and each of its seats to one of these
+pub record WasLeftTo (seats : List SeatValue) (closed : ClosedValue) : Type 0 where
+  pub setup : Setup
+  pub ran : Ran setup closed.words seats
+  pub shape : closed.shape ≡ setup.shape
+
+-- and to some seats
+pub record WasLeft (closed : ClosedValue) : Type 0 where
+  pub seats : List SeatValue
+  pub left : WasLeftTo seats closed
+
+-- these are the pairs that they hold, in the order of their keys
+pub record ArePairsOf (closed : ClosedValue) (pairs : List Pair) : Type 0 where
+  pub held : IsPermutation (closed_pairs closed.shape closed.words) pairs
+  pub sorted : IsSortedByKey (λ (pair : Pair). pair.key) key_cmp pairs
+
+-- what contracts see of it: the table that runs, if one does; the seats that were given back, and for how many there is
+-- a place; what it left, if it is closed; and the pairs that are listed
+pub record ShelfValue : Type 0 where
+  pub table : Option TableValue
+  pub back : List SeatValue
+  pub places : ℕ
+  pub left : Option ClosedValue
+  pub pairs : List Pair

@@ -1,0 +1,21 @@
+//! The directory for C: a static library.
+//!
+//! A handle is the address of a box, and its ghost field holds what the box has. What a foreign caller owes is the
+//! `requires` of a call, and nothing checks it there: the header says it in words.
+#![tactic(auto)]
+
+mod answer;
+mod closed_calls;
+mod holder;
+mod loose;
+mod opening;
+mod options;
+mod peeker;
+mod reader_calls;
+mod readers;
+mod seat_calls;
+mod seats;
+mod shelf;
+mod status;
+mod table_calls;
+mod tables;

@@ -1,0 +1,125 @@
+//! What a table is opened with.
+
+ghost use Rattle.std.specs.Prelude.{◌≡◌, ◌^◌, ◌<◌, All, IfOk, IfSome, IsPermutation, IsTrue, length, map, replicate};
+ghost use Rattle.std.specs.List.Sorted.{IsSortedByKey};
+ghost use Rattle.plain_map.specs.Keys.{key_cmp};
+ghost use Rattle.plain_map.specs.Updates.{value_limit};
+ghost use Rattle.bucket_states.specs.Parts.{HasDistinctKeys};
+ghost use Rattle.core_model.specs.Setup.{IsPair};
+ghost use Rattle.word_rows.specs.Shape.{AreBelow};
+ghost use Rattle.shared_table.specs.Values.{IsNew, new_seats};
+ghost use Rattle.flowdir_c.specs.Told.{pair_of};
+
+use crate::answer::FlowPair;
+use plain_map::{Pair, VALUE_LIMIT};
+use shared_table::{Directory, Seat};
+use std::alloc::{AllocError, Global};
+use step_counts::SeatRows;
+
+/// Why no table was opened.
+#[derive(Clone, Copy)]
+pub(crate) enum NotOpened {
+    Memory,
+    Bad,
+    NoRoom,
+}
+
+/// These rows, where a table can have as many.
+pub(crate) fn rows_in_range(rows: SeatRows) -> Option<SeatRows>
+    ensures small { IfSome result (AreBelow (2 ^ 32)) }
+    ensures same { IfSome result (λ r. r ≡ rows) }
+{
+    let most = 1 << 32;
+    if rows.op_rows < most
+        && rows.bucket_rows < most
+        && rows.bucket_words < most
+        && rows.directory_rows < most
+    {
+        Some(rows)
+    } else {
+        None
+    }
+}
+
+/// Such rows for each of so many seats.
+pub(crate) fn rows_of(
+    alloc: Global,
+    rows: SeatRows,
+    seats: u32,
+) -> Result<Vec<SeatRows>, AllocError>
+    requires { AreBelow (2 ^ 32) rows }
+    ensures small { IfOk result (λ v. All (AreBelow (2 ^ 32)) v.items) }
+    ensures each_seat { IfOk result (λ v. length v.items ≡ seats) }
+    ensures same { IfOk result (λ v. v.items ≡ replicate seats rows) }
+{
+    vec![in alloc; rows; seats as usize]
+}
+
+/// The seats of a new table have made no call.
+pub(crate) fn are_new(seats: &[Seat], directory: &Directory, count: u32)
+    requires { seats.now ≡ new_seats directory.now 0 count }
+    ensures { All (IsNew directory.now) seats.now }
+{}
+
+// The pairs as the table has them.
+fn copied(alloc: Global, first: &[FlowPair]) -> Result<Vec<Pair>, AllocError>
+    ensures { IfOk result (λ pairs. pairs.items ≡ map pair_of first.now) }
+{
+    let mut pairs = Vec::with_capacity(alloc, first.len())?;
+    for pair in first {
+        pairs.push_reserved(pair.to_pair());
+    }
+    Ok(pairs)
+}
+
+// The pairs in the order of their keys.
+fn in_order(mut pairs: Vec<Pair>) -> Vec<Pair>
+    ensures all { IsPermutation pairs.items result.items }
+    ensures sorted { IsSortedByKey (λ pair. pair.key) key_cmp result.items }
+{
+    pairs.sort_unstable_by_key(|pair| pair.key);
+    pairs
+}
+
+// Whether all values and bytes can be kept.
+fn can_be_kept(pairs: &[Pair]) -> bool
+    ensures { IsTrue result → All IsPair pairs.now }
+{
+    for pair in pairs {
+        pair.key.has_words();
+        if pair.value >= VALUE_LIMIT || pair.bytes >= VALUE_LIMIT {
+            return false;
+        }
+    }
+    true
+}
+
+// Whether no two neighbours have one key.
+fn are_apart(pairs: &[Pair]) -> bool
+    requires { IsSortedByKey (λ pair. pair.key) key_cmp pairs.now }
+    ensures { IsTrue result → HasDistinctKeys pairs.now }
+{
+    for i in 1..pairs.len() {
+        if pairs[i - 1].key == pairs[i].key {
+            return false;
+        }
+    }
+    true
+}
+
+/// The pairs that a table begins with, in the order of their keys. `Bad` comes where a value or its bytes are too
+/// large, or a key stands twice.
+pub(crate) fn first_pairs(alloc: Global, first: &[FlowPair]) -> Result<Vec<Pair>, NotOpened>
+    ensures all { IfOk result (λ pairs. IsPermutation (map pair_of first.now) pairs.items) }
+    ensures pairs { IfOk result (λ pairs. All IsPair pairs.items) }
+    ensures distinct { IfOk result (λ pairs. HasDistinctKeys pairs.items) }
+{
+    let Ok(pairs) = copied(alloc, first) else {
+        return Err(NotOpened::Memory);
+    };
+    let pairs = in_order(pairs);
+    if !can_be_kept(&pairs) || !are_apart(&pairs) {
+        return Err(NotOpened::Bad);
+    }
+    Ok(pairs)
+}

@@ -1,0 +1,69 @@
+//! What a table is opened with, for C.
+
+ghost use Rattle.std.specs.Prelude.{◌≡◌};
+ghost use Rattle.flowdir_c.specs.Asked.{AreOptions, rows_of};
+
+use step_counts::{SeatRows, Settings};
+
+/// What a table is opened with.
+#[repr(C)]
+#[derive(Clone, Copy)]
+pub struct Options {
+    /// 1 to 8.
+    pub seats: u32,
+    /// Room of a class of keys, 1 to 16.
+    pub items: u32,
+    /// Hash bits that tell classes apart, 0 to 12.
+    pub depth: u32,
+    /// The depth that the table begins with, 0 to the greatest.
+    pub start: u32,
+    /// Of the hash.
+    pub seed: u64,
+    /// Of each seat.
+    pub rows: Rows,
+}
+
+/// The rows of each seat.
+#[repr(C)]
+#[derive(Clone, Copy)]
+pub struct Rows {
+    pub op_rows: u64,
+    pub bucket_rows: u64,
+    pub bucket_words: u64,
+    pub directory_rows: u64,
+}
+
+impl Options {
+    /// The settings, if they are in their ranges.
+    pub(crate) fn settings(&self) -> Option<Settings>
+        ensures { AreOptions self.now result }
+    {
+        Settings::new(self.seats, self.items, self.depth, self.start).ok()
+    }
+}
+
+impl Rows {
+    /// The rows as the table has them.
+    pub(crate) fn to_rows(&self) -> SeatRows
+        ensures { result ≡ rows_of self.now }
+    {
+        SeatRows {
+            op_rows: self.op_rows,
+            bucket_rows: self.bucket_rows,
+            bucket_words: self.bucket_words,
+            directory_rows: self.directory_rows,
+        }
+    }
+
+    /// Rows as C has them.
+    pub(crate) fn of_rows(rows: &SeatRows) -> Rows
+        ensures { rows_of result ≡ rows.now }
+    {
+        Rows {
+            op_rows: rows.op_rows,
+            bucket_rows: rows.bucket_rows,
+            bucket_words: rows.bucket_words,
+            directory_rows: rows.directory_rows,
+        }
+    }
+}

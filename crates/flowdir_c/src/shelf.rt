@@ -1,0 +1,249 @@
+//! A table, with the seats that nobody has, or what it left.
+
+ghost use Rattle.std.specs.Prelude.{◌≡◌, ◌<◌, ◌++◌, ◌∷◌, [], All, IfOk, IfSome, IsSomeAnd, IsTrue, None, Some, false, length, slice_get, vec_capacity, vec_len};
+ghost use Rattle.std.specs.Option.{option_map};
+ghost use Rattle.flowdir_c.specs.Told.{pair_of};
+ghost use Rattle.std.specs.Arc.{arc_value};
+ghost use Rattle.bucket_states.specs.Parts.{HasDistinctKeys};
+ghost use Rattle.core_model.specs.Setup.{IsPair};
+ghost use Rattle.shared_table.specs.Values.{IsNew, IsOf, TableValue};
+ghost use Rattle.flowdir_c.specs.Opened.{IsOpened};
+ghost use Rattle.flowdir_c.specs.Shelves.{ArePairsOf, WasLeftTo};
+
+use crate::answer::FlowPair;
+use crate::holder::Holder;
+use crate::opening::{NotOpened, are_new, rows_in_range, rows_of};
+use crate::peeker::{Peeker, peeker_of};
+use core_orders::reopen_laws;
+use hash_bits::Hashing;
+use plain_map::{OpenFault, Pair};
+use shared_table::{ClosedTable, Directory, Seat};
+use std::alloc::{AllocError, Global};
+use std::marker::Model;
+use std::mem;
+use std::sync::Arc;
+use step_counts::{SeatRows, Settings};
+
+/// A directory, until it is closed; the seats that nobody has had yet, and those that were given back; what a closed
+/// directory left, and once they were listed its pairs.
+#[derive(Drop)]
+pub struct Shelf {
+    directory: Option<Arc<Directory, Global>>,
+    fresh: Vec<Seat>,
+    back: Vec<Seat>,
+    count: u32,
+    left: Option<ClosedTable>,
+    pairs: Vec<Pair>,
+}
+
+impl Model for Shelf {
+    ghost use Rattle.flowdir_c.specs.Shelves.{ShelfValue};
+
+    ghost Value = { ShelfValue };
+
+    ghost use Rattle.flowdir_c.specs.Insides.{ShelfStands, shelf_value};
+
+    ghost view = { shelf_value };
+
+    ghost invariant = { ShelfStands };
+}
+
+/// A table with these pairs, and all its seats.
+pub(crate) fn shelf_of(
+    alloc: Global,
+    settings: &Settings,
+    seed: u64,
+    rows: SeatRows,
+    first: &[Pair],
+) -> Result<Shelf, NotOpened>
+    requires pairs { All IsPair first.now }
+    requires distinct { HasDistinctKeys first.now }
+    ensures opened { IfOk result (λ shelf. IsSomeAnd shelf.table (λ t.
+        IsOpened settings.now seed rows first.now t.setup)) }
+{
+    let Some(rows) = rows_in_range(rows) else {
+        return Err(NotOpened::Bad);
+    };
+    let Ok(rows) = rows_of(alloc, rows, settings.seats) else {
+        return Err(NotOpened::Memory);
+    };
+    let Ok(back) = Vec::with_capacity(alloc, settings.seats as usize) else {
+        return Err(NotOpened::Memory);
+    };
+    match Directory::open(alloc, settings, Hashing::Mix(seed), &rows, first) {
+        Ok((directory, fresh)) => {
+            are_new(&fresh, &directory, settings.seats);
+            let Ok(directory) = Arc::new(alloc, directory) else {
+                return Err(NotOpened::Memory);
+            };
+            Ok(Shelf {
+                directory: Some(directory),
+                fresh,
+                back,
+                count: settings.seats,
+                left: None,
+                pairs: Vec::new(alloc),
+            })
+        }
+        Err(OpenFault::Memory) => Err(NotOpened::Memory),
+        Err(OpenFault::NoRoom { .. }) => Err(NotOpened::NoRoom),
+    }
+}
+
+// Adds a seat, if there is a place for it.
+fn add(seats: &mut Vec<Seat>, seat: Seat)
+    ensures of { (t : TableValue) → All (IsOf t) seats.old.items → IsOf t seat → All (IsOf t) seats.new.items }
+    ensures new { (t : TableValue) → All (IsNew t) seats.old.items → IsNew t seat → All (IsNew t) seats.new.items }
+    ensures added { vec_len seats.old < vec_capacity seats.old → seats.new.items ≡ seats.old.items ++ seat ∷ [] }
+    ensures places { vec_capacity seats.new ≡ vec_capacity seats.old }
+{
+    if seats.len() < seats.capacity() {
+        seats.push_reserved(seat);
+    }
+}
+
+// A new seat beside its directory.
+fn holder_of(directory: Arc<Directory, Global>, seat: Seat) -> Holder
+    requires { IsNew (arc_value directory) seat }
+    ensures { (result.seat ≡ seat) × (arc_value result.directory ≡ arc_value directory) }
+{
+    Holder {
+        directory,
+        seat,
+        calls: 0,
+    }
+}
+
+impl Shelf {
+    /// Takes a seat that nobody has had, if there is one.
+    pub(crate) fn take(&mut self) -> Option<Holder>
+        ensures table { self.new.table ≡ self.old.table }
+        ensures back { self.new.back ≡ self.old.back }
+        ensures taken { IfSome result (λ holder. Some (arc_value holder.directory) ≡ self.old.table) }
+        ensures new { IfSome result (λ holder. IsNew (arc_value holder.directory) holder.seat) }
+    {
+        let Some(directory) = &self.directory else {
+            return None;
+        };
+        let Ok(directory) = Arc::try_clone(directory) else {
+            return None;
+        };
+        let seat = self.fresh.pop()?;
+        Some(holder_of(directory, seat))
+    }
+
+    /// Puts a seat that was not given out again to those that nobody has had.
+    pub(crate) fn put_back(&mut self, holder: Holder)
+        requires table { Some (arc_value holder.directory) ≡ self.old.table }
+        requires new { IsNew (arc_value holder.directory) holder.seat }
+        ensures table { self.new.table ≡ self.old.table }
+        ensures back { self.new.back ≡ self.old.back }
+    {
+        let Holder { seat, .. } = holder;
+        add(&mut self.fresh, seat);
+    }
+
+    /// A new reader, if the table runs.
+    pub(crate) fn reader(&self) -> Option<Peeker>
+        ensures { IfSome result (λ peeker. Some (arc_value peeker.directory) ≡ self.now.table) }
+    {
+        let Some(directory) = &self.directory else {
+            return None;
+        };
+        match Arc::try_clone(directory) {
+            Ok(directory) => Some(peeker_of(directory)),
+            Err(_) => None,
+        }
+    }
+
+    /// Whether there is a place for one more seat that is given back.
+    pub(crate) fn has_place(&self) -> bool
+        ensures { IsTrue result → length self.now.back < self.now.places }
+    {
+        self.back.len() < self.back.capacity()
+    }
+
+    /// Takes a seat of its own back.
+    pub(crate) fn keep(&mut self, holder: Holder)
+        requires own { Some (arc_value holder.directory) ≡ self.old.table }
+        requires place { length self.old.back < self.old.places }
+        ensures table { self.new.table ≡ self.old.table }
+        ensures back { self.new.back ≡ self.old.back ++ holder.seat ∷ [] }
+    {
+        let Holder { seat, .. } = holder;
+        add(&mut self.back, seat);
+    }
+
+    /// Ends the table, if all its seats were given back and no reader is left.
+    pub(crate) fn close(&mut self, alloc: Global) -> bool
+        ensures closed { IsTrue result → self.new.table ≡ None }
+        ensures left { IsTrue result → IsSomeAnd self.new.left (WasLeftTo self.old.back) }
+        ensures open { result ≡ false → (self.new.table ≡ self.old.table) × (self.new.back ≡ self.old.back) }
+    {
+        if self.back.len() != self.count as usize {
+            return false;
+        }
+        let Some(directory) = self.directory.take() else {
+            return false;
+        };
+        match Arc::try_unwrap(directory) {
+            Ok(directory) => {
+                let seats = mem::replace(&mut self.back, Vec::new(alloc));
+                self.left = Some(directory.close_in_place(seats));
+                true
+            }
+            Err(directory) => {
+                self.directory = Some(directory);
+                false
+            }
+        }
+    }
+
+    /// Lists the pairs of a closed table, and tells whether it is closed. The only error is want of memory.
+    pub(crate) fn list(&mut self, alloc: Global) -> Result<bool, AllocError>
+        ensures table { self.new.table ≡ self.old.table }
+        ensures back { self.new.back ≡ self.old.back }
+        ensures left { self.new.left ≡ self.old.left }
+        ensures listed { IfOk result (λ is_closed. IsTrue is_closed →
+            IsSomeAnd self.new.left (λ left. ArePairsOf left self.new.pairs)) }
+    {
+        reopen_laws();
+        let Some(left) = &self.left else {
+            return Ok(false);
+        };
+        let pairs = left.pairs(alloc)?;
+        self.pairs = pairs;
+        Ok(true)
+    }
+
+    /// How many pairs are listed.
+    pub(crate) fn count(&self) -> usize
+        ensures { result ≡ length self.now.pairs }
+    {
+        self.pairs.len()
+    }
+
+    /// The pair at this place of those that are listed.
+    pub(crate) fn pair_at(&self, at: usize) -> Option<FlowPair>
+        ensures { option_map pair_of result ≡ slice_get self.now.pairs at }
+    {
+        match self.pairs.get(at) {
+            Some(pair) => Some(FlowPair::of_pair(pair)),
+            None => None,
+        }
+    }
+
+    /// The next table, with the pairs that are listed.
+    pub(crate) fn reopened(
+        &self,
+        alloc: Global,
+        settings: &Settings,
+        seed: u64,
+        rows: SeatRows,
+    ) -> Result<Shelf, NotOpened>
+        ensures opened { IfOk result (λ shelf. IsSomeAnd shelf.table (λ t.
+            IsOpened settings.now seed rows self.now.pairs t.setup)) }
+    {
+        shelf_of(alloc, settings, seed, rows, &self.pairs)
+    }
+}

@@ -1,0 +1,178 @@
+//! The calls on a table.
+
+ghost use Rattle.std.specs.Prelude.{◌≡◌, ◌≢◌, ◌∷◌, [], Some};
+ghost use Rattle.std.specs.Arc.{arc_value};
+ghost use Rattle.flowdir_c.specs.declared.holder.Holder.{Holder};
+ghost use Rattle.flowdir_c.specs.Shelves.{ShelfValue};
+ghost use Rattle.flowdir_c.specs.Exports.{AreRowsFor, HasSeat, IsBoundOf, Opens, Reopens, StaysListed, StaysTable, TakesBack};
+
+use crate::answer::FlowPair;
+use crate::loose::Loose;
+use crate::opening::{NotOpened, first_pairs};
+use crate::options::{Options, Rows};
+use crate::seats::SeatHandle;
+use crate::shelf::shelf_of;
+use crate::status::{BAD, BUSY, MEMORY, NO_ROOM, OK};
+use crate::tables::TableHandle;
+use std::alloc::Global;
+use std::mem;
+use step_counts::{automatic_rows, bound};
+
+/// The status of an opening that failed.
+fn status_of(failed: NotOpened) -> u32
+    ensures { result ≢ 0 }
+{
+    match failed {
+        NotOpened::Memory => MEMORY,
+        NotOpened::Bad => BAD,
+        NotOpened::NoRoom => NO_ROOM,
+    }
+}
+
+/// The most atomic steps of an update, or 0 where the options are out of their ranges.
+#[unsafe(no_mangle)]
+pub extern "C" fn flowdir_bound(options: &Options) -> u64
+    ensures { IsBoundOf options.now result }
+{
+    match options.settings() {
+        Some(settings) => bound(&settings),
+        None => 0,
+    }
+}
+
+/// The rows with which no update of a seat that makes so many is refused.
+#[unsafe(no_mangle)]
+pub extern "C" fn flowdir_rows_for(options: &Options, updates: u32, out: &mut Rows) -> u32
+    ensures rows { result ≡ 0 → AreRowsFor options.now updates out.new }
+    ensures bad { result ≢ 0 → out.new ≡ out.old }
+{
+    let Some(settings) = options.settings() else {
+        return BAD;
+    };
+    let rows = automatic_rows(&settings, updates);
+    *out = Rows::of_rows(&rows);
+    OK
+}
+
+/// Opens a table with these pairs.
+#[unsafe(no_mangle)]
+pub extern "C" fn flowdir_open(
+    alloc: Global,
+    options: &Options,
+    first: &[FlowPair],
+    table: &mut TableHandle,
+) -> u32
+    ensures opened { result ≡ 0 → Opens options.now first.now table.new.holders }
+    ensures unopened { result ≢ 0 → table.new.holders ≡ table.old.holders }
+{
+    let Some(settings) = options.settings() else {
+        return BAD;
+    };
+    let pairs = match first_pairs(alloc, first) {
+        Ok(pairs) => pairs,
+        Err(failed) => return status_of(failed),
+    };
+    match shelf_of(
+        alloc,
+        &settings,
+        options.seed,
+        options.rows.to_rows(),
+        &pairs,
+    ) {
+        Ok(shelf) => {
+            let Ok(shelf) = Box::new(alloc, shelf) else {
+                return MEMORY;
+            };
+            *table = TableHandle::of_loose(Loose::of(shelf));
+            OK
+        }
+        Err(failed) => status_of(failed),
+    }
+}
+
+/// Takes a seat that nobody has had.
+#[unsafe(no_mangle)]
+pub extern "C" fn flowdir_sit(alloc: Global, table: &mut TableHandle, seat: &mut SeatHandle) -> u32
+    requires { (v : ShelfValue) × (table.old.holders ≡ v ∷ []) }
+    ensures table { StaysTable table.old.holders table.new.holders }
+    ensures seat { result ≡ 0 → HasSeat table.new.holders seat.new.holders }
+    ensures unseated { result ≢ 0 → seat.new.holders ≡ seat.old.holders }
+{
+    let mut shelf = mem::replace(table, TableHandle::blank())
+        .into_loose(alloc)
+        .into_box();
+    let Some(holder) = shelf.take() else {
+        *table = TableHandle::of_loose(Loose::of(shelf));
+        return BUSY;
+    };
+    match Box::new(alloc, holder) {
+        Ok(holder) => {
+            *table = TableHandle::of_loose(Loose::of(shelf));
+            *seat = SeatHandle::of_loose(Loose::of(holder));
+            OK
+        }
+        Err(failed) => {
+            shelf.put_back(failed.value);
+            *table = TableHandle::of_loose(Loose::of(shelf));
+            MEMORY
+        }
+    }
+}
+
+/// Gives a seat back to the table that it is of.
+#[unsafe(no_mangle)]
+pub extern "C" fn flowdir_rise(alloc: Global, table: &mut TableHandle, seat: &mut SeatHandle) -> u32
+    requires { (v : ShelfValue) × ((w : Holder) × ((table.old.holders ≡ v ∷ []) × (seat.old.holders ≡ w ∷ [])
+        × (Some (arc_value w.directory) ≡ v.table))) }
+    ensures risen { result ≡ 0 → TakesBack table.old.holders table.new.holders seat.old.holders }
+    ensures blank { result ≡ 0 → seat.new.holders ≡ [] }
+    ensures table { result ≢ 0 → StaysTable table.old.holders table.new.holders }
+    ensures sitting { result ≢ 0 → seat.new.holders ≡ seat.old.holders }
+{
+    let mut shelf = mem::replace(table, TableHandle::blank())
+        .into_loose(alloc)
+        .into_box();
+    if !shelf.has_place() {
+        *table = TableHandle::of_loose(Loose::of(shelf));
+        return BAD;
+    }
+    let holder = mem::replace(seat, SeatHandle::blank())
+        .into_loose(alloc)
+        .into_box();
+    shelf.keep(Box::into_inner(holder));
+    *table = TableHandle::of_loose(Loose::of(shelf));
+    OK
+}
+
+/// Opens the next table with the pairs that a closed one left, once they are listed.
+#[unsafe(no_mangle)]
+pub extern "C" fn flowdir_reopen(
+    alloc: Global,
+    options: &Options,
+    closed: &mut TableHandle,
+    table: &mut TableHandle,
+) -> u32
+    requires { (v : ShelfValue) × (closed.old.holders ≡ v ∷ []) }
+    ensures closed { StaysListed closed.old.holders closed.new.holders }
+    ensures opened { result ≡ 0 → Reopens options.now closed.new.holders table.new.holders }
+    ensures unopened { result ≢ 0 → table.new.holders ≡ table.old.holders }
+{
+    let Some(settings) = options.settings() else {
+        return BAD;
+    };
+    let shelf = mem::replace(closed, TableHandle::blank())
+        .into_loose(alloc)
+        .into_box();
+    let opened = shelf.reopened(alloc, &settings, options.seed, options.rows.to_rows());
+    *closed = TableHandle::of_loose(Loose::of(shelf));
+    match opened {
+        Ok(shelf) => {
+            let Ok(shelf) = Box::new(alloc, shelf) else {
+                return MEMORY;
+            };
+            *table = TableHandle::of_loose(Loose::of(shelf));
+            OK
+        }
+        Err(failed) => status_of(failed),
+    }
+}

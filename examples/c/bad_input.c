@@ -1,0 +1,173 @@
+/* What is told of input that no table can take: a status each, and nothing happens. */
+#include "flowdir.h"
+#include <stdio.h>
+#include <string.h>
+
+static int failures;
+
+static void expect(const char *what, uint64_t told, uint64_t wanted) {
+    if (told == wanted) return;
+    printf("%s: %llu, wanted %llu\n", what, (unsigned long long)told, (unsigned long long)wanted);
+    failures++;
+}
+
+static struct flowdir_key key_of(uint64_t n) {
+    struct flowdir_key key = {n, 0, 0, 0, 0};
+    return key;
+}
+
+static struct flowdir_options options_of(uint32_t seats, uint32_t items, uint32_t depth, uint32_t start) {
+    struct flowdir_options options = {.seats = seats, .items = items, .depth = depth, .start = start, .seed = 9};
+    options.rows = (struct flowdir_rows){64, 256, 64, 8};
+    return options;
+}
+
+/* Numbers out of their ranges. */
+static void ranges(void) {
+    static const struct { const char *what; uint32_t seats, items, depth, start; } table[] = {
+        {"no seat", 0, 8, 4, 0},          {"nine seats", 9, 8, 4, 0},          {"no items", 1, 0, 4, 0},
+        {"17 items", 1, 17, 4, 0},        {"depth 13", 1, 8, 13, 0},           {"start above depth", 1, 8, 4, 5},
+    };
+    for (size_t i = 0; i < sizeof table / sizeof *table; i++) {
+        struct flowdir_options options = options_of(table[i].seats, table[i].items, table[i].depth, table[i].start);
+        struct flowdir_table none = {0};
+        struct flowdir_rows rows = {1, 2, 3, 4}, same = rows;
+        expect(table[i].what, flowdir_open(&options, NULL, 0, &none), FLOWDIR_BAD);
+        expect(table[i].what, flowdir_rows_for(&options, 7, &rows), FLOWDIR_BAD);
+        expect(table[i].what, flowdir_bound(&options), 0);
+        expect("rows are as they were", memcmp(&rows, &same, sizeof rows), 0);
+        expect("no table", none.at != NULL, 0);
+    }
+    for (int i = 0; i < 4; i++) {
+        struct flowdir_options options = options_of(1, 8, 4, 0);
+        uint64_t *rows[] = {&options.rows.op_rows, &options.rows.bucket_rows, &options.rows.bucket_words,
+                            &options.rows.directory_rows};
+        *rows[i] = 1ull << 32;
+        struct flowdir_table none = {0};
+        expect("rows of 2^32", flowdir_open(&options, NULL, 0, &none), FLOWDIR_BAD);
+        expect("no table", none.at != NULL, 0);
+    }
+}
+
+/* First pairs that no table can begin with. */
+static void first_pairs(void) {
+    struct flowdir_options options = options_of(1, 2, 0, 0);
+    struct flowdir_pair twice[] = {{key_of(1), 1, 0}, {key_of(2), 2, 0}, {key_of(1), 3, 0}};
+    struct flowdir_pair large[] = {{key_of(1), 1ull << 61, 0}};
+    struct flowdir_pair heavy[] = {{key_of(1), 1, 1ull << 61}};
+    struct flowdir_pair three[] = {{key_of(1), 1, 0}, {key_of(2), 2, 0}, {key_of(3), 3, 0}};
+    struct flowdir_table none = {0};
+    expect("a key twice", flowdir_open(&options, twice, 3, &none), FLOWDIR_BAD);
+    expect("a value of 2^61", flowdir_open(&options, large, 1, &none), FLOWDIR_BAD);
+    expect("bytes of 2^61", flowdir_open(&options, heavy, 1, &none), FLOWDIR_BAD);
+    expect("three keys for two", flowdir_open(&options, three, 3, &none), FLOWDIR_NO_ROOM);
+    expect("no table", none.at != NULL, 0);
+}
+
+/* Calls that are refused, seats and readers that are out, and a closed table. */
+static void calls(void) {
+    struct flowdir_options options = options_of(1, 2, 1, 0);
+    options.rows = (struct flowdir_rows){3, 30, 20, 4};
+    struct flowdir_pair first = {key_of(5), 50, 0};
+    struct flowdir_table table = {0}, next = {0};
+    struct flowdir_seat seat = {0}, other = {0};
+    struct flowdir_reader reader = {0};
+    struct flowdir_reply reply = {99, 98, 97}, same = reply;
+    struct flowdir_key key = key_of(5), absent = key_of(6);
+    size_t count = 77;
+    struct flowdir_pair pair = {key_of(8), 8, 0};
+    expect("open", flowdir_open(&options, &first, 1, &table), FLOWDIR_OK);
+    expect("sit", flowdir_sit(&table, &seat), FLOWDIR_OK);
+    expect("a second seat", flowdir_sit(&table, &other), FLOWDIR_BUSY);
+    expect("no seat", other.at != NULL, 0);
+    expect("a value of 2^61", flowdir_insert(&seat, &key, 1ull << 61, &reply), FLOWDIR_BAD);
+    expect("no reply", memcmp(&reply, &same, sizeof reply), 0);
+    expect("a count of a table that runs", flowdir_count(&table, &count), FLOWDIR_BAD);
+    expect("a pair of a table that runs", flowdir_pair_at(&table, 0, &pair), FLOWDIR_BAD);
+    expect("no count", count, 77);
+    expect("read", flowdir_read(&table, &reader), FLOWDIR_OK);
+    expect("peek", flowdir_peek(&reader, &key, &reply), FLOWDIR_OK);
+    expect("found", reply.kind * 1000 + reply.value, FLOWDIR_FOUND * 1000 + 50);
+    int updates = 0;
+    while (updates < 10 && flowdir_remove(&seat, updates ? &absent : &key, &reply) == FLOWDIR_OK) updates++;
+    expect("updates by three op rows", updates, 3);
+    expect("lookups go on", flowdir_lookup(&seat, &key, &reply), FLOWDIR_OK);
+    expect("absent", reply.kind, FLOWDIR_ABSENT);
+    expect("peeks go on", flowdir_peek(&reader, &absent, &reply), FLOWDIR_OK);
+    expect("a seat is out", flowdir_close(&table), FLOWDIR_BUSY);
+    expect("rise", flowdir_rise(&table, &seat), FLOWDIR_OK);
+    expect("the handle leads to nothing", seat.at != NULL, 0);
+    expect("a reader is out", flowdir_close(&table), FLOWDIR_BUSY);
+    flowdir_leave(&reader);
+    expect("close", flowdir_close(&table), FLOWDIR_OK);
+    expect("close again", flowdir_close(&table), FLOWDIR_BUSY);
+    expect("sit at a closed table", flowdir_sit(&table, &seat), FLOWDIR_BUSY);
+    expect("read a closed table", flowdir_read(&table, &reader), FLOWDIR_MEMORY);
+    expect("count", flowdir_count(&table, &count), FLOWDIR_OK);
+    expect("no pair is left", count, 0);
+    expect("no pair there", flowdir_pair_at(&table, 0, &pair), FLOWDIR_BAD);
+    expect("the pair is as it was", pair.value, 8);
+    expect("reopen", flowdir_reopen(&options, &table, &next), FLOWDIR_OK);
+    flowdir_free(&table);
+    flowdir_free(&next);
+}
+
+/* The pairs of a closed table come in the order of their keys, and the next table has them. */
+static void interval(void) {
+    struct flowdir_options options = options_of(2, 8, 4, 0);
+    struct flowdir_table table = {0}, next = {0};
+    struct flowdir_seat one = {0}, two = {0};
+    struct flowdir_reply reply;
+    static const uint64_t keys[] = {40, 10, 30, 20};
+    expect("open", flowdir_open(&options, NULL, 0, &table), FLOWDIR_OK);
+    expect("sit", flowdir_sit(&table, &one), FLOWDIR_OK);
+    expect("sit", flowdir_sit(&table, &two), FLOWDIR_OK);
+    for (int i = 0; i < 4; i++) {
+        struct flowdir_key key = key_of(keys[i]);
+        expect("insert", flowdir_insert(i % 2 ? &one : &two, &key, keys[i] + 1, &reply), FLOWDIR_OK);
+        expect("new", reply.kind, FLOWDIR_NEW);
+    }
+    struct flowdir_key third = key_of(30), none = key_of(31);
+    expect("tally", flowdir_tally(&one, &third, 1500, &reply), FLOWDIR_OK);
+    expect("the sum", reply.kind * 10000 + reply.value, FLOWDIR_SUM * 10000 + 1500);
+    expect("tally by the other seat", flowdir_tally(&two, &third, 40, &reply), FLOWDIR_OK);
+    expect("the sum of both", reply.kind * 10000 + reply.value, FLOWDIR_SUM * 10000 + 1540);
+    expect("a tally of 2^61", flowdir_tally(&two, &third, 1ull << 61, &reply), FLOWDIR_BAD);
+    expect("the reply is as it was", reply.value, 1540);
+    expect("a large tally", flowdir_tally(&two, &third, (1ull << 61) - 1, &reply), FLOWDIR_OK);
+    expect("stops at the limit", reply.value, (1ull << 61) - 1);
+    expect("a tally of no key", flowdir_tally(&two, &none, 1, &reply), FLOWDIR_OK);
+    expect("is told so", reply.kind * 10 + reply.value, FLOWDIR_ABSENT * 10);
+    flowdir_rise(&table, &two);
+    flowdir_rise(&table, &one);
+    expect("close", flowdir_close(&table), FLOWDIR_OK);
+    size_t count = 0;
+    expect("count", flowdir_count(&table, &count), FLOWDIR_OK);
+    expect("four pairs", count, 4);
+    struct flowdir_pair counted;
+    expect("the third pair", flowdir_pair_at(&table, 2, &counted), FLOWDIR_OK);
+    expect("its bytes", counted.bytes, (1ull << 61) - 1);
+    for (size_t at = 0; at < count; at++) {
+        struct flowdir_pair pair;
+        expect("pair", flowdir_pair_at(&table, at, &pair), FLOWDIR_OK);
+        expect("in order", pair.key.k0 * 1000 + pair.value, (at + 1) * 10 * 1000 + (at + 1) * 10 + 1);
+    }
+    expect("reopen", flowdir_reopen(&options, &table, &next), FLOWDIR_OK);
+    flowdir_free(&table);
+    struct flowdir_reader reader = {0};
+    struct flowdir_key key = key_of(30);
+    expect("read", flowdir_read(&next, &reader), FLOWDIR_OK);
+    flowdir_free(&next);
+    expect("a reader outlives its table", flowdir_peek(&reader, &key, &reply), FLOWDIR_OK);
+    expect("found", reply.kind * 1000 + reply.value, FLOWDIR_FOUND * 1000 + 31);
+    flowdir_leave(&reader);
+}
+
+int main(void) {
+    ranges();
+    first_pairs();
+    calls();
+    interval();
+    printf("%s\n", failures ? "WRONG" : "each status is as the header says");
+    return failures != 0;
+}

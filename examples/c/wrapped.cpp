@@ -1,0 +1,36 @@
+// The table from C++: four threads insert, one peeks, and what is left is what was inserted.
+#include "flowdir.hpp"
+
+#include <cstdio>
+#include <thread>
+
+int main() {
+    flowdir::Options options{4, 8, 10, 0, 7, {}};
+    options = flowdir::with_rows(options, 1000);
+    flowdir::Table table(options, {{{1, 2, 3, 4, 5}, 6, 0}});
+    bool wrong = false;
+    {
+        std::vector<flowdir::Seat> seats;
+        for (int i = 0; i < 4; i++) seats.push_back(table.sit());
+        flowdir::Reader reader = table.read();
+        std::vector<std::thread> threads;
+        for (uint64_t i = 0; i < 4; i++)
+            threads.emplace_back([seat = &seats[i], i] {
+                for (uint64_t n = 0; n < 100; n++) seat->insert({9, i, n, 0, 0}, n);
+            });
+        for (int i = 0; i < 1000; i++) wrong |= reader.find({1, 2, 3, 4, 5}) != 6u;
+        for (auto &thread : threads) thread.join();
+        for (auto &seat : seats) seat.tally({1, 2, 3, 4, 5}, 1500);
+        wrong |= seats[0].find({9, 3, 99, 0, 0}) != 99u || reader.find({9, 4, 0, 0, 0}).has_value();
+    }
+    const auto left = table.close();
+    wrong |= left.size() != 401 || left[0].bytes != 6000;
+    try {
+        flowdir::Table none({9, 8, 10, 0, 7, {}});
+        wrong = true;
+    } catch (const flowdir::Refused &refused) {
+        wrong |= refused.status() != FLOWDIR_BAD;
+    }
+    std::puts(wrong ? "WRONG" : "as it should be");
+    return wrong;
+}

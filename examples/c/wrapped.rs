@@ -1,0 +1,35 @@
+//! The table from Rust: four threads insert, one peeks, and what is left is what was inserted.
+
+#[path = "../../include/flowdir.rs"]
+#[allow(dead_code)]
+mod flowdir;
+
+use flowdir::{Key, Options, Pair, Refused, Reply, Table};
+use std::thread;
+
+fn main() -> Result<(), Refused> {
+    let options = Options { seats: 4, items: 8, depth: 10, seed: 7, ..Options::default() };
+    let options = options.with_rows_for(1000)?;
+    let first = Pair { key: Key([1, 2, 3, 4, 5]), value: 6, bytes: 0 };
+    let table = Table::open(&options, &[first])?;
+    thread::scope(|scope| {
+        for i in 0..4 {
+            let mut seat = table.sit()?;
+            scope.spawn(move || {
+                for n in 0..100 {
+                    assert_eq!(seat.insert(&Key([9, i, n, 0, 0]), n), Ok(Reply::New));
+                }
+                assert!(matches!(seat.tally(&first.key, 1500), Ok(Reply::Sum(_))));
+            });
+        }
+        let mut reader = table.read()?;
+        for _ in 0..1000 {
+            assert_eq!(reader.peek(&first.key), Some(6));
+        }
+        Ok::<(), Refused>(())
+    })?;
+    let left = table.close()?;
+    assert_eq!((left.len(), left[0].bytes), (401, 6000));
+    assert_eq!(Options { seats: 9, ..options }.with_rows_for(1).err(), Some(Refused::Bad));
+    Ok(())
+}

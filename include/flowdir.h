@@ -1,0 +1,161 @@
+/* flowdir.h: a wait-free, resizable hash table from keys of five 64-bit words to values below 2^61.
+ *
+ * For jobs with an end: a batch, an interval, a capture. A table serves as many updates as it was opened for, and then
+ * answers FLOWDIR_FULL to every further update of that seat; lookups and peeks go on. It holds at most items << depth
+ * keys, and fewer by chance, since a class of keys that is full answers FLOWDIR_NOROOM. A seat makes at most
+ * 4,294,967,294 calls, lookups among them; then it answers FLOWDIR_BAD. Peeks are not counted. An exporter that closes
+ * its books every interval closes one table and opens the next with the pairs that it left: flowdir_close,
+ * flowdir_count, flowdir_reopen.
+ *
+ * A table is opened with a number of seats. A thread takes a seat and makes its calls by it, one at a time. No call by
+ * a seat or a reader waits for another thread, takes memory or enters the kernel: an update takes at most
+ * flowdir_bound(options) atomic steps wherever the other threads stand or stop, and a lookup tells in its reply how
+ * many it took. Any number of threads may peek, each by a reader of its own: a peek loads 5 words, and 7 for each key
+ * of the bucket that it reads, and stores none.
+ *
+ * What a caller owes, since nothing checks it:
+ *  - a pointer is what its type says, and is not null, but for a pointer to no pairs;
+ *  - a handle is {0} before it is written, is written by no call while it leads to something, and is never copied;
+ *  - a handle is passed to no two calls at once, and goes from one thread to another only over a lock, a thread's start
+ *    or join, or a sequentially consistent atomic; so each thread has a seat, a reader or both of its own;
+ *  - a handle that a call names leads to what its type says: it was opened, taken or read, and not given up since;
+ *  - a seat is given back (flowdir_rise) to the table that it came from;
+ *  - malloc, realloc and free are those of one allocator, which aligns to 16 bytes as glibc's does;
+ *  - no call is made in a signal handler, or in the forked child of a process with threads.
+ *
+ * All calls answer a flowdir_status, but for those that cannot fail. After any answer but FLOWDIR_OK nothing happened:
+ * every handle leads to what it led to, and nothing was written. Want of memory is told by FLOWDIR_MEMORY, and the call
+ * can be made again.
+ */
+#ifndef FLOWDIR_H
+#define FLOWDIR_H
+
+#include <stddef.h>
+#include <stdint.h>
+
+#ifdef __cplusplus
+extern "C" {
+#endif
+
+/* Handles: the address of what they lead to. */
+struct flowdir_table { void *at; };
+struct flowdir_seat { void *at; };
+struct flowdir_reader { void *at; };
+
+/* A key: five words, whatever they mean. Two keys are one where all words are equal. */
+struct flowdir_key { uint64_t k0, k1, k2, k3, k4; };
+
+/* A key with its value and the bytes that were counted of it, both below 2^61. */
+struct flowdir_pair { struct flowdir_key key; uint64_t value, bytes; };
+
+/* The rows of one seat: what all its updates can use over the whole life of its table, each number below 2^32. */
+struct flowdir_rows { uint64_t op_rows, bucket_rows, bucket_words, directory_rows; };
+
+struct flowdir_options {
+    uint32_t seats;            /* 1 to 8 */
+    uint32_t items;            /* room of a class of keys, 1 to 16 */
+    uint32_t depth;            /* hash bits that tell classes apart, 0 to 12 */
+    uint32_t start;            /* the depth that the table begins with, 0 to depth */
+    uint64_t seed;             /* of the hash */
+    struct flowdir_rows rows;  /* of each seat: flowdir_rows_for tells what suffices */
+};
+
+enum flowdir_status {
+    FLOWDIR_OK = 0,            /* it was done */
+    FLOWDIR_MEMORY = 1,        /* memory is wanting */
+    FLOWDIR_BAD = 2,           /* a number is out of its range, or the table is not closed */
+    FLOWDIR_NO_ROOM = 3,       /* more first pairs of one class than it has room for */
+    FLOWDIR_FULL = 4,          /* the rows of the seat are used up, for every further update */
+    FLOWDIR_BUSY = 5           /* sit: no seat is left; close: a seat or a reader is out, or the table is closed */
+};
+
+enum flowdir_kind {
+    FLOWDIR_NEW = 0,           /* the key was inserted */
+    FLOWDIR_OLD = 1,           /* the key was there already, with this value, which it keeps */
+    FLOWDIR_NOROOM = 2,        /* the key's class has no room for another key */
+    FLOWDIR_GONE = 3,          /* the key was taken out, and had this value */
+    FLOWDIR_FOUND = 4,         /* the key has this value */
+    FLOWDIR_ABSENT = 5,        /* the key is not there */
+    FLOWDIR_SUM = 6            /* the key has so many bytes now */
+};
+
+struct flowdir_reply {
+    uint64_t kind;             /* enum flowdir_kind */
+    uint64_t value;            /* with OLD, GONE and FOUND the key's value, with SUM its bytes, else 0 */
+    uint64_t steps;            /* atomic steps of the call; 0 for a peek, which takes none that others see */
+};
+
+/* The most atomic steps of an update, or 0 where the options are out of their ranges. Any number of threads at once. */
+uint64_t flowdir_bound(const struct flowdir_options *options);
+
+/* The rows with which no update of a seat is refused that makes at most so many. BAD: options out of their ranges. Any
+ * number of threads at once. */
+uint32_t flowdir_rows_for(const struct flowdir_options *options, uint32_t updates, struct flowdir_rows *rows);
+
+/* Opens a table that holds these pairs. BAD: options, rows, values or bytes out of their ranges, or a key that stands twice;
+ * NO_ROOM; MEMORY. Any number of threads at once, each with a handle of its own. */
+uint32_t flowdir_open(const struct flowdir_options *options, const struct flowdir_pair *first, size_t count,
+                      struct flowdir_table *table);
+
+/* Takes a seat that nobody has had. BUSY: none is left; MEMORY. One thread at a time for a table. */
+uint32_t flowdir_sit(struct flowdir_table *table, struct flowdir_seat *seat);
+
+/* Gives the key this value, where it has none: NEW, OLD or NOROOM. BAD: a value of 2^61 or more, or calls used up;
+ * FULL. Each seat by one thread at a time, all seats and readers at once. */
+uint32_t flowdir_insert(struct flowdir_seat *seat, const struct flowdir_key *key, uint64_t value,
+                        struct flowdir_reply *reply);
+
+/* Takes the key out: GONE or ABSENT. BAD: calls used up; FULL. As flowdir_insert. */
+uint32_t flowdir_remove(struct flowdir_seat *seat, const struct flowdir_key *key, struct flowdir_reply *reply);
+
+/* Adds so many bytes to the key's: SUM, with their total, which stops at 2^61 - 1, or ABSENT. A key that is inserted has
+ * 0 bytes. BAD: 2^61 bytes or more, or calls used up; FULL. As flowdir_insert. */
+uint32_t flowdir_tally(struct flowdir_seat *seat, const struct flowdir_key *key, uint64_t bytes,
+                       struct flowdir_reply *reply);
+
+/* Asks for the key's value: FOUND or ABSENT. BAD: calls used up. As flowdir_insert. */
+uint32_t flowdir_lookup(struct flowdir_seat *seat, const struct flowdir_key *key, struct flowdir_reply *reply);
+
+/* Gives a seat back to the table that it came from; its handle leads to nothing then. It is not given out again. BAD:
+ * the table has no place for it, which never comes with a seat that came from it. One thread at a time for a table. */
+uint32_t flowdir_rise(struct flowdir_table *table, struct flowdir_seat *seat);
+
+/* Takes a reader, of which there may be any number. MEMORY, also where the table is closed. One thread at a time for a
+ * table. */
+uint32_t flowdir_read(struct flowdir_table *table, struct flowdir_reader *reader);
+
+/* Asks for the key's value by loads alone: FOUND or ABSENT. At some moment after the reader's last peek, and no later
+ * than the last load of this one, the table's one history gives this reply: so the replies of one reader never go back
+ * in time. Each reader by one thread at a time, all seats and readers at once. */
+uint32_t flowdir_peek(struct flowdir_reader *reader, const struct flowdir_key *key, struct flowdir_reply *reply);
+
+/* Gives a reader up; its handle leads to nothing then. Any number of threads at once, each with a handle of its own. */
+void flowdir_leave(struct flowdir_reader *reader);
+
+/* Closes a table whose seats were all taken and given back, and whose readers have all left. BUSY. One thread at a time
+ * for a table. */
+uint32_t flowdir_close(struct flowdir_table *table);
+
+/* Lists the pairs of a closed table in the order of their keys, and tells how many there are. BAD: it is not closed;
+ * MEMORY. One thread at a time for a table. */
+uint32_t flowdir_count(struct flowdir_table *table, size_t *count);
+
+/* The pair at this place of those that were listed, from 0. BAD: there is none. One thread at a time for a table. */
+uint32_t flowdir_pair_at(struct flowdir_table *table, size_t at, struct flowdir_pair *pair);
+
+/* Opens the next table with the pairs that were listed of a closed one, which stays as it is. As flowdir_open; with the
+ * same items, depth and seed NO_ROOM never comes. One thread at a time for each of the two. */
+uint32_t flowdir_reopen(const struct flowdir_options *options, struct flowdir_table *closed,
+                        struct flowdir_table *table);
+
+/* Gives a table up, closed or not; its handle leads to nothing then. Seats and readers that are out stay usable, and
+ * have to be given up too: a seat by flowdir_drop. One thread at a time for a table. */
+void flowdir_free(struct flowdir_table *table);
+
+/* Gives a seat up without its table: the table can never be closed then. As flowdir_leave. */
+void flowdir_drop(struct flowdir_seat *seat);
+
+#ifdef __cplusplus
+}
+#endif
+#endif
