@@ -45,6 +45,7 @@ impl Adder {
         requires add { IsAdd add.now }
         ensures same { IsSame self.old self.new }
         ensures added { Adds self.old.settings self.old.number add.now self.old.seat self.new.seat result }
+        ensures about { result.add ≡ add.now }
         ensures log { log_of self.new ≡ log_of self.old ++ result ∷ [] }
         ensures reached { IsReached self.new }
         ensures sees { Sees result.steps self.old self.new }

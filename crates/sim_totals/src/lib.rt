@@ -10,5 +10,5 @@ mod tests;
 mod view;
 
 pub use adder::Adder;
-pub use sim_steps::{Add, Added, Totals};
+pub use sim_steps::{Add, Added, Totals, step_bound};
 pub use table::{ClosedTotals, TotalsTable};

@@ -1,0 +1,24 @@
+-- One seat's count more is added.
+use Rattle.std.proofs.Common.{◌<◌, length, sym, arith}
+use Rattle.totals_runner.proofs.CountLemmas.{next_fits, with_next, with_none}
+use Rattle.totals_runner.proofs.counting.put_counts.Goals as goal
+
+pub loop-seat-init : goal.loop-seat-init
+loop-seat-init c = sym (with_none c.args.sums.now)
+
+pub overflow_add-sums : goal.overflow_add-sums
+overflow_add-sums c =
+    let inside : c.loop-seat.seat < length c.args.sums.now =
+    omega (arith, c.loop-seat-test.true, c.requires.seats, c.told-sums) in
+    omega (
+      arith,
+      next_fits c.args.sums.now c.args.counts.now c.loop-seat.sums c.loop-seat.seat c.loop-seat.invariant inside
+          c.loop-seat-test.true c.requires.before c.requires.few,
+    )
+
+pub loop-seat-preserved : goal.loop-seat-preserved
+loop-seat-preserved c =
+    let inside : c.loop-seat.seat < length c.args.sums.now =
+    omega (arith, c.loop-seat-test.true, c.requires.seats, c.told-sums) in
+    with_next c.args.sums.now c.args.counts.now c.loop-seat.sums c.loop-seat.seat c.loop-seat.invariant inside
+    c.loop-seat-test.true

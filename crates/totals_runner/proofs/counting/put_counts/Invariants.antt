@@ -1,0 +1,6 @@
+use Rattle.std.proofs.Common.{◌≡◌, take}
+use Rattle.batch_orders.specs.Batches.{with_counts}
+use Rattle.totals_runner.proofs.counting.put_counts.Given as goal
+
+abbrev pub invariant-loop-seat : goal.invariant-loop-seat
+invariant-loop-seat l = l.sums ≡ with_counts l.fn.sums (take l.seat l.counts)

@@ -1,0 +1,52 @@
+-- What is kept of batches that were counted, and what the report tells of them.
+-- Source: this project's own.
+use Rattle.std.specs.Prelude.{◌≡◌, ℕ, ◌+◌, ◌≤◌, List, [], ◌∷◌, ◌++◌, length, flat_map, All}
+use Rattle.sim_steps.specs.Program.{step_bound}
+use Rattle.report_text.specs.declared.parts.Ending.{Ending}
+use Rattle.report_text.specs.Adds.{add_batch_lines, totals_head, totals_report}
+use Rattle.totals_runner.specs.declared.counting.Counting.{Counting}
+use Rattle.totals_runner.specs.PacketAdds.{MakeAdds}
+use Rattle.totals_runner.specs.Counted.{AreCounted, Counted, totals_left}
+use Rattle.totals_runner.specs.Printed.{added_in_all, adds_on, all_lines, answers_on, most_steps, no_counts}
+use Rattle.totals_runner.specs.Right.{nothing}
+
+-- these batches of packets, counted on from this number, were counted so
+abbrev pub AreOf : ℕ → List (List (List ℕ)) → List Counted → Type 0
+AreOf number [] counted = counted ≡ []
+AreOf number (packets ∷ batches) counted =
+    (batch : Counted) × (others : List Counted) × MakeAdds number packets batch.adds
+    × AreOf (number + length packets) batches others × (counted ≡ batch ∷ others)
+
+-- These batches were counted, and so much is kept of them.
+pub record HasCounted (counting : Counting) (batches : List Counted) : Type 0 where
+  pub counted : AreCounted counting.seats nothing batches
+  pub before : counting.before ≡ added_in_all counting.seats no_counts batches
+  pub totals : counting.totals ≡ totals_left nothing batches
+  pub most : counting.most ≡ most_steps (answers_on counting.seats no_counts batches)
+  -- the adds are those of all packets so far, of which none is longer than a capture allows
+  pub packets : List (List ℕ)
+  pub make : MakeAdds 1 packets (adds_on batches)
+  pub short : All (λ packet. length packet ≤ 262144) packets
+
+-- ---- the text
+
+-- the head line and the lines of batches of packets, where these are counted so
+abbrev pub IsTotalsLines : (seats : ℕ) → List (List (List ℕ)) → List ℕ → Type 0
+IsTotalsLines seats packets text =
+    (batches : List Counted) × AreOf 1 packets batches × AreCounted seats nothing batches
+    × (text ≡ totals_head seats ++ flat_map (add_batch_lines seats) (all_lines seats no_counts batches))
+
+-- the whole report of them, with this ending
+abbrev pub IsTotalsReport : (seats : ℕ) → List (List (List ℕ)) → Ending → List ℕ → Type 0
+IsTotalsReport seats packets ending text =
+    (batches : List Counted) × AreOf 1 packets batches × AreCounted seats nothing batches
+    × (text ≡ totals_report (record {
+      seats = seats;
+      batches = all_lines seats no_counts batches;
+      tail = record {
+        totals = totals_left nothing batches;
+        ending = ending;
+        most = most_steps (answers_on seats no_counts batches);
+        bound = step_bound seats;
+      };
+    }))
