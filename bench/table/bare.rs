@@ -7,7 +7,11 @@ use std::time::Instant;
 
 const ITEMS: usize = 8;
 const DEPTH: u32 = 10;
-const ROW: usize = 5 + 3 * ITEMS + 2;
+const OP_WORDS: usize = 8;
+const ITEM_WORDS: usize = 7;
+const ROW: usize = 5 + ITEM_WORDS * ITEMS + 2;
+// An update by one bucket try: its op row is stored and loaded, and the bucket's row is loaded and stored.
+const TRY_STEPS: usize = 9 + 2 * OP_WORDS + 2 * ROW;
 
 fn spread(mut z: u64) -> u64 {
     z = (z ^ (z >> 30)).wrapping_mul(0xbf58476d1ce4e5b9);
@@ -32,9 +36,8 @@ fn call(packet: u64) -> (Kind, u64) {
         (_, 2 | 3) => Kind::Remove,
         _ => Kind::Lookup,
     };
-    let low = (0x0a010000 + flow) << 32 | 0x0a020001;
-    let high = (40000 + flow) << 24 | port << 8 | protocol;
-    (kind, spread(spread(low) ^ high))
+    let key = [0, 0x0a010000 + flow, 0, 0x0a020001, (40000 + flow) << 24 | port << 8 | protocol];
+    (kind, key.iter().fold(0, |mixed, word| spread(mixed ^ word)))
 }
 
 // Runs of steps on words side by side, and what one bucket try and one lookup do.
@@ -102,9 +105,9 @@ impl Seat {
         if kind == Kind::Lookup {
             let count = self.buckets[at].items.len();
             out.push(Steps::Look { depth, place, word, row: old, count });
-            return 7 + 3 * count;
+            return 7 + ITEM_WORDS * count;
         }
-        let (op, row) = (self.op_rows + 5 * self.next_op, self.next_row);
+        let (op, row) = (self.op_rows + OP_WORDS * self.next_op, self.next_row);
         let new = self.bucket_row(row);
         self.next_op += 1;
         self.next_row += 1;
@@ -114,13 +117,13 @@ impl Seat {
         let held = bucket.items.iter().position(|other| *other == hash);
         match (kind, held) {
             (Kind::Insert, None) if bucket.items.len() == ITEMS && bucket.depth < DEPTH => {
-                return 80 + self.change(at, hash, op, out) + 1;
+                return TRY_STEPS + self.change(at, hash, op, out);
             }
             (Kind::Insert, None) if bucket.items.len() < ITEMS => bucket.items.push(hash),
             (Kind::Remove, Some(held)) => drop(bucket.items.remove(held)),
             _ => {}
         }
-        81
+        TRY_STEPS
     }
 
     // A try at the directory, where the seat's op is the only one and its bucket is frozen.
@@ -131,10 +134,10 @@ impl Seat {
         out.push(Steps::Loads(start, 1));
         out.push(Steps::Loads(start + 2, places));
         out.push(Steps::Loads(1, 1));
-        out.push(Steps::Loads(op, 5));
+        out.push(Steps::Loads(op, OP_WORDS));
         out.push(Steps::Loads(self.bucket_words + self.numbers[at], 1));
         out.push(Steps::Loads(self.bucket_row(self.buckets[at].row), ROW));
-        let mut steps = 2 + places + 6 + 1 + ROW;
+        let mut steps = 2 + places + 1 + OP_WORDS + 1 + ROW;
         let mut items = self.buckets[at].items.clone();
         items.push(hash);
         let mut leaves = Vec::new();
@@ -176,20 +179,20 @@ fn take(words: &[AtomicU64], calls: &[Steps]) -> u64 {
         match *steps {
             Steps::Try { op, depth, place, word, old, new } => {
                 sum ^= load(2);
-                words[op..op + 5].iter().for_each(|word| word.store(number as u64, SeqCst));
+                words[op..op + OP_WORDS].iter().for_each(|word| word.store(number as u64, SeqCst));
                 words[1].store(number as u64, SeqCst);
                 sum ^= load(0) ^ load(depth) ^ load(place);
                 let row = load(word);
                 words[old..old + ROW].iter().for_each(|word| sum ^= word.load(SeqCst));
                 sum ^= load(1);
-                words[op..op + 5].iter().for_each(|word| sum ^= word.load(SeqCst));
+                words[op..op + OP_WORDS].iter().for_each(|word| sum ^= word.load(SeqCst));
                 words[new..new + ROW].iter().for_each(|word| word.store(number as u64, SeqCst));
                 sum ^= words[word].compare_exchange(row, number as u64, SeqCst, SeqCst).is_ok() as u64;
                 words[2].store(number as u64, SeqCst);
             }
             Steps::Look { depth, place, word, row, count } => {
                 sum ^= load(2) ^ load(0) ^ load(depth) ^ load(place) ^ load(word) ^ load(row + 4);
-                words[row + 5..row + 5 + 3 * count].iter().for_each(|word| sum ^= word.load(SeqCst));
+                words[row + 5..row + 5 + ITEM_WORDS * count].iter().for_each(|word| sum ^= word.load(SeqCst));
                 words[2].store(number as u64, SeqCst);
             }
             Steps::Loads(at, count) => words[at..at + count].iter().for_each(|word| sum ^= word.load(SeqCst)),
@@ -212,7 +215,7 @@ fn main() {
     let directory_rows = calls.min((1 << DEPTH) + 1);
     let first = 1 << DEPTH;
     let ops = 3 + first + bucket_words;
-    let rows = ops + 5 * op_rows;
+    let rows = ops + OP_WORDS * op_rows;
     let directories = rows + ROW * (first + bucket_rows);
     let count = directories + (2 + first) * (1 + directory_rows);
     let mut seat = Seat {

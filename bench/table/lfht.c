@@ -5,13 +5,14 @@
 #include <stdint.h>
 #include <stdio.h>
 #include <stdlib.h>
+#include <string.h>
 #include <time.h>
 #include <urcu.h>
 #include <urcu/rculfhash.h>
 
 struct entry {
     struct cds_lfht_node node;
-    uint64_t k0, k1, value;
+    uint64_t key[5], value;
 };
 
 struct caller {
@@ -31,17 +32,20 @@ static uint64_t spread(uint64_t z) {
 static struct entry key(uint64_t flow) {
     uint64_t port = flow < 64 ? 53 : 443, protocol = flow < 64 ? 17 : 6;
     struct entry made = {
-        .k0 = (0x0a010000 + flow) << 32 | 0x0a020001,
-        .k1 = (40000 + flow) << 24 | port << 8 | protocol,
+        .key = {0, 0x0a010000 + flow, 0, 0x0a020001, (40000 + flow) << 24 | port << 8 | protocol},
     };
     return made;
 }
 
-static uint64_t hash(const struct entry *entry) { return spread(spread(entry->k0) ^ entry->k1); }
+static uint64_t hash(const struct entry *entry) {
+    uint64_t mixed = 0;
+    for (int i = 0; i < 5; i++) mixed = spread(mixed ^ entry->key[i]);
+    return mixed;
+}
 
 static int same(struct cds_lfht_node *node, const void *wanted) {
     const struct entry *a = caa_container_of(node, struct entry, node), *b = wanted;
-    return a->k0 == b->k0 && a->k1 == b->k1;
+    return memcmp(a->key, b->key, sizeof a->key) == 0;
 }
 
 static uint64_t now(void) {

@@ -5,7 +5,7 @@ use std::sync::{Mutex, RwLock};
 use std::thread;
 use std::time::Instant;
 
-type Key = (u64, u64);
+type Key = [u64; 5];
 
 fn spread(mut z: u64) -> u64 {
     z = (z ^ (z >> 30)).wrapping_mul(0xbf58476d1ce4e5b9);
@@ -15,7 +15,7 @@ fn spread(mut z: u64) -> u64 {
 
 fn key(flow: u64) -> Key {
     let (port, protocol) = if flow < 64 { (53, 17) } else { (443, 6) };
-    ((0x0a010000 + flow) << 32 | 0x0a020001, (40000 + flow) << 24 | port << 8 | protocol)
+    [0, 0x0a010000 + flow, 0, 0x0a020001, (40000 + flow) << 24 | port << 8 | protocol]
 }
 
 trait Map: Sync {
@@ -82,7 +82,7 @@ fn longest<M: Map>(name: &str, map: &M) {
     let mut most = 0;
     for i in 0..20_000 {
         let start = Instant::now();
-        let held = map.insert((((0x0a010000 + i) << 32) | 0x0a020001, 0x9c400001bb06), i);
+        let held = map.insert([0, 0x0a010000 + i, 0, 0x0a020001, 0x9c400001bb06], i);
         most = most.max(start.elapsed().as_nanos());
         assert!(held.is_none());
     }
