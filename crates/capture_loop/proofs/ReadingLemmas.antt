@@ -121,15 +121,17 @@ pub HaveEnded-limit : (most : ℕ) (first before after : Option (List ℕ)) (old
     ((bytes : List ℕ) → HoldsFront bytes) → HaveCome first before old packets → length packets ≡ most →
     Took before after (GivesPacket old new) → limit ≡ most → HaveEnded most first after packets (Limit limit)
 HaveEnded-limit most first before after old new packets limit input front come all took is =
-    let further = HaveCome-more first before after old new packets come took in
-    let taken : List ℕ = further.0 in
+    let begun : List ℕ = come.0 in
+    let taken : List ℕ = begun ++ took.0 in
+    let lost : Consumes first after taken = Consumes-trans first before after begun took.0 come.1 took.1 in
     let P : List ℕ → Option (List ℕ) → Type 0 = λ bytes left. ServesUpTo most bytes left packets (Limit limit) in
     let make : (others : List ℕ) → P (taken ++ others) (Some others) = λ others.
-    Serves-limit most taken others new packets new.packet limit (input (taken ++ others)) (front (taken ++ others))
-    further.2 all is in
+    let bytes : List ℕ = begun ++ (took.0 ++ others) in
+    subst (λ (l : List ℕ). P l (Some others)) (sym (append_assoc begun took.0 others))
+    (Serves-limit most begun took.0 others old new packets limit (input bytes) (front bytes) come.2 took.2 all is) in
     record {
-      told = λ bytes told. told_by P first after bytes taken told further.1 (λ others left. make others);
-      took = (taken, further.1, taken_by P taken (make []));
+      told = λ bytes told. told_by P first after bytes taken told lost (λ others left. make others);
+      took = (taken, lost, taken_by P taken (make []));
     }
 
 -- a fault that is met, or a failed read

@@ -8,12 +8,12 @@ use Rattle.pcapng_reader.specs.declared.fault.AnyFault.{AnyFault}
 use Rattle.pcapng_reader.specs.declared.fault.AnyFault.TheVariants as fault
 use Rattle.pcapng_reader.specs.Input.{Input, IsPcapng}
 use Rattle.pcapng_reader.specs.Laws.{HasInput, HoldsFront, Reaches}
-use Rattle.pcapng_reader.specs.Reading.{Form, HasRead, MeetsEnding, OfBlocks, OfRecords, Reading, beyond}
+use Rattle.pcapng_reader.specs.Reading.{Form, GivesPacket, HasRead, MeetsEnding, OfBlocks, OfRecords, Reading, beyond, head_length}
 use Rattle.pcapng_reader.proofs.InputFacts.{input_refused}
-use Rattle.pcapng_reader.proofs.ReadFacts.{end_few, read_ends, read_faults, read_few, read_longer}
+use Rattle.pcapng_reader.proofs.ReadFacts.{end_few, reaches_read, read_ends, read_faults, read_few, read_longer, read_next, record_few}
 use Rattle.report_text.specs.declared.parts.Ending.{Ending}
 use Rattle.report_text.specs.declared.parts.Ending.TheVariants.{Done, ReadFault, Limit, Fault}
-use Rattle.capture_loop.specs.Input.{Begins, IsFirst, ServesUpTo, TakesFew, packet_limit}
+use Rattle.capture_loop.specs.Input.{Begins, IsFirst, MayFollow, ServesUpTo, TakesFew, packet_limit}
 
 -- A reader met this ending, of these bytes that were taken of its source, which then had the others left.
 abbrev pub EndsBy : (old new : Reading) → Ending → (taken others : List ℕ) → Type 0
@@ -26,9 +26,9 @@ EndsBy old new (Limit limit) taken others = ⊥
 
 -- some that reach no further than they may
 few_of : (bytes taken others : List ℕ) (packets next : List (List ℕ)) (form : Form) (place : ℕ) →
-    bytes ≡ taken ++ others → length next ≤ 1 → Reaches bytes (packets ++ next) form place →
+    bytes ≡ taken ++ others → MayFollow form next → Reaches bytes (packets ++ next) form place →
     length bytes ≤ place + beyond form + length others → TakesFew bytes (Some others) packets
-few_of bytes taken others packets next form place parts one reaches few =
+few_of bytes taken others packets next form place parts follows reaches few =
     record {
       taken = taken;
       others = others;
@@ -38,11 +38,24 @@ few_of bytes taken others packets next form place parts one reaches few =
         next,
         form,
         place,
-        one,
+        follows,
         reaches,
         omega (arith, few, ap length parts, length-append taken others),
       );
     }
+
+-- nothing may follow
+none_follow : (form : Form) → MayFollow form []
+none_follow (OfRecords order) = refl
+none_follow (OfBlocks state) = omega arith
+
+-- some that reach no further than the packets
+few_here : (bytes taken others : List ℕ) (packets : List (List ℕ)) (form : Form) (place : ℕ) →
+    bytes ≡ taken ++ others → Reaches bytes packets form place →
+    length bytes ≤ place + beyond form + length others → TakesFew bytes (Some others) packets
+few_here bytes taken others packets form place parts reaches few =
+    few_of bytes taken others packets [] form place parts (none_follow form)
+    (subst (λ (ps : List (List ℕ)). Reaches bytes ps form place) (sym (append-nil packets)) reaches) few
 
 -- no packet, and no more than a buffer
 few_none : (taken others : List ℕ) → length taken ≤ buffer_length → TakesFew (taken ++ others) (Some others) []
@@ -60,8 +73,7 @@ few_ended : (bytes all others : List ℕ) (old new : Reading) (taken : List ℕ)
     MeetsEnding old new ending taken → TakesFew bytes (Some others) packets
 few_ended bytes all others old new taken packets ending parts read meets =
     let few = end_few bytes old new taken others packets ending read meets in
-    few_of bytes all others packets [] few.0 few.1 parts (omega arith)
-    (subst (λ (ps : List (List ℕ)). Reaches bytes ps few.0 few.1) (sym (append-nil packets)) few.2) few.3
+    few_here bytes all others packets few.0 few.1 parts few.2 few.3
 
 -- ---- the end
 
@@ -119,15 +131,34 @@ module _ (most : ℕ) (front taken others : List ℕ) (old new : Reading) (packe
       }
   Serves-by (Limit limit) meets = absurd meets
 
+-- where one packet more was given, by the form of the input
+few_next : (bytes all others : List ℕ) (old new : Reading) (taken : List ℕ) (packets : List (List ℕ)) →
+    bytes ≡ all ++ others → (r : HasRead bytes old (Some (taken ++ others)) packets) → GivesPacket old new taken →
+    (form : Form) → r.form ≡ form → TakesFew bytes (Some others) packets
+few_next bytes all others old new taken packets parts r g (OfRecords order) is =
+    let place : ℕ = head_length r.form + length r.passed in
+    let few = record_few bytes old new taken others packets order r is g in
+    few_here bytes all others packets r.form place parts (reaches_read bytes (taken ++ others) old packets r)
+    (omega (arith, few, buffer_beyond r.form))
+few_next bytes all others old new taken packets parts r g (OfBlocks state) is =
+    let further = read_next bytes old new taken others packets r g in
+    let few = read_few bytes others new (packets ++ new.packet ∷ []) further in
+    few_of bytes all others packets (new.packet ∷ []) few.0 few.1 parts
+    (subst (λ (f : Form). MayFollow f (new.packet ∷ [])) (sym is) (omega arith)) few.2
+    (omega (arith, few.3, buffer_beyond few.0))
+
 -- one packet more was given than are served
-pub Serves-limit : (most : ℕ) (front others : List ℕ) (new : Reading) (packets : List (List ℕ)) (packet : List ℕ)
-    (limit : ℕ) → HasInput (front ++ others) → HoldsFront (front ++ others) →
-    HasRead front new (Some []) (packets ++ packet ∷ []) → length packets ≡ most → limit ≡ most →
-    ServesUpTo most (front ++ others) (Some others) packets (Limit limit)
-Serves-limit most front others new packets packet limit input first read many is =
-    let bytes : List ℕ = front ++ others in
+pub Serves-limit : (most : ℕ) (front taken others : List ℕ) (old new : Reading) (packets : List (List ℕ)) (limit : ℕ) →
+    HasInput (front ++ (taken ++ others)) → HoldsFront (front ++ (taken ++ others)) →
+    HasRead front old (Some []) packets → GivesPacket old new taken → length packets ≡ most → limit ≡ most →
+    ServesUpTo most (front ++ (taken ++ others)) (Some others) packets (Limit limit)
+Serves-limit most front taken others old new packets limit input first read gives many is =
+    let bytes : List ℕ = front ++ (taken ++ others) in
+    let packet : List ℕ = new.packet in
     let further : List (List ℕ) = packets ++ packet ∷ [] in
-    let few = read_few bytes others new further (read_longer front [] others new further read) in
+    let here : HasRead bytes old (Some (taken ++ others)) packets =
+    read_longer front [] (taken ++ others) old packets read in
+    let few = read_few bytes others new further (read_next bytes old new taken others packets here gives) in
     let more = first further input.0 few.0 few.1 input.1 few.2 input.2 in
     let all : input.0 ≡ packets ++ (packet ∷ more.0) = more.1 ∙ append_assoc packets (packet ∷ []) more.0 in
     let longer : most < length input.0 =
@@ -137,8 +168,8 @@ Serves-limit most front others new packets packet limit input first read many is
     ∙ take-append_seam packets (packet ∷ more.0) in
     record {
       holds = ((input.0, input.1, input.2, longer, sym served), is);
-      takes = few_of bytes front others packets (packet ∷ []) few.0 few.1 refl (omega arith) few.2
-          (omega (arith, few.3, buffer_beyond few.0));
+      takes = few_next bytes (front ++ taken) others old new taken packets (sym (append_assoc front taken others)) here
+          gives here.form refl;
     }
 
 -- ---- an input that could not be opened
@@ -193,7 +224,6 @@ begins_read front others reading packets few read =
     let reach = read_few bytes others reading packets longer in
     record {
       first = first_read bytes others reading packets few longer;
-      takes = few_of bytes front others packets [] reach.0 reach.1 refl (omega arith)
-          (subst (λ (ps : List (List ℕ)). Reaches bytes ps reach.0 reach.1) (sym (append-nil packets)) reach.2)
+      takes = few_here bytes front others packets reach.0 reach.1 refl reach.2
           (omega (arith, reach.3, buffer_beyond reach.0));
     }

@@ -7,7 +7,7 @@ use Rattle.pcapng_reader.specs.declared.fault.AnyFault.{AnyFault}
 use Rattle.pcapng_reader.specs.declared.fault.AnyFault.TheVariants.{Capture}
 use Rattle.pcapng_reader.specs.Input.{Input}
 use Rattle.pcapng_reader.specs.Laws.{Reaches}
-use Rattle.pcapng_reader.specs.Reading.{Form, beyond}
+use Rattle.pcapng_reader.specs.Reading.{Form, OfBlocks, OfRecords, beyond}
 use Rattle.report_text.specs.declared.parts.Ending.{Ending}
 use Rattle.report_text.specs.declared.parts.Ending.TheVariants.{Done, ReadFault, Limit, Fault}
 
@@ -29,13 +29,19 @@ HoldsMore most bytes packets =
     (all : List (List ℕ)) × (ending : Result ℕ AnyFault) × Input bytes all ending × (most < length all)
     × (packets ≡ take most all)
 
+-- What may have been passed beyond the packets that are served: of a savefile nothing, and of pcapng one packet, by which
+-- it is known that there are more.
+abbrev pub MayFollow : Form → List (List ℕ) → Type 0
+MayFollow (OfRecords order) next = next ≡ []
+MayFollow (OfBlocks state) next = length next ≤ 1
+
 -- The bytes that were taken are no more than what a reader keeps beyond a place up to which the input gives these
--- packets, and at most one more, by which it is known that there are more. Of an input whose head shows a fault, or
--- that was not read up to its head's end, it is a buffer.
+-- packets, and what may follow them. Of an input whose head shows a fault, or that was not read up to its head's end, it
+-- is a buffer.
 abbrev pub AreFew : (bytes taken : List ℕ) → List (List ℕ) → Type 0
 AreFew bytes taken packets =
     ((packets ≡ []) × (length taken ≤ buffer_length))
-    ⊎ ((next : List (List ℕ)) × (form : Form) × (place : ℕ) × (length next ≤ 1)
+    ⊎ ((next : List (List ℕ)) × (form : Form) × (place : ℕ) × MayFollow form next
     × Reaches bytes (packets ++ next) form place × (length taken ≤ place + beyond form))
 
 -- of the bytes some were taken, little more than the parts that give these packets, and the others are left

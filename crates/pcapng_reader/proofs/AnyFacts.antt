@@ -62,7 +62,7 @@ of_record old new taken order g =
       parts = one_record old.order old.offset g.saved new.packet (OfRecords new.order) g.is_saved g.packet
           (ap (λ (o : Order). OfRecords o) order);
       held = g.told ∙ ap (λ (l : List ℕ). bytes_of g.saved ++ l) (append-nil new.pending);
-      room = omega (arith, length-append (bytes_of g.saved) new.pending, g.room);
+      room = g.room;
       offset = g.offset;
       given = g.given;
       goes_on = g.goes_on;

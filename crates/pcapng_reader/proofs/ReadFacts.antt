@@ -1,11 +1,12 @@
 -- How far an input has been read, one packet further, and how it ends: where its source tells its bytes, and by what
 -- was taken of them.
 use Rattle.std.proofs.Common.{◌≡◌, ◌≤◌, ℕ, ◌+◌, List, [], ◌∷◌, ◌++◌, length, drop, Option, Some, None, IfSome, Result, Ok, Err, refl, sym, ap, ◌∙◌, subst, arith, append_assoc, append-nil, length-append, length-drop}
+use Rattle.pcap_reader.specs.declared.order.Order.{Order}
 use Rattle.pcap_reader.specs.Reading.{Took, buffer_length}
 use Rattle.pcapng_reader.specs.declared.fault.AnyFault.{AnyFault}
 use Rattle.pcapng_reader.specs.Input.{Input}
 use Rattle.pcapng_reader.specs.Laws.{Reaches}
-use Rattle.pcapng_reader.specs.Reading.{AreParts, Form, GivesAll, GivesPacket, HasRead, IsAtStart, IsEnd, IsOpenedOn, MeetsEnding, OfBlocks, OfRecords, Reading, beyond, head_length}
+use Rattle.pcapng_reader.specs.Reading.{AreParts, Form, GivesAll, GivesPacket, HasRead, HaveRoom, IsAtStart, IsEnd, IsOpenedOn, MeetsEnding, OfBlocks, OfRecords, Reading, beyond, head_length}
 use Rattle.pcapng_reader.proofs.InputFacts.{behind_head, end_front, head_least, input_of, opened_front, opened_long, parts_append, parts_none}
 
 -- ---- the start
@@ -64,6 +65,11 @@ read_told (Some xs) (Some ys) bytes reading packets is took =
 
 -- ---- one packet further
 
+-- what is held has room
+room_held : (form : Form) (passed pending : List ℕ) → HaveRoom form passed pending → length pending ≤ buffer_length
+room_held (OfRecords order) passed pending room = omega (arith, length-append passed pending, room)
+room_held (OfBlocks state) passed pending room = room
+
 -- a packet that is given stands behind those before
 read_next : (bytes : List ℕ) (old new : Reading) (taken left : List ℕ) (packets : List (List ℕ)) →
     HasRead bytes old (Some (taken ++ left)) packets → GivesPacket old new taken →
@@ -83,7 +89,7 @@ read_next bytes old new taken left packets r g =
       whole = r.whole ∙ ap (λ (l : List ℕ). r.passed ++ l) rest
           ∙ sym (append_assoc r.passed g.passed (new.pending ++ left));
       offset = omega (arith, g.offset, r.offset, length-append r.passed g.passed);
-      room = g.room;
+      room = room_held new.form g.passed new.pending g.room;
     }
 
 -- by what a source told before and after
@@ -210,13 +216,32 @@ read_to_end start last ended head middle rest packets ending opened at_start giv
 
 -- ---- how far it has come
 
+-- records leave the form that they have
+form_kept : (order : Order) (offset : ℕ) (bytes : List ℕ) (packets : List (List ℕ)) (last : Form) →
+    AreParts (OfRecords order) offset bytes packets last → last ≡ OfRecords order
+form_kept order offset bytes packets last h = h.4
+
 -- the bytes up to a place behind the head
 place_of : (form : Form) (bytes passed more : List ℕ) → head_length form ≤ length bytes →
     drop (head_length form) bytes ≡ passed ++ more → length bytes ≡ head_length form + length passed + length more
 place_of form bytes passed more long whole =
     omega (arith, long, length-drop (head_length form) bytes, ap length whole, length-append passed more)
 
--- the packets so far are those of the bytes up to a place, beyond which no more than a buffer was taken
+-- the packets so far are those of the bytes up to a place
+pub reaches_read : (bytes : List ℕ) (left : Option (List ℕ)) (reading : Reading) (packets : List (List ℕ)) →
+    (r : HasRead bytes reading left packets) → Reaches bytes packets r.form (head_length r.form + length r.passed)
+reaches_read bytes left reading packets r =
+    record {
+      opened = r.opened;
+      passed = r.passed;
+      last = reading.form;
+      parts = r.parts;
+      more = r.more;
+      whole = r.whole;
+      is = refl;
+    }
+
+-- beyond it no more than a buffer was taken
 pub read_few : (bytes left : List ℕ) (reading : Reading) (packets : List (List ℕ)) →
     HasRead bytes reading (Some left) packets →
     (form : Form) × (place : ℕ) × Reaches bytes packets form place
@@ -227,15 +252,7 @@ read_few bytes left reading packets r =
     omega (arith, opened_long r.form bytes r.opened, head_least r.form) in (
       r.form,
       place,
-      record {
-        opened = r.opened;
-        passed = r.passed;
-        last = reading.form;
-        parts = r.parts;
-        more = r.more;
-        whole = r.whole;
-        is = refl;
-      },
+      reaches_read bytes (Some left) reading packets r,
       omega (
         arith,
         place_of r.form bytes r.passed r.more long r.whole,
@@ -243,6 +260,32 @@ read_few bytes left reading packets r =
         length-append reading.pending left,
         r.room,
       ),
+    )
+
+-- where one packet of a savefile is given, no more than a buffer was taken beyond the record before it
+pub record_few : (bytes : List ℕ) (old new : Reading) (taken left : List ℕ) (packets : List (List ℕ)) (order : Order) →
+    (r : HasRead bytes old (Some (taken ++ left)) packets) → r.form ≡ OfRecords order → GivesPacket old new taken →
+    length bytes ≤ head_length r.form + length r.passed + buffer_length + length left
+record_few bytes old new taken left packets order r is g =
+    let long : head_length r.form ≤ length bytes =
+    omega (arith, opened_long r.form bytes r.opened, head_least r.form) in
+    let before : old.form ≡ OfRecords order =
+    form_kept order (head_length r.form) r.passed packets old.form
+    (subst (λ (f : Form). AreParts f (head_length r.form) r.passed packets old.form) is r.parts) in
+    let after : new.form ≡ OfRecords order =
+    form_kept order old.offset g.passed (new.packet ∷ []) new.form
+    (subst (λ (f : Form). AreParts f old.offset g.passed (new.packet ∷ []) new.form) before g.parts) in
+    let room : length (g.passed ++ new.pending) ≤ buffer_length =
+    subst (λ (f : Form). HaveRoom f g.passed new.pending) after g.room in
+    omega (
+      arith,
+      place_of r.form bytes r.passed r.more long r.whole,
+      ap length (some_inj r.told),
+      length-append old.pending (taken ++ left),
+      length-append taken left,
+      ap length g.held,
+      length-append old.pending taken,
+      room,
     )
 
 -- parts leave the form of their input

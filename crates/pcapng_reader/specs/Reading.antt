@@ -93,12 +93,18 @@ pub record IsAtStart (reading : Reading) : Type 0 where
   pub packet : reading.packet ≡ []
   pub going : reading.ended ≡ false
 
+-- What was passed last and what is held behind it had room in the buffer: of a savefile both together, and of pcapng,
+-- where a long block is dropped while it is read, what is held.
+abbrev pub HaveRoom : Form → (passed pending : List ℕ) → Type 0
+HaveRoom (OfRecords order) passed pending = length (passed ++ pending) ≤ buffer_length
+HaveRoom (OfBlocks state) passed pending = length pending ≤ buffer_length
+
 -- One packet was given out, of what was held and what was taken of the source: behind parts without a packet.
 pub record GivesPacket (old new : Reading) (taken : List ℕ) : Type 0 where
   pub passed : List ℕ
   pub parts : AreParts old.form old.offset passed (new.packet ∷ []) new.form
   pub held : old.pending ++ taken ≡ passed ++ new.pending
-  pub room : length new.pending ≤ buffer_length
+  pub room : HaveRoom new.form passed new.pending
   pub offset : new.offset ≡ old.offset + length passed
   pub given : new.given ≡ old.given + 1
   pub goes_on : new.ended ≡ false
