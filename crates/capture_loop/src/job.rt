@@ -1,6 +1,7 @@
 //! What a mode makes of the packets of a capture.
 
-ghost use Rattle.std.specs.Prelude.{◌≡◌, ◌≤◌, ◌+◌, ◌∷◌, ◌++◌, [], ℕ, List, length, IfOk, OnOk};
+ghost use Rattle.std.specs.Prelude.{◌≡◌, ◌≤◌, ◌+◌, ◌∷◌, ◌++◌, [], ℕ, List, length, vec_len, IfOk, OnOk};
+ghost use Rattle.std.specs.List.{All, AllZip};
 ghost use Rattle.report_text.specs.declared.parts.Ending.{Ending as AnEnding};
 ghost use Rattle.report_text.specs.Report.{IsEnding};
 
@@ -8,9 +9,9 @@ use edge_traits::Gate;
 use report_text::Ending;
 use std::alloc::{AllocError, Global};
 use std::thread::Threads;
+use trace_share::WorksOn;
 
 /// What all batches of a run are served with.
-#[derive(Drop)]
 pub struct Means<'a, R: Threads + Sync, G: Gate + Sync> {
     /// Where threads come from.
     pub rt: &'a R,
@@ -57,10 +58,32 @@ pub trait Pile {
         ensures { holds self.new before [] };
 }
 
+/// What a batch is served with.
+#[derive(Drop)]
+pub struct Opened<T: Drop, W: Drop, K: Drop> {
+    /// What all workers look at.
+    pub shared: T,
+    pub workers: Vec<W>,
+    /// What nobody looks at meanwhile.
+    pub kept: K,
+}
+
 /// A mode that goes through a capture batch by batch, by a plan.
+///
+/// A batch is opened, its workers work, each in a thread of its own, and it is closed. The threads are no job's own,
+/// since no method of a trait can start them.
 pub trait Job<P> {
     /// What it keeps of a batch's packets.
     type Pile: Pile;
+
+    /// What the workers of a batch look at.
+    type Shared: Sync + Drop;
+
+    /// One who serves a part of a batch.
+    type Worker: WorksOn<Self::Shared> + Send + Drop;
+
+    /// What is kept of a batch while it is served.
+    type Kept: Drop;
 
     // The text is the head line and the lines of these batches; the text is a report of them, with this ending.
     ghost lines: { P → List (List (List ℕ)) → List ℕ → Type 0 };
@@ -73,26 +96,46 @@ pub trait Job<P> {
     // By this plan these batches were served, and this is the text of them.
     ghost done: { Self → P → List (List (List ℕ)) → List ℕ → Type 0 };
 
-    /// Serves the packets of one batch more, and appends their lines. Before the caller's thread serves it does this
-    /// once, and answers what this gave. The only error is want of memory.
-    fn serve<R: Threads + Sync, G: Gate + Sync, F: FnMut() -> A, A: Drop>(
-        &mut self,
-        means: &Means<R, G>,
+    // With these workers, on what they share, it may serve these packets, which stand behind so many.
+    ghost opened: { Self → Self.Shared → List Self.Worker → Self.Kept → ℕ → List (List ℕ) → Type 0 };
+
+    /// Makes ready what the packets of one batch more are served with. The only error is want of memory.
+    fn open(
+        &self,
+        alloc: Global,
         pile: &mut Self::Pile,
-        text: &mut Vec<u8>,
-        beside: &mut F,
-    ) -> Result<A, AllocError>
-        requires going { (before : ℕ) × (packets : List (List ℕ)) × going self.old before
+    ) -> Result<Opened<Self::Shared, Self::Worker, Self::Kept>, AllocError>
+        requires going { (before : ℕ) × (packets : List (List ℕ)) × going self.now before
             × Self.Pile.holds pile.old before packets × (length packets ≤ BATCH)
             × (before + length packets ≤ PACKET_LIMIT) }
-        requires beside { F.pre beside.old }
-        ensures going { OnOk result ((before : ℕ) (packets : List (List ℕ)) → going self.old before →
-            Self.Pile.holds pile.old before packets → going self.new (before + length packets)) }
-        ensures served { OnOk result ((plan : P) (batches : List (List (List ℕ))) (put : List ℕ) (before : ℕ)
-            (packets : List (List ℕ)) → done self.old plan batches put → going self.old before →
-            Self.Pile.holds pile.old before packets → (lines : List ℕ) × (text.new.items ≡ text.old.items ++ lines)
-            × done self.new plan (batches ++ packets ∷ []) (put ++ lines)) }
-        ensures beside { IfOk result (λ made. F.step beside.old made beside.new) };
+        ensures few { IfOk result (λ made. vec_len made.workers ≤ 8) }
+        ensures ready { IfOk result (λ made. All (Self.Worker.ready made.shared) made.workers.items) }
+        ensures opened { IfOk result (λ made. (before : ℕ) (packets : List (List ℕ)) → going self.now before →
+            Self.Pile.holds pile.old before packets →
+            opened self.now made.shared made.workers.items made.kept before packets) };
+
+    /// Takes apart what a batch was served with, whose workers are through, and appends its lines. The only error is
+    /// want of memory.
+    fn close(
+        &mut self,
+        alloc: Global,
+        made: Opened<Self::Shared, Self::Worker, Self::Kept>,
+        text: &mut Vec<u8>,
+    ) -> Result<(), AllocError>
+        requires going { (started : List Self.Worker) × (before : ℕ) × (packets : List (List ℕ)) × going self.old before
+            × opened self.old made.shared started made.kept before packets
+            × AllZip (Self.Worker.done made.shared) started made.workers.items × (length packets ≤ BATCH)
+            × (before + length packets ≤ PACKET_LIMIT) }
+        ensures going { OnOk result ((started : List Self.Worker) (before : ℕ) (packets : List (List ℕ)) →
+            going self.old before → opened self.old made.shared started made.kept before packets →
+            AllZip (Self.Worker.done made.shared) started made.workers.items →
+            going self.new (before + length packets)) }
+        ensures served { OnOk result ((plan : P) (batches : List (List (List ℕ))) (put : List ℕ)
+            (started : List Self.Worker) (before : ℕ) (packets : List (List ℕ)) → done self.old plan batches put →
+            going self.old before → opened self.old made.shared started made.kept before packets →
+            AllZip (Self.Worker.done made.shared) started made.workers.items →
+            (lines : List ℕ) × (text.new.items ≡ text.old.items ++ lines)
+            × done self.new plan (batches ++ packets ∷ []) (put ++ lines)) };
 
     /// Appends the last lines. The only error is want of memory.
     fn finish(&self, packets: u32, ending: &Ending, text: &mut Vec<u8>) -> Result<(), AllocError>

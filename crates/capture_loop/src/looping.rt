@@ -13,7 +13,7 @@ ghost use Rattle.capture_loop.specs.Reading.{HaveCome, HaveEnded};
 ghost use Rattle.capture_loop.specs.Input.{packet_limit};
 
 use crate::intake::{read_rest, take_held};
-use crate::job::{BATCH, Job, Means, PACKET_LIMIT, Pile, Piles};
+use crate::job::{BATCH, Job, Means, Opened, PACKET_LIMIT, Pile, Piles};
 use crate::opening::{Unopened, open};
 use crate::stop::Stop;
 use edge_traits::{Failed, Gate, Sink, Source, write_all};
@@ -22,6 +22,7 @@ use report_text::Ending;
 use std::alloc::AllocError;
 use std::mem;
 use std::thread::Threads;
+use trace_share::serve_on;
 
 /// Goes through the source's packets batch by batch, as the job does, and puts its report into the sink. The text holds
 /// the head line, and the first pile is empty.
@@ -122,6 +123,48 @@ fn go_through<R: Threads + Sync, S: Source, K: Sink, G: Gate + Sync, P, J: Job<P
     }
 }
 
+/// Serves the packets of one batch more, and appends their lines. Before the caller's thread serves it does this once,
+/// and answers what this gave. The only error is want of memory.
+fn serve<R: Threads + Sync, G: Gate + Sync, P, J: Job<P>, F: FnMut() -> A, A: Drop>(
+    means: &Means<R, G>,
+    job: &mut J,
+    pile: &mut J::Pile,
+    text: &mut Vec<u8>,
+    beside: &mut F,
+) -> Result<A, AllocError>
+    requires going { (before : ℕ) × (packets : List (List ℕ)) × J.going job.old before
+        × J.Pile.holds pile.old before packets × (length packets ≤ BATCH)
+        × (before + length packets ≤ PACKET_LIMIT) }
+    requires beside { F.pre beside.old }
+    ensures going { OnOk result ((before : ℕ) (packets : List (List ℕ)) → J.going job.old before →
+        J.Pile.holds pile.old before packets → J.going job.new (before + length packets)) }
+    ensures served { OnOk result ((plan : P) (batches : List (List (List ℕ))) (put : List ℕ) (before : ℕ)
+        (packets : List (List ℕ)) → J.done job.old plan batches put → J.going job.old before →
+        J.Pile.holds pile.old before packets → (lines : List ℕ) × (text.new.items ≡ text.old.items ++ lines)
+        × J.done job.new plan (batches ++ packets ∷ []) (put ++ lines)) }
+    ensures beside { IfOk result (λ made. F.step beside.old made beside.new) }
+{
+    let Opened {
+        shared,
+        mut workers,
+        kept,
+    } = job.open(means.alloc, pile)?;
+    let made = serve_on(
+        means.rt,
+        &shared,
+        workers.as_mut_slice(),
+        means.gate,
+        beside,
+    );
+    let served = Opened {
+        shared,
+        workers,
+        kept,
+    };
+    job.close(means.alloc, served, text)?;
+    Ok(made)
+}
+
 /// Serves the packets of one batch more. Meanwhile it takes what the reader holds of the next batch, behind so many
 /// packets, into a pile that is empty; this may want memory for itself.
 fn serve_ahead<R: Threads + Sync, G: Gate + Sync, P, J: Job<P>>(
@@ -148,8 +191,9 @@ fn serve_ahead<R: Threads + Sync, G: Gate + Sync, P, J: Job<P>>(
     ensures ahead { IfOk result (λ taken. IfOk taken (λ packets. (more : List (List ℕ))
         × J.Pile.holds next.new before more × (length more ≡ packets) × IsTaken reader.old reader.new before more)) }
 {
-    job.serve(
+    serve::<R, G, P, J, _, _>(
         means,
+        job,
         pile,
         text,
         &mut || -> Result<u32, AllocError>
@@ -206,7 +250,7 @@ fn serve_one<R: Threads + Sync, K: Sink, G: Gate + Sync, P, J: Job<P>>(
     ensures writes { WritesFailed result (K.failed sink.old) (K.failed sink.new) }
     ensures counted { K.faults sink.old ≤ K.faults sink.new }
 {
-    job.serve(means, pile, text, &mut || {})?;
+    serve::<R, G, P, J, _, _>(means, job, pile, text, &mut || {})?;
     put(sink, text)?;
     Ok(())
 }
