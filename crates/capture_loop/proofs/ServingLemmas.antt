@@ -8,9 +8,9 @@ use Rattle.pcapng_reader.specs.declared.fault.AnyFault.{AnyFault}
 use Rattle.pcapng_reader.specs.declared.fault.AnyFault.TheVariants as fault
 use Rattle.pcapng_reader.specs.Input.{Input, IsPcapng}
 use Rattle.pcapng_reader.specs.Laws.{HasInput, HoldsFront, Reaches}
-use Rattle.pcapng_reader.specs.Reading.{Form, GivesPacket, HasRead, MeetsEnding, OfBlocks, OfRecords, Reading, beyond, head_length}
-use Rattle.pcapng_reader.proofs.InputFacts.{input_refused}
-use Rattle.pcapng_reader.proofs.ReadFacts.{end_few, reaches_read, read_ends, read_faults, read_few, read_longer, read_next, record_few}
+use Rattle.pcapng_reader.specs.Reading.{Form, GivesPacket, HasRead, IsOpened, MeetsEnding, OfBlocks, OfRecords, Reading, beyond, head_length}
+use Rattle.pcapng_reader.proofs.InputFacts.{input_refused, no_pcapng}
+use Rattle.pcapng_reader.proofs.ReadFacts.{end_few, reaches_read, read_ends, read_faults, read_few, read_longer, read_more, record_few}
 use Rattle.report_text.specs.declared.parts.Ending.{Ending}
 use Rattle.report_text.specs.declared.parts.Ending.TheVariants.{Done, ReadFault, Limit, Fault}
 use Rattle.capture_loop.specs.Input.{Begins, IsFirst, MayFollow, ServesUpTo, TakesFew, packet_limit}
@@ -131,20 +131,26 @@ module _ (most : ℕ) (front taken others : List ℕ) (old new : Reading) (packe
       }
   Serves-by (Limit limit) meets = absurd meets
 
+-- one packet may follow those of an input that is pcapng
+one_follows : (bytes packet : List ℕ) (form : Form) → IsPcapng bytes → IsOpened form bytes →
+    MayFollow form (packet ∷ [])
+one_follows bytes packet (OfRecords order) is head = absurd (no_pcapng order bytes head is)
+one_follows bytes packet (OfBlocks state) is opened = omega arith
+
 -- where one packet more was given, by the form of the input
 few_next : (bytes all others : List ℕ) (old new : Reading) (taken : List ℕ) (packets : List (List ℕ)) →
     bytes ≡ all ++ others → (r : HasRead bytes old (Some (taken ++ others)) packets) → GivesPacket old new taken →
     (form : Form) → r.form ≡ form → TakesFew bytes (Some others) packets
-few_next bytes all others old new taken packets parts r g (OfRecords order) is =
+few_next bytes all others old new taken packets all_is r g (OfRecords order) is =
     let place : ℕ = head_length r.form + length r.passed in
     let few = record_few bytes old new taken others packets order r is g in
-    few_here bytes all others packets r.form place parts (reaches_read bytes (taken ++ others) old packets r)
+    few_here bytes all others packets r.form place all_is (reaches_read bytes (Some (taken ++ others)) old packets r)
     (omega (arith, few, buffer_beyond r.form))
-few_next bytes all others old new taken packets parts r g (OfBlocks state) is =
-    let further = read_next bytes old new taken others packets r g in
+few_next bytes all others old new taken packets all_is r g (OfBlocks state) is =
+    let further = read_more bytes old new (Some (taken ++ others)) (Some others) packets r (taken, refl, g) in
     let few = read_few bytes others new (packets ++ new.packet ∷ []) further in
-    few_of bytes all others packets (new.packet ∷ []) few.0 few.1 parts
-    (subst (λ (f : Form). MayFollow f (new.packet ∷ [])) (sym is) (omega arith)) few.2
+    few_of bytes all others packets (new.packet ∷ []) few.0 few.1 all_is
+    (one_follows bytes new.packet few.0 (subst (λ (f : Form). IsOpened f bytes) is r.opened).0 few.2.opened) few.2
     (omega (arith, few.3, buffer_beyond few.0))
 
 -- one packet more was given than are served
@@ -158,7 +164,9 @@ Serves-limit most front taken others old new packets limit input first read give
     let further : List (List ℕ) = packets ++ packet ∷ [] in
     let here : HasRead bytes old (Some (taken ++ others)) packets =
     read_longer front [] (taken ++ others) old packets read in
-    let few = read_few bytes others new further (read_next bytes old new taken others packets here gives) in
+    let few =
+    read_few bytes others new further
+    (read_more bytes old new (Some (taken ++ others)) (Some others) packets here (taken, refl, gives)) in
     let more = first further input.0 few.0 few.1 input.1 few.2 input.2 in
     let all : input.0 ≡ packets ++ (packet ∷ more.0) = more.1 ∙ append_assoc packets (packet ∷ []) more.0 in
     let longer : most < length input.0 =
