@@ -22,7 +22,7 @@ use Rattle.command_line.specs.Texts.{◌>>=◌, AreRowsInRange}
 use Rattle.command_line.specs.Words.{asked_rows, asked_schedule, asked_stops, decimal, hashing_of, reads, share_of}
 use Rattle.command_line.specs.Words.{start_below}
 use Rattle.command_line.specs.declared.plan.Mode.{Mode}
-use Rattle.command_line.specs.declared.plan.Mode.TheVariants.{Serve, Play, Make, Trial}
+use Rattle.command_line.specs.declared.plan.Mode.TheVariants.{Serve, Play, Make, Trial, Totals}
 use Rattle.command_line.specs.declared.plan.Plan.{Plan}
 use Rattle.command_line.proofs.CommandLinesLemmas.{any_line}
 use Rattle.command_line.proofs.PlayTextLemmas.{schedule_back, stops_back}
@@ -156,12 +156,19 @@ trial_back p h =
       packets = k i;
     }))
 
+totals_back : (p : Plan) → IsAskable p → asked Totals (given_of p) (lists_of p) ≡ Some (as_used p Totals)
+totals_back p h =
+    let few : p.seats ≤ 8 = omega (arith, h.range.settings.seats_in_range) in
+    let n = read_back p.seats (omega arith) in
+    λ i. Some (record default_plan { mode = Totals; seats = n i; stops = replicate (n i) None })
+
 asked_back : (p : Plan) → IsAskable p → (mode : Mode)
     → asked mode (given_of p) (lists_of p) ≡ Some (as_used p mode)
 asked_back p h Serve = serve_back p h
 asked_back p h Play = play_back p h
 asked_back p h Make = make_back p h
 asked_back p h Trial = trial_back p h
+asked_back p h Totals = totals_back p h
 
 pub round_trip : (p : Plan) → IsAskable p → reads (line_of p) ≡ Some (as_used p p.mode)
 round_trip p h =

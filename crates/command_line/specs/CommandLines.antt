@@ -17,7 +17,7 @@ use Rattle.command_line.specs.Texts.{◌>>=◌, comma}
 use Rattle.command_line.specs.Words.{IsInRange, asked_rows, asked_schedule, asked_stops, decimal, hashing_of}
 use Rattle.command_line.specs.Words.{share_of, start_below}
 use Rattle.command_line.specs.declared.plan.Mode.{Mode}
-use Rattle.command_line.specs.declared.plan.Mode.TheVariants.{Serve, Play, Make, Trial}
+use Rattle.command_line.specs.declared.plan.Mode.TheVariants.{Serve, Play, Make, Trial, Totals}
 use Rattle.command_line.specs.declared.plan.Plan.{Plan}
 use Rattle.command_line.specs.declared.plays.Segment.{Segment}
 use Rattle.step_counts.specs.Ranges.{IsWithin}
@@ -63,6 +63,7 @@ mode_text Serve = codes "serve"
 mode_text Play = codes "play"
 mode_text Make = codes "make"
 mode_text Trial = codes "trial"
+mode_text Totals = codes "totals"
 
 abbrev pub line_with : Mode → Given → List Text → List Text
 line_with mode g more = mode_text mode ∷ (codes "--seats=" ++ g.seats) ∷ (codes "--items=" ++ g.items)
@@ -157,6 +158,11 @@ asked Trial g lists = do
     number = decimal g.number;
     packets = decimal g.packets;
   })
+asked Totals g lists = Some (record default_plan {
+  mode = Totals;
+  seats = decimal g.seats;
+  stops = replicate (decimal g.seats) None;
+})
 
 -- ---- the line that asks for a plan
 
@@ -284,3 +290,4 @@ as_used p Trial = record {
   number = p.number;
   packets = p.packets;
 }
+as_used p Totals = record default_plan { mode = Totals; seats = p.seats; stops = replicate p.seats None }

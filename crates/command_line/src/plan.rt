@@ -16,13 +16,15 @@ pub enum Mode {
     Make,
     /// Serves the made capture, with share `flow` and hash `mix`, and prints a summary; reads nothing.
     Trial,
+    /// Counts the packets of a capture by class, by adders that share one table. It uses the number of seats alone.
+    Totals,
 }
 
 /// The mode and its settings. A setting that the mode does not use has its default.
 #[derive(Debug, Drop)]
 pub struct Plan {
     pub mode: Mode,
-    /// How many callers the table has, 1 to 8.
+    /// How many callers or adders the table has, 1 to 8.
     pub seats: u32,
     /// Room of a bucket, in items, 1 to 16.
     pub items: u32,

@@ -340,6 +340,34 @@ fn options_that_a_mode_does_not_use(rt: HostRuntime) -> Result<(), Fail> {
     Ok(())
 }
 
+/// `totals` uses the number of seats alone; what the other options say is not looked at.
+#[test]
+fn totals_uses_its_seats(rt: HostRuntime) -> Result<(), Fail> {
+    let totals = Wanted {
+        mode: Mode::Totals,
+        ..DEFAULT
+    };
+    let cases = [
+        ("totals", Some(totals)),
+        ("totals --seats 1", Some(Wanted { seats: 1, ..totals })),
+        ("totals --seats 8", Some(Wanted { seats: 8, ..totals })),
+        ("totals --seats 9", None),
+        ("Totals", None),
+        (
+            "totals --items 3 --depth 4 --start 5 --seed 6 --number 7 --packets 8",
+            Some(totals),
+        ),
+        (
+            "totals --hash no --share none --rows 1 --schedule x --stop x",
+            Some(totals),
+        ),
+    ];
+    for (line, want) in cases {
+        assert_eq!(rt; plan_of_line(rt.alloc(), line)?, want, "{line}");
+    }
+    Ok(())
+}
+
 /// The segments and the stops that a line of `play` asks for; None for `Usage`.
 fn plays_of(
     alloc: Global,
@@ -523,7 +551,7 @@ fn faults_as_text(rt: HostRuntime) -> Result<(), Fail> {
     let usage = format!(in alloc; "{}", WordsFault::Usage)?;
     assert_eq!(rt;
         usage.as_str(),
-        "usage: flowdir serve|play|make|trial [options]"
+        "usage: flowdir serve|play|make|trial|totals [options]"
     );
     let memory = format!(in alloc; "{}", WordsFault::Memory)?;
     assert_eq!(rt; memory.as_str(), "out of memory");

@@ -9,7 +9,7 @@ ghost use Rattle.clap.specs.Words.{first_value, found_of};
 ghost use Rattle.step_counts.specs.Ranges.{IsWithin};
 ghost use Rattle.command_line.specs.Command.{depth, number_of, numbers, Passes};
 ghost use Rattle.command_line.specs.Texts.{AreRowsInRange};
-ghost use Rattle.command_line.specs.Words.{asked_rows, asked_schedule, asked_stops, has_table, hashing_in};
+ghost use Rattle.command_line.specs.Words.{asked_rows, asked_schedule, asked_stops, has_seats, has_table, hashing_in};
 ghost use Rattle.command_line.specs.Words.{hashing_of, makes_capture, mode_of, number_if, number_in};
 ghost use Rattle.command_line.specs.Words.{plan_of, plan_with, rows_for, schedule_for, seats_in, share_in};
 ghost use Rattle.command_line.specs.Words.{share_of, start_in, stops_in, text_in, IsInRange};
@@ -63,8 +63,20 @@ fn mode_of(text: &str) -> Option<Mode>
         Some(Mode::Make)
     } else if text == "trial" {
         Some(Mode::Trial)
+    } else if text == "totals" {
+        Some(Mode::Totals)
     } else {
         None
+    }
+}
+
+/// The mode has seats.
+fn has_seats(mode: Mode) -> bool
+    ensures { result ≡ has_seats mode }
+{
+    match mode {
+        Mode::Serve | Mode::Play | Mode::Trial | Mode::Totals => true,
+        Mode::Make => false,
     }
 }
 
@@ -74,7 +86,7 @@ fn has_table(mode: Mode) -> bool
 {
     match mode {
         Mode::Serve | Mode::Play | Mode::Trial => true,
-        Mode::Make => false,
+        Mode::Make | Mode::Totals => false,
     }
 }
 
@@ -83,7 +95,7 @@ fn makes_capture(mode: Mode) -> bool
     ensures { result ≡ makes_capture mode }
 {
     match mode {
-        Mode::Serve | Mode::Play => false,
+        Mode::Serve | Mode::Play | Mode::Totals => false,
         Mode::Make | Mode::Trial => true,
     }
 }
@@ -140,7 +152,7 @@ fn hashing_in(mode: Mode, matches: &ArgMatches<'_>) -> Option<Hashing>
             text(matches, "hash", "mix"),
             number(matches, &SEED),
         ),
-        Mode::Make => Some(Hashing::Mix(SEED.default)),
+        Mode::Make | Mode::Totals => Some(Hashing::Mix(SEED.default)),
         Mode::Trial => Some(Hashing::Mix(number(matches, &SEED))),
     }
 }
@@ -164,7 +176,7 @@ fn share_in(mode: Mode, matches: &ArgMatches<'_>) -> Option<Share>
 {
     match mode {
         Mode::Serve | Mode::Play => share_of(text(matches, "share", "round")),
-        Mode::Make => Some(Share::Round),
+        Mode::Make | Mode::Totals => Some(Share::Round),
         Mode::Trial => Some(Share::Flow),
     }
 }
@@ -194,7 +206,7 @@ fn rows_for(
 {
     match mode {
         Mode::Serve | Mode::Play => asked_rows(alloc, matches.get_str("rows")),
-        Mode::Make | Mode::Trial => Ok(Some(None)),
+        Mode::Make | Mode::Trial | Mode::Totals => Ok(Some(None)),
     }
 }
 
@@ -203,7 +215,7 @@ fn seats_in(mode: Mode, matches: &ArgMatches<'_>) -> u32
     ensures seats { result ≡ seats_in mode (first_value (found_of matches.now)) }
     ensures within { IsWithin 1 8 result }
 {
-    number_if(has_table(mode), matches, &SEATS) as u32
+    number_if(has_seats(mode), matches, &SEATS) as u32
 }
 
 /// The schedule of a text, empty where there is no text.
@@ -236,7 +248,9 @@ fn schedule_for(
 {
     match mode {
         Mode::Play => asked_schedule(alloc, seats, matches.get_str("schedule")),
-        Mode::Serve | Mode::Make | Mode::Trial => asked_schedule(alloc, seats, None),
+        Mode::Serve | Mode::Make | Mode::Trial | Mode::Totals => {
+            asked_schedule(alloc, seats, None)
+        }
     }
 }
 
@@ -279,7 +293,7 @@ fn stops_in(
 {
     match mode {
         Mode::Play => asked_stops(alloc, seats, matches.get_str("stop")),
-        Mode::Serve | Mode::Make | Mode::Trial => asked_stops(alloc, seats, None),
+        Mode::Serve | Mode::Make | Mode::Trial | Mode::Totals => asked_stops(alloc, seats, None),
     }
 }
 
