@@ -12,6 +12,7 @@ use std::thread::Threads;
 use trace_share::WorksOn;
 
 /// What all batches of a run are served with.
+#[derive(Drop)]
 pub struct Means<'a, R: Threads + Sync, G: Gate + Sync> {
     /// Where threads come from.
     pub rt: &'a R,
@@ -101,23 +102,27 @@ pub trait Job<P> {
 
     /// Makes ready what the packets of one batch more are served with. The only error is want of memory.
     fn open(
-        &self,
+        &mut self,
         alloc: Global,
         pile: &mut Self::Pile,
     ) -> Result<Opened<Self::Shared, Self::Worker, Self::Kept>, AllocError>
-        requires going { (before : ℕ) × (packets : List (List ℕ)) × going self.now before
+        requires going { (before : ℕ) × (packets : List (List ℕ)) × going self.old before
             × Self.Pile.holds pile.old before packets × (length packets ≤ BATCH)
             × (before + length packets ≤ PACKET_LIMIT) }
         ensures few { IfOk result (λ made. vec_len made.workers ≤ 8) }
         ensures ready { IfOk result (λ made. All (Self.Worker.ready made.shared) made.workers.items) }
-        ensures opened { IfOk result (λ made. (before : ℕ) (packets : List (List ℕ)) → going self.now before →
+        ensures going { OnOk result ((before : ℕ) → going self.old before → going self.new before) }
+        ensures done { OnOk result ((plan : P) (batches : List (List (List ℕ))) (put : List ℕ) →
+            done self.old plan batches put → done self.new plan batches put) }
+        ensures opened { IfOk result (λ made. (before : ℕ) (packets : List (List ℕ)) → going self.old before →
             Self.Pile.holds pile.old before packets →
-            opened self.now made.shared made.workers.items made.kept before packets) };
+            opened self.new made.shared made.workers.items made.kept before packets) };
 
     /// Takes apart what a batch was served with, whose workers are through, and appends its lines. The only error is
     /// want of memory.
-    fn close(
+    fn close<R: Threads>(
         &mut self,
+        rt: &R,
         alloc: Global,
         made: Opened<Self::Shared, Self::Worker, Self::Kept>,
         text: &mut Vec<u8>,

@@ -161,7 +161,7 @@ fn serve<R: Threads + Sync, G: Gate + Sync, P, J: Job<P>, F: FnMut() -> A, A: Dr
         workers,
         kept,
     };
-    job.close(means.alloc, served, text)?;
+    job.close(means.rt, means.alloc, served, text)?;
     Ok(made)
 }
 

@@ -1,5 +1,5 @@
 -- What is kept of the batches so far, and how one batch more is told.
-use Rattle.std.proofs.Common.{◌≡◌, ◌==◌, ℕ, suc, ◌+◌, ◌-◌, ◌%◌, ◌<◌, ◌≤◌, Bool, List, [], ◌∷◌, ◌++◌, Vec, Global, length, vec_len, map, get_or, refl, sym, ap, subst, ◌∙◌, arith, append_assoc, append-nil}
+use Rattle.std.proofs.Common.{◌≡◌, ◌==◌, ℕ, suc, ◌+◌, ◌-◌, ◌%◌, ◌<◌, ◌≤◌, Bool, List, [], ◌∷◌, ◌++◌, Vec, Global, length, vec_len, map, get_or, refl, sym, ap, subst, ◌∙◌, arith, append_assoc, append-nil, length-append}
 use Rattle.std.specs.Prelude.{All, flat_map, fold, max, slice_index}
 use Rattle.std.specs.List.{range_with_len}
 use Rattle.std.proofs.lemmas.List.{get_or-map, length-map}
@@ -71,7 +71,7 @@ adds_more (b ∷ batches) batch =
     ap (λ (xs : List Add). b.adds ++ xs) (adds_more batches batch)
     ∙ sym (append_assoc b.adds (adds_on batches) batch.adds)
 
-make_append : (number last : ℕ) (packets more : List (List ℕ)) (adds others : List Add) → MakeAdds number packets adds →
+pub make_append : (number last : ℕ) (packets more : List (List ℕ)) (adds others : List Add) → MakeAdds number packets adds →
     MakeAdds last more others → last ≡ number + length packets → MakeAdds number (packets ++ more) (adds ++ others)
 make_append number last [] more adds others make rest at =
     let same : last ≡ number = omega (arith, at) in
@@ -305,3 +305,12 @@ module _ (counting : Counting) (batches : List Counted) (kept : HasCounted count
       subst (λ (xs : List Add). MakeAdds 1 (kept.packets ++ packets) xs) (sym (adds_more batches batch))
       (make_append 1 (before + 1) kept.packets packets (adds_on batches) batch.adds kept.make batch_make
       (omega (arith, at, make_length 1 kept.packets (adds_on batches) kept.make)))
+
+  pub then_many : counting.packets ≡ before → (more : ℕ) → more ≡ counting.packets + length packets →
+      more ≡ length (kept.packets ++ packets)
+  then_many here more is = omega (
+    arith,
+    is,
+    kept.many,
+    length-append kept.packets packets,
+  )

@@ -10,3 +10,5 @@ mod CountLemmas
 mod LineLemmas
 mod BatchLemmas
 mod KeptLemmas
+mod JobLemmas
+mod OpenedLemmas

@@ -11,7 +11,7 @@ use Rattle.sim_totals.specs.Values.{AdderValue, TableValue, fresh, fresh_from}
 use Rattle.packet_adders.specs.declared.frames.Frame.{Frame}
 use Rattle.packet_adders.specs.declared.workers.AddWorker.{AddWorker}
 use Rattle.packet_adders.specs.Work.{IsAnswerTo, IsDone, IsReady}
-use Rattle.totals_runner.specs.Seats.{AreFresh, AreThrough, HasAdded, HaveAdded, IsFresh}
+use Rattle.totals_runner.specs.Seats.{AreFresh, AreThrough, HasAdded, HaveAdded, HaveRoom, IsFresh}
 
 -- ---- new adders
 
@@ -60,12 +60,6 @@ many_fresh t n (share ∷ shares) (w ∷ ws) f = ap suc (many_fresh t (suc n) sh
 -- a share that its adder has room for, and whose packets are no longer than a capture allows
 abbrev pub IsShort : List Frame → Type 0
 IsShort share = (length share < 2 ^ 32) × All (λ (frame : Frame). frame.length ≤ 262144) share
-
--- the adders from a seat on have room for these shares
-abbrev pub HaveRoom : TableValue → ℕ → List (List Frame) → Type 0
-HaveRoom t n [] = Unit {0}
-HaveRoom t n (share ∷ shares) =
-    ((n < seats_of t.settings) × (slice_index t.settings.adds n ≡ length share)) × HaveRoom t (suc n) shares
 
 -- so they have where the table was opened with as much room
 have_room : (t : TableValue) (n : ℕ) (shares : List (List Frame)) →

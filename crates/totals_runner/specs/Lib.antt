@@ -6,3 +6,5 @@ pub mod Frames
 pub mod Seats
 pub mod Batch
 pub mod Told
+pub mod JobLaws
+pub mod Opened

@@ -1,6 +1,7 @@
 -- The adders of a batch's table, in the order of their seats, before and after they add their packets.
 -- Source: this project's own.
-use Rattle.std.specs.Prelude.{◌≡◌, ℕ, suc, ◌≤◌, List, [], ◌∷◌, vec_len, vec_capacity}
+use Rattle.std.specs.Prelude.{◌≡◌, ℕ, suc, ◌≤◌, ◌<◌, List, [], ◌∷◌, length, slice_index, vec_len, vec_capacity}
+use Rattle.sim_steps.specs.Layout.{seats_of}
 use Rattle.std.specs.List.{AllZip}
 use Rattle.sim_steps.specs.declared.adds.Added.{Added}
 use Rattle.sim_steps.specs.Program.{Idle}
@@ -43,3 +44,9 @@ AreThrough t seat [] [] = Unit {0}
 AreThrough t seat (frames ∷ shares) (w ∷ workers) =
     HasAdded t seat frames w.adder w.log.items × AreThrough t (suc seat) shares workers
 AreThrough t seat _ _ = ⊥
+
+-- the adders from a seat on have room for these shares
+abbrev pub HaveRoom : TableValue → ℕ → List (List Frame) → Type 0
+HaveRoom t n [] = Unit {0}
+HaveRoom t n (share ∷ shares) =
+    ((n < seats_of t.settings) × (slice_index t.settings.adds n ≡ length share)) × HaveRoom t (suc n) shares

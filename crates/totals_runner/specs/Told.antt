@@ -7,8 +7,8 @@ use Rattle.report_text.specs.Adds.{add_batch_lines, totals_head, totals_report}
 use Rattle.totals_runner.specs.declared.counting.Counting.{Counting}
 use Rattle.totals_runner.specs.PacketAdds.{MakeAdds}
 use Rattle.totals_runner.specs.Counted.{AreCounted, Counted, totals_left}
-use Rattle.totals_runner.specs.Printed.{added_in_all, adds_on, all_lines, answers_on, most_steps, no_counts}
-use Rattle.totals_runner.specs.Right.{nothing}
+use Rattle.totals_runner.specs.Printed.{added_in_all, adds_on, all_lines, answers_on, most_steps, no_counts, order_on}
+use Rattle.totals_runner.specs.Right.{AreRight, nothing}
 
 -- these batches of packets, counted on from this number, were counted so
 abbrev pub AreOf : ℕ → List (List (List ℕ)) → List Counted → Type 0
@@ -25,21 +25,51 @@ pub record HasCounted (counting : Counting) (batches : List Counted) : Type 0 wh
   pub most : counting.most ≡ most_steps (answers_on counting.seats no_counts batches)
   -- the adds are those of all packets so far, of which none is longer than a capture allows
   pub packets : List (List ℕ)
+  pub many : counting.packets ≡ length packets
   pub make : MakeAdds 1 packets (adds_on batches)
   pub short : All (λ packet. length packet ≤ 262144) packets
+  pub few_packets : length packets ≤ 4000000
+
+-- So these batches of packets were counted, by so many seats, and the text of them is the head line and their lines.
+pub record IsCountedSo (counting : Counting) (seats : ℕ) (batches : List (List (List ℕ))) (text : List ℕ) : Type 0 where
+  pub as_many : counting.seats ≡ seats
+  pub counted : List Counted
+  pub of : AreOf 1 batches counted
+  pub kept : HasCounted counting counted
+  -- and rightly
+  pub right :
+      AreRight seats (adds_on counted) (answers_on seats no_counts counted) (order_on seats counted)
+      (totals_left nothing counted)
+  pub text_is : text
+      ≡ totals_head seats ++ flat_map (add_batch_lines seats) (all_lines seats no_counts counted)
+
+-- so many packets were counted
+pub record HasGone (counting : Counting) (many : ℕ) : Type 0 where
+  pub batches : List Counted
+  pub kept : HasCounted counting batches
+  pub packets : counting.packets ≡ many
 
 -- ---- the text
+
+-- These batches of packets were counted so, one after the other, and all answers, their one order and the totals are
+-- right.
+pub record AreCountedOf (seats : ℕ) (packets : List (List (List ℕ))) (batches : List Counted) : Type 0 where
+  pub of : AreOf 1 packets batches
+  pub counted : AreCounted seats nothing batches
+  pub right :
+      AreRight seats (adds_on batches) (answers_on seats no_counts batches) (order_on seats batches)
+      (totals_left nothing batches)
 
 -- the head line and the lines of batches of packets, where these are counted so
 abbrev pub IsTotalsLines : (seats : ℕ) → List (List (List ℕ)) → List ℕ → Type 0
 IsTotalsLines seats packets text =
-    (batches : List Counted) × AreOf 1 packets batches × AreCounted seats nothing batches
+    (batches : List Counted) × AreCountedOf seats packets batches
     × (text ≡ totals_head seats ++ flat_map (add_batch_lines seats) (all_lines seats no_counts batches))
 
 -- the whole report of them, with this ending
 abbrev pub IsTotalsReport : (seats : ℕ) → List (List (List ℕ)) → Ending → List ℕ → Type 0
 IsTotalsReport seats packets ending text =
-    (batches : List Counted) × AreOf 1 packets batches × AreCounted seats nothing batches
+    (batches : List Counted) × AreCountedOf seats packets batches
     × (text ≡ totals_report (record {
       seats = seats;
       batches = all_lines seats no_counts batches;
@@ -50,3 +80,9 @@ IsTotalsReport seats packets ending text =
         bound = step_bound seats;
       };
     }))
+
+-- the adds of batches of packets are those of all their packets
+abbrev pub BatchesMakeAdds : Type 0
+BatchesMakeAdds =
+    (batches : List (List (List ℕ))) (counted : List Counted) → AreOf 1 batches counted →
+    MakeAdds 1 (flat_map (λ packets. packets) batches) (adds_on counted)

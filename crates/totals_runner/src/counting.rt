@@ -1,24 +1,26 @@
 //! What the batches so far came to.
 
-ghost use Rattle.std.specs.Prelude.{◌≡◌, ◌+◌, ◌∷◌, ◌++◌, ◌≤◌, ◌<◌, [], ℕ, List, All, IfOk, OnOk, length, slice_index};
+ghost use Rattle.std.specs.Prelude.{◌≡◌, ◌+◌, ◌∷◌, ◌++◌, ◌≤◌, ◌<◌, [], ℕ, List, All, IfOk, OnOk, length, slice_index, vec_len};
 ghost use Rattle.batch_orders.specs.Batches.{with_counts};
 
-use crate::batch::{counts_of, run_batch};
+use crate::batch::{Dealt, counts_of};
 use crate::dealing::deal;
 use crate::frames::Frames;
 use crate::lines::{ids_of, put_adds};
-use edge_traits::Gate;
+use crate::seats::{end_table, workers_of};
+use packet_adders::AddWorker;
 use plain_map::MOST_SEATS;
 use report_text::{Line, order_text};
-use sim_totals::Totals;
+use sim_totals::{Totals, TotalsTable};
 use std::alloc::{AllocError, Global};
-use std::thread::Threads;
 
 /// What the batches so far came to.
 #[derive(Drop)]
 pub struct Counting {
     /// How many seats add packets.
     pub seats: u32,
+    /// How many packets were counted.
+    pub packets: u32,
     /// How many adds each seat has made.
     pub before: [u32; MOST_SEATS],
     /// The totals of all packets so far.
@@ -30,12 +32,16 @@ pub struct Counting {
 }
 
 impl Counting {
+    ghost use Rattle.std.specs.List.{AllZip};
+    ghost use Rattle.packet_adders.specs.Work.{IsDone, IsReady};
+    ghost use Rattle.packet_adders.specs.declared.workers.AddWorker.{AddWorker as AWorker};
     ghost use Rattle.report_text.specs.Adds.{add_batch_lines};
     ghost use Rattle.totals_runner.specs.Counted.{Counted};
     ghost use Rattle.totals_runner.specs.Frames.{HasFrames};
+    ghost use Rattle.totals_runner.specs.Opened.{IsOpened};
     ghost use Rattle.totals_runner.specs.PacketAdds.{MakeAdds};
-    ghost use Rattle.totals_runner.specs.Printed.{adds_on, lines_of};
-    ghost use Rattle.totals_runner.specs.Told.{HasCounted};
+    ghost use Rattle.totals_runner.specs.Printed.{lines_of};
+    ghost use Rattle.totals_runner.specs.Told.{HasCounted, HasGone};
 
     /// Nothing counted yet, of so many seats.
     pub fn new(seats: u32) -> Counting
@@ -43,9 +49,11 @@ impl Counting {
         requires few { seats ≤ 8 }
         ensures seats { result.seats ≡ seats }
         ensures none { HasCounted result [] }
+        ensures gone { HasGone result 0 }
     {
         Counting {
             seats,
+            packets: 0,
             before: [0; MOST_SEATS],
             totals: Totals {
                 counts: [0; 3],
@@ -55,54 +63,68 @@ impl Counting {
         }
     }
 
-    /// Opens a table with the totals so far, lets its adders add the packets of one batch more, each those of its seat,
-    /// in threads of their own, closes it, and appends the lines of the adds and of their one order. Before the caller's
-    /// thread adds it does `beside` once, and what this gave is the answer. The only error is want of memory.
-    pub fn count<R: Threads + Sync, G: Gate + Sync, F: FnMut() -> A, A: Drop>(
-        &mut self,
-        rt: &R,
+    /// Opens a table with the totals so far, and deals the packets to its adders. The only error is want of memory.
+    pub fn open_batch(
+        &self,
         alloc: Global,
         frames: &Frames,
-        gate: &G,
-        text: &mut Vec<u8>,
-        beside: &mut F,
-    ) -> Result<A, AllocError>
-        requires going { (batches : List Counted) × (before : ℕ) × (packets : List (List ℕ))
-            × HasCounted self.old batches × (length (adds_on batches) ≡ before) × HasFrames frames.now before packets
-            × (before + length packets ≤ 4000000) }
-        requires beside { F.pre beside.old }
-        ensures counted { OnOk result ((batches : List Counted) (before : ℕ) (packets : List (List ℕ)) →
-            HasCounted self.old batches → length (adds_on batches) ≡ before → HasFrames frames.now before packets →
-            (batch : Counted) × MakeAdds (before + 1) packets batch.adds × HasCounted self.new (batches ++ batch ∷ [])
-            × (text.new.items ≡ text.old.items
-            ++ add_batch_lines self.old.seats (lines_of self.old.seats self.old.before batch))) }
-        ensures seats { self.new.seats ≡ self.old.seats }
-        ensures beside { IfOk result (λ made. F.step beside.old made beside.new) }
+    ) -> Result<(TotalsTable, Vec<AddWorker>, Dealt), AllocError>
+        requires going { (batches : List Counted) × (packets : List (List ℕ)) × HasCounted self.now batches
+            × HasFrames frames.now self.now.packets packets × (self.now.packets + length packets ≤ 4000000) }
+        ensures few { IfOk result (λ made. vec_len made.1 ≤ 8) }
+        ensures ready { IfOk result (λ made. All (IsReady made.0) made.1.items) }
+        ensures opened { IfOk result (λ made. (packets : List (List ℕ)) → HasFrames frames.now self.now.packets packets →
+            IsOpened self.now made.0 made.1.items made.2 self.now.packets packets) }
     {
         let shares = deal(alloc, self.seats, &frames.frames)?;
         let counts = counts_of(alloc, &shares)?;
-        let (logs, closed, made) = run_batch(
-            rt,
-            alloc,
-            &self.totals,
-            &counts,
-            shares,
-            gate,
-            beside,
-        )?;
+        let (table, adders) = TotalsTable::open(alloc, &counts, &self.totals)?;
+        let workers = workers_of(alloc, &table, adders, shares)?;
+        let dealt = Dealt {
+            before: frames.before,
+            many: frames.frames.len() as u32,
+            counts,
+        };
+        Ok((table, workers, dealt))
+    }
+
+    /// Closes a table whose adders are through, and appends the lines of the adds and of their one order. The only error
+    /// is want of memory.
+    pub fn close_batch(
+        &mut self,
+        alloc: Global,
+        table: TotalsTable,
+        workers: Vec<AddWorker>,
+        dealt: &Dealt,
+        text: &mut Vec<u8>,
+    ) -> Result<(), AllocError>
+        requires going { (started : List AWorker) × (batches : List Counted) × (packets : List (List ℕ))
+            × HasCounted self.old batches × IsOpened self.old table started dealt.now self.old.packets packets
+            × AllZip (IsDone table) started workers.items × (self.old.packets + length packets ≤ 4000000) }
+        ensures counted { OnOk result ((started : List AWorker) (batches : List Counted) (packets : List (List ℕ)) →
+            HasCounted self.old batches → IsOpened self.old table started dealt.now self.old.packets packets →
+            AllZip (IsDone table) started workers.items →
+            (batch : Counted) × MakeAdds (self.old.packets + 1) packets batch.adds
+            × HasCounted self.new (batches ++ batch ∷ []) × (self.new.packets ≡ self.old.packets + length packets)
+            × (text.new.items ≡ text.old.items
+            ++ add_batch_lines self.old.seats (lines_of self.old.seats self.old.before batch))) }
+        ensures seats { self.new.seats ≡ self.old.seats }
+    {
+        let (logs, closed) = end_table(alloc, table, workers)?;
         let ids = ids_of(alloc, &logs, &closed.order)?;
         self.most = put_adds(
             text,
             &self.before,
-            frames.before,
-            frames.frames.len() as u32,
+            dealt.before,
+            dealt.many,
             &logs,
             self.most,
         )?;
         order_text(text, &mut Line::new(), &ids)?;
-        put_counts(&mut self.before, &counts);
+        put_counts(&mut self.before, &dealt.counts);
         self.totals = closed.totals;
-        Ok(made)
+        self.packets += dealt.many;
+        Ok(())
     }
 }
 

@@ -1,8 +1,9 @@
 //! What is kept of the packets of a batch.
 
-ghost use Rattle.std.specs.Prelude.{◌≡◌, ◌+◌, ◌∷◌, ◌++◌, ◌≤◌, [], ℕ, List, length, OnOk};
+ghost use Rattle.std.specs.Prelude.{[]};
 ghost use Rattle.totals_runner.specs.Frames.{HasFrames};
 
+use capture_loop::Pile;
 use packet_adders::Frame;
 use std::alloc::{AllocError, Global};
 
@@ -24,21 +25,21 @@ impl Frames {
             frames: Vec::new(alloc),
         }
     }
+}
 
-    /// Keeps the packet with this number, from 1. The only error is want of memory.
-    pub fn take(&mut self, number: u32, packet: &[u8]) -> Result<(), AllocError>
-        requires { length packet.now ≤ 262144 }
-        ensures { OnOk result ((before : ℕ) (packets : List (List ℕ)) → HasFrames self.old before packets →
-            number ≡ before + length packets + 1 → HasFrames self.new before (packets ++ packet.now ∷ [])) }
-    {
+impl Pile for Frames {
+    ghost holds = { HasFrames };
+
+    fn take(&mut self, number: u32, packet: &[u8]) -> Result<(), AllocError> {
         self.frames.push(Frame::of(number, packet))?;
         Ok(())
     }
 
-    /// Gives up all frames; the next packet stands behind so many.
-    pub fn clear(&mut self, before: u32)
-        ensures { HasFrames self.new before [] }
-    {
+    fn prepare(&mut self) -> Result<(), AllocError> {
+        Ok(())
+    }
+
+    fn clear(&mut self, before: u32) {
         self.frames.clear();
         self.before = before;
     }

@@ -5,13 +5,17 @@ mod batch;
 mod counting;
 mod dealing;
 mod frames;
+mod job;
 mod laws;
 mod lines;
+mod running;
 mod seats;
 
+pub use batch::Dealt;
 pub use counting::Counting;
 pub use frames::Frames;
 pub use laws::counted_laws;
+pub use running::count_input;
 
 #[cfg(test)]
 mod tests;

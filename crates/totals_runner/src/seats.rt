@@ -1,50 +1,39 @@
-//! The adders of a table add the packets that are dealt to them.
+//! The workers of a table: they are made ready for the packets that are dealt to them, and are taken apart.
 
-ghost use Rattle.std.specs.Prelude.{◌≡◌, ◌≤◌, ◌<◌, ◌^◌, ℕ, List, [], All, IfOk, map, vec_capacity, vec_len};
+ghost use Rattle.std.specs.Prelude.{◌≡◌, List, [], IfOk, length, map, vec_capacity, vec_len};
 ghost use Rattle.packet_adders.specs.declared.frames.Frame.{Frame as AFrame};
-ghost use Rattle.sim_steps.specs.Layout.{room_of};
-ghost use Rattle.sim_totals.specs.Values.{fresh, fresh_from};
+ghost use Rattle.sim_steps.specs.Layout.{seats_of};
+ghost use Rattle.sim_totals.specs.Values.{AdderValue, Ran, fresh, fresh_from};
 ghost use Rattle.totals_runner.specs.Seats.{AreFresh, AreThrough, HaveAdded, IsFresh};
 
-use edge_traits::Gate;
-use packet_adders::{AddWorker, Frame, add_beside};
-use sim_totals::{Added, Adder, TotalsTable};
+use packet_adders::{AddWorker, Frame};
+use sim_totals::{Added, Adder, ClosedTotals, TotalsTable};
 use std::alloc::{AllocError, Global};
-use std::thread::Threads;
 
-/// Each adder adds its share of the packets, in a thread of its own; the caller's does this first. Then the adders come
-/// back, with what each was answered, in the order of their seats, and with what this gave. The only error is want of
-/// memory.
-pub(crate) fn add_shares<R: Threads + Sync, G: Gate + Sync, F: FnMut() -> A, A: Drop>(
-    rt: &R,
+/// Takes apart the workers of a table, which are through, and closes it. What each was answered comes back, in the order
+/// of the seats. The only error is want of memory.
+pub(crate) fn end_table(
     alloc: Global,
-    table: &TotalsTable,
-    adders: Vec<Adder>,
-    shares: Vec<Vec<Frame>>,
-    gate: &G,
-    beside: &mut F,
-) -> Result<(Vec<Adder>, Vec<Vec<Added>>, A), AllocError>
-    requires new { adders.items ≡ fresh_from table.now 0 (vec_len adders) }
-    requires as_many { vec_len adders ≡ vec_len shares }
-    requires few { vec_len adders ≤ 8 }
-    requires rooms { map (λ share. vec_len share) shares.items ≡ table.now.settings.adds }
-    requires countable { All (λ share. vec_len share < 2 ^ 32) shares.items }
-    requires short { All (λ share. All (λ frame. frame.length ≤ 262144) share.items) shares.items }
-    requires beside { F.pre beside.old }
-    ensures added { IfOk result (λ done. HaveAdded table.now 0 (map (λ share. share.items) shares.items)
-        done.0.items (map (λ log. log.items) done.1.items)) }
-    ensures beside { IfOk result (λ done. F.step beside.old done.2 beside.new) }
+    table: TotalsTable,
+    workers: Vec<AddWorker>,
+) -> Result<(Vec<Vec<Added>>, ClosedTotals), AllocError>
+    requires { (shares : List (List AFrame)) × AreThrough table 0 shares workers.items
+        × (length shares ≡ seats_of table.settings) }
+    ensures { IfOk result (λ ended. (shares : List (List AFrame)) → AreThrough table 0 shares workers.items →
+        (adders : List AdderValue) × HaveAdded table 0 shares adders (map (λ log. log.items) ended.0.items)
+        × Ran table.settings ended.1.totals ended.1.order.items adders) }
 {
-    let mut back = Vec::with_capacity(alloc, adders.len())?;
-    let mut logs = Vec::with_capacity(alloc, adders.len())?;
-    let mut workers = workers_of(alloc, table, adders, shares)?;
-    let made = add_beside(rt, table, workers.as_mut_slice(), gate, beside);
-    take_apart(table, workers, &mut back, &mut logs);
-    Ok((back, logs, made))
+    let mut adders = Vec::with_capacity(alloc, workers.len())?;
+    let mut logs = Vec::with_capacity(alloc, workers.len())?;
+    take_apart(&table, workers, &mut adders, &mut logs);
+    match table.close(alloc, adders) {
+        Ok(closed) => Ok((logs, closed)),
+        Err((failed, _, _)) => Err(failed),
+    }
 }
 
-// A worker for each adder and its share, in the order of the seats.
-fn workers_of(
+/// A worker for each adder and its share, in the order of the seats. The only error is want of memory.
+pub(crate) fn workers_of(
     alloc: Global,
     table: &TotalsTable,
     mut adders: Vec<Adder>,

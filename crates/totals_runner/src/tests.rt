@@ -1,13 +1,13 @@
 //! Batches worked by hand.
 
-ghost use Rattle.std.specs.Prelude.{◌≡◌, ◌+◌, ◌<◌, ◌≤◌, [], ℕ, List, IfOk, OnOk, length, replicate};
-ghost use Rattle.totals_runner.specs.Counted.{Counted as ABatch};
+ghost use Rattle.std.specs.Prelude.{◌+◌, ◌<◌, ◌≤◌, [], ℕ, List, OnOk, length, replicate};
 ghost use Rattle.totals_runner.specs.Frames.{HasFrames};
-ghost use Rattle.totals_runner.specs.Printed.{adds_on};
-ghost use Rattle.totals_runner.specs.Told.{HasCounted};
+ghost use Rattle.totals_runner.specs.Told.{HasGone};
 
 use crate::{Counting, Frames};
+use capture_loop::Pile;
 use edge_traits::{Gate, OpenGate};
+use packet_adders::add_all;
 use std::alloc::{AllocError, Global};
 use std::sync::atomic::AtomicU64;
 use std::sync::atomic::Ordering::SeqCst;
@@ -21,6 +21,25 @@ const SYN: [u8; 54] = [
     0, 1, 0, 80, 0, 0, 0, 0, 0, 0, 0, 0, 0x50, 0x02, 0x20, 0, 0, 0, 0, 0, // TCP
 ];
 
+// Counts a batch of what is kept.
+fn serve<R: Threads + Sync, G: Gate + Sync>(
+    rt: &R,
+    alloc: Global,
+    counting: &mut Counting,
+    frames: &Frames,
+    gate: &G,
+    text: &mut Vec<u8>,
+) -> Result<(), AllocError>
+    requires going { (before : ℕ) × (packets : List (List ℕ)) × HasGone counting.old before
+        × HasFrames frames.now before packets × (before + length packets ≤ 4000000) }
+    ensures { OnOk result ((before : ℕ) (packets : List (List ℕ)) → HasGone counting.old before →
+        HasFrames frames.now before packets → HasGone counting.new (before + length packets)) }
+{
+    let (table, mut workers, dealt) = counting.open_batch(alloc, frames)?;
+    add_all(rt, &table, workers.as_mut_slice(), gate);
+    counting.close_batch(alloc, table, workers, &dealt, text)
+}
+
 // Counts a batch of the packet behind so many others.
 fn count_one<R: Threads + Sync>(
     rt: &R,
@@ -31,17 +50,14 @@ fn count_one<R: Threads + Sync>(
     packet: &[u8],
     text: &mut Vec<u8>,
 ) -> Result<(), AllocError>
-    requires counted { (batches : List ABatch) × HasCounted counting.old batches
-        × (length (adds_on batches) ≡ before) }
+    requires going { HasGone counting.old before }
     requires few { before < 100 }
     requires short { length packet.now ≤ 262144 }
-    ensures counted { OnOk result ((batches : List ABatch) × HasCounted counting.new batches
-        × (length (adds_on batches) ≡ before + 1)) }
-    ensures seats { counting.new.seats ≡ counting.old.seats }
+    ensures { OnOk result (HasGone counting.new (before + 1)) }
 {
     frames.clear(before);
     frames.take(before + 1, packet)?;
-    counting.count(rt, alloc, frames, &OpenGate, text, &mut || {})
+    serve(rt, alloc, counting, frames, &OpenGate, text)
 }
 
 // Two seats, and three batches of a packet each: a SYN frame, an empty packet, and the frame cut before its flags. What
@@ -163,7 +179,7 @@ fn adders_follow_gate(rt: HostRuntime) -> Result<(), Fail> {
         ],
         lost: AtomicU64::new(0),
     };
-    counting.count(&rt, rt.alloc(), &mut frames, &gate, &mut text, &mut || {})?;
+    serve(&rt, rt.alloc(), &mut counting, &frames, &gate, &mut text)?;
     assert_eq!(rt; gate.lost.load(SeqCst), 0);
     for (turn, count) in [1u64, 2, 3, 4].iter().enumerate() {
         assert_eq!(rt; gate.told[turn].load(SeqCst), *count);

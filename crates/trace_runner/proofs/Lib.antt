@@ -25,3 +25,4 @@ pub mod UnrefusedPlays
 pub mod PlayTurns
 pub mod PlayLines
 pub mod PlayReports
+mod TotalsLemmas

@@ -8,3 +8,4 @@ pub mod Playing
 pub mod Progress
 pub mod Serving
 pub mod ServingLaws
+pub mod Totalled

@@ -13,6 +13,7 @@ mod running;
 mod serving;
 mod status;
 mod steps;
+mod totals;
 mod trying;
 
 pub use intake::{BATCH, PACKET_LIMIT, PLAY_LIMIT};

@@ -5,15 +5,17 @@ ghost use Rattle.edge_traits.specs.Edge.{Rose};
 ghost use Rattle.pcapng_reader.specs.Input.{Input};
 ghost use Rattle.pcapng_reader.specs.declared.fault.AnyFault.{AnyFault};
 ghost use Rattle.command_line.specs.declared.plan.Plan.{Plan as APlan};
-ghost use Rattle.command_line.specs.declared.plan.Mode.TheVariants.{Make, Play, Serve, Trial};
+ghost use Rattle.command_line.specs.declared.plan.Mode.TheVariants.{Make, Play, Serve, Totals, Trial};
 ghost use Rattle.command_line.specs.Words.{IsInRange, reads};
 ghost use Rattle.trace_runner.specs.Headline.{LeavesAll, LeavesMade, LeavesTried, ReadsFailed, WritesFailed, status_for, status_up_to};
 ghost use Rattle.trace_runner.specs.Playing.{LeavesPlayed, play_limit};
+ghost use Rattle.trace_runner.specs.Totalled.{LeavesTotals};
 
 use crate::making::make;
 use crate::playing::play;
 use crate::serving::serve;
 use crate::status::Status;
+use crate::totals::count;
 use crate::trying::try_plan;
 use command_line::{Mode, Plan, WordsFault, read_words};
 use edge_traits::{Gate, Sink, Source};
@@ -27,7 +29,8 @@ use std::thread::Threads;
 /// a time. The calls of these are served by seats in threads of their own, and their lines are put into the sink before
 /// more is read of the source. `play` reads a capture of up to `PLAY_LIMIT` packets, whose calls are made step by step,
 /// by one schedule, and puts the report at once. `make` puts a made capture, and `trial` serves it and puts how many
-/// calls had each reply. The gate is passed before each call that is served, and told of each answer.
+/// calls had each reply. `totals` goes through a capture as `serve` does, and counts its packets by adders in threads. The
+/// gate is passed before each call that is served and each add, and told of each answer.
 pub fn run<R: Threads + Sync, S: Source, K: Sink, G: Gate + Sync>(
     rt: &R,
     alloc: Global,
@@ -72,6 +75,20 @@ pub fn run<R: Threads + Sync, S: Source, K: Sink, G: Gate + Sync>(
     ensures tried { (plan : APlan) → reads (map string_bytes words.now) ≡ Some plan → plan.mode ≡ Trial →
         LeavesTried plan (K.put sink.old) (K.put sink.new) result × (source.new ≡ source.old) }
 
+    // `totals`: what is put is the report of the input's packets, in one order of all adds with the counts of the plain
+    // totals.
+    ensures totals { (plan : APlan) → reads (map string_bytes words.now) ≡ Some plan → plan.mode ≡ Totals →
+        LeavesTotals plan (Rose (S.faults source.old) (S.faults source.new)) (S.left source.old) (S.left source.new)
+        (K.put sink.old) (K.put sink.new) result }
+
+    // Where nothing fails, here too the input decides.
+    ensures exact_totals { (plan : APlan) (bytes : List ℕ) (packets : List (List ℕ)) (ending : Result ℕ AnyFault) →
+        reads (map string_bytes words.now) ≡ Some plan → plan.mode ≡ Totals →
+        S.left source.old ≡ Some bytes → Input bytes packets ending →
+        ¬ Rose (S.faults source.old) (S.faults source.new) →
+        ¬ Rose (K.faults sink.old) (K.faults sink.new) →
+        (result ≡ status_for packets ending) ⊎ (result ≡ Status.Memory) }
+
     // The words ask for no plan, and then nothing is read or put, whatever the answer.
     ensures usage { result ≡ Status.Usage → reads (map string_bytes words.now) ≡ None }
     ensures refused { reads (map string_bytes words.now) ≡ None → (result ≡ Status.Usage) ⊎ (result ≡ Status.Memory) }
@@ -114,6 +131,9 @@ fn run_plan<R: Threads + Sync, S: Source, K: Sink, G: Gate + Sync>(
         LeavesMade plan.now (K.put sink.old) (K.put sink.new) result × (source.new ≡ source.old) }
     ensures tried { plan.now.mode ≡ Trial → plan.now.rows ≡ None →
         LeavesTried plan.now (K.put sink.old) (K.put sink.new) result × (source.new ≡ source.old) }
+    ensures totals { plan.now.mode ≡ Totals →
+        LeavesTotals plan.now (Rose (S.faults source.old) (S.faults source.new)) (S.left source.old)
+        (S.left source.new) (K.put sink.old) (K.put sink.new) result }
     ensures no_usage { result ≡ Status.Usage → ⊥ }
     ensures read_fault { result ≡ Status.ReadFault → Rose (S.faults source.old) (S.faults source.new) }
     ensures write_fault { result ≡ Status.WriteFault → Rose (K.faults sink.old) (K.faults sink.new) }
@@ -126,5 +146,6 @@ fn run_plan<R: Threads + Sync, S: Source, K: Sink, G: Gate + Sync>(
         Mode::Play => play(alloc, plan, source, sink),
         Mode::Make => make(alloc, plan, sink),
         Mode::Trial => try_plan(rt, alloc, plan, sink, gate),
+        Mode::Totals => count(rt, alloc, plan, source, sink, gate),
     }
 }

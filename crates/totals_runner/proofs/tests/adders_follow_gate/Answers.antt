@@ -1,14 +1,12 @@
 -- Four packets are counted, behind none.
-use Rattle.std.proofs.Common.{[], replicate, refl, arith}
+use Rattle.std.proofs.Common.{replicate, arith}
 use Rattle.totals_runner.proofs.tests.adders_follow_gate.Goals as goal
 
-pub count-requires-clause-going : goal.count-requires-clause-going
-count-requires-clause-going g c κs = (
-  [],
+pub serve-requires-clause-going : goal.serve-requires-clause-going
+serve-requires-clause-going g c κs = (
   0,
   replicate 4 _,
-  c.new-counting.ensures.none,
-  refl,
+  c.new-counting.ensures.gone,
   c.in_ok-keep.ensures,
   omega arith,
 )

@@ -2,11 +2,13 @@ use Rattle.std.proofs.Common.{◌≡◌, Some, None, ap, sym, subst, ◌∙◌}
 use Rattle.command_line.specs.declared.plan.Plan.{Plan}
 use Rattle.trace_runner.specs.Headline.{LeavesAll, LeavesMade, LeavesTried}
 use Rattle.trace_runner.specs.Playing.{LeavesPlayed}
+use Rattle.trace_runner.specs.Totalled.{LeavesTotals}
 use Rattle.edge_traits.specs.Edge.{Rose}
 use Rattle.trace_runner.proofs.EndLemmas.{Keeps-same}
 use Rattle.trace_runner.proofs.HeadlineLemmas.{leaves_nothing}
 use Rattle.trace_runner.proofs.ExactLemmas.{Leaves-exact}
 use Rattle.trace_runner.proofs.PlayLemmas.{LeavesPlay-exact, LeavesPlayed-nothing}
+use Rattle.trace_runner.proofs.TotalsLemmas.{totals_exact, totals_nothing}
 use Rattle.trace_runner.proofs.TrialWords.{no_rows}
 use Rattle.trace_runner.proofs.running.run.Goals as goal
 
@@ -70,3 +72,25 @@ returns-in-Ok-clause-tried g c = λ plan asked tries.
           c.run_plan.result) same tried.0,
       tried.1,
     )
+
+pub returns-in-Ok-clause-totals : goal.returns-in-Ok-clause-totals
+returns-in-Ok-clause-totals g c = λ plan asked counts.
+    let same : c.in-Ok.plan ≡ plan = same_plan (sym c.in-Ok.ensures.answers ∙ asked) in
+    subst (λ (p : Plan). LeavesTotals p (Rose (g.S.Source.faults c.args.source.now) (g.S.Source.faults c.run_plan.new.source))
+    (g.S.Source.left c.args.source.now) (g.S.Source.left c.run_plan.new.source) (g.K.Sink.put c.args.sink.now)
+    (g.K.Sink.put c.run_plan.new.sink) c.run_plan.result) same
+    (c.run_plan.ensures.totals (ap (λ (p : Plan). p.mode) same ∙ counts))
+
+pub returns-in-Ok-clause-exact_totals : goal.returns-in-Ok-clause-exact_totals
+returns-in-Ok-clause-exact_totals g c = λ plan bytes packets ending asked counts told capture no_read no_write.
+    let same : c.in-Ok.plan ≡ plan = same_plan (sym c.in-Ok.ensures.answers ∙ asked) in
+    let left = c.run_plan.ensures.totals (ap (λ (p : Plan). p.mode) same ∙ counts) in
+    totals_exact _ _ _ bytes _ _ _ left.0 c.run_plan.result packets ending left.1 (c.one_input.ensures bytes) capture
+    (λ is. no_read (c.run_plan.ensures.read_fault is)) (λ is. no_write (c.run_plan.ensures.write_fault is))
+    (left.2.told bytes told)
+
+pub returns-in-Err-Memory-clause-totals : goal.returns-in-Err-Memory-clause-totals
+returns-in-Err-Memory-clause-totals g c = λ plan asked counts.
+    totals_nothing plan (Rose (g.S.Source.faults c.args.source.now) (g.S.Source.faults c.args.source.now))
+    (g.S.Source.left c.args.source.now) (g.S.Source.left c.args.source.now) (g.K.Sink.put c.args.sink.now)
+    (g.K.Sink.put c.args.sink.now) (Keeps-same (g.K.Sink.put c.args.sink.now))

@@ -1,7 +1,7 @@
 -- All frames are given up.
 use Rattle.std.proofs.Common.{◌≤◌, ℕ, List, length, refl}
 use Rattle.std.proofs.lemmas.List.Elements.{All-nil}
-use Rattle.totals_runner.proofs.frames.Frames.clear.Goals as goal
+use Rattle.totals_runner.proofs.frames.FramesPile.clear.Goals as goal
 
 pub returns : goal.returns
 returns c =

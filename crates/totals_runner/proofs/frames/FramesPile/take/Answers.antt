@@ -4,7 +4,7 @@ use Rattle.std.proofs.lemmas.List.Elements.{All-push}
 use Rattle.packet_adders.specs.declared.frames.Frame.{Frame}
 use Rattle.totals_runner.specs.Frames.{AreFrames}
 use Rattle.totals_runner.proofs.FrameLemmas.{AreFrames-more}
-use Rattle.totals_runner.proofs.frames.Frames.take.Goals as goal
+use Rattle.totals_runner.proofs.frames.FramesPile.take.Goals as goal
 
 pub returns : goal.returns
 returns c = λ before packets has at.
@@ -16,5 +16,5 @@ returns c = λ before packets has at.
           (AreFrames-more (before + 1) packets c.args.self.now.frames.items c.args.packet.now frame c.args.number has.are
           c.of.ensures last);
       behind = has.behind;
-      short = All-push (λ (packet : List ℕ). length packet ≤ 262144) packets c.args.packet.now has.short c.requires;
+      short = All-push (λ (packet : List ℕ). length packet ≤ 262144) packets c.args.packet.now has.short c.requires.short;
     }

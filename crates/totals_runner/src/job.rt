@@ -1,0 +1,97 @@
+//! Counting, as the loop over the batches of a capture has it.
+
+ghost use Rattle.std.specs.Prelude.{◌≡◌, ◌≤◌, ◌+◌, ◌∷◌, ◌++◌, [], ℕ, List, length, OnOk};
+ghost use Rattle.std.specs.List.{AllZip};
+ghost use Rattle.packet_adders.specs.Work.{IsDone};
+ghost use Rattle.packet_adders.specs.declared.workers.AddWorker.{AddWorker as AWorker};
+
+use crate::batch::Dealt;
+use crate::counting::Counting;
+use crate::frames::Frames;
+use capture_loop::{BATCH, Job, Opened, PACKET_LIMIT};
+use packet_adders::AddWorker;
+use report_text::{Ending, TotalsTail, totals_tail_text};
+use sim_totals::{TotalsTable, step_bound};
+use std::alloc::{AllocError, Global};
+use std::thread::Threads;
+
+/// By the number of its seats.
+impl Job<u32> for Counting {
+    ghost use Rattle.totals_runner.specs.JobLaws.{begins_report, told_lines};
+    ghost use Rattle.totals_runner.specs.Opened.{IsOpened};
+    ghost use Rattle.totals_runner.specs.Told.{HasGone, IsCountedSo, IsTotalsLines, IsTotalsReport};
+
+    type Pile = Frames;
+
+    type Shared = TotalsTable;
+
+    type Worker = AddWorker;
+
+    type Kept = Dealt;
+
+    ghost lines = { IsTotalsLines };
+
+    ghost report = { IsTotalsReport };
+
+    ghost going = { HasGone };
+
+    ghost done = { IsCountedSo };
+
+    ghost opened = { IsOpened };
+
+    fn open(
+        &mut self,
+        alloc: Global,
+        pile: &mut Frames,
+    ) -> Result<Opened<TotalsTable, AddWorker, Dealt>, AllocError> {
+        let (shared, workers, kept) = self.open_batch(alloc, pile)?;
+        Ok(Opened {
+            shared,
+            workers,
+            kept,
+        })
+    }
+
+    fn close<R: Threads>(
+        &mut self,
+        _rt: &R,
+        alloc: Global,
+        made: Opened<TotalsTable, AddWorker, Dealt>,
+        text: &mut Vec<u8>,
+    ) -> Result<(), AllocError>
+        requires going { (started : List AWorker) × (before : ℕ) × (packets : List (List ℕ)) × HasGone self.old before
+            × IsOpened self.old made.shared started made.kept before packets
+            × AllZip (IsDone made.shared) started made.workers.items × (length packets ≤ BATCH)
+            × (before + length packets ≤ PACKET_LIMIT) }
+        ensures going { OnOk result ((started : List AWorker) (before : ℕ) (packets : List (List ℕ)) →
+            HasGone self.old before → IsOpened self.old made.shared started made.kept before packets →
+            AllZip (IsDone made.shared) started made.workers.items → HasGone self.new (before + length packets)) }
+        ensures served { OnOk result ((plan : ℕ) (batches : List (List (List ℕ))) (put : List ℕ)
+            (started : List AWorker) (before : ℕ) (packets : List (List ℕ)) → IsCountedSo self.old plan batches put →
+            HasGone self.old before → IsOpened self.old made.shared started made.kept before packets →
+            AllZip (IsDone made.shared) started made.workers.items →
+            (lines : List ℕ) × (text.new.items ≡ text.old.items ++ lines)
+            × IsCountedSo self.new plan (batches ++ packets ∷ []) (put ++ lines)) }
+    {
+        let Opened {
+            shared,
+            workers,
+            kept,
+        } = made;
+        self.close_batch(alloc, shared, workers, &kept, text)
+    }
+
+    fn finish(&self, _packets: u32, ending: &Ending, text: &mut Vec<u8>) -> Result<(), AllocError> {
+        let tail = TotalsTail {
+            totals: self.totals,
+            ending: *ending,
+            most: self.most,
+            bound: step_bound(u64::from(self.seats)),
+        };
+        totals_tail_text(text, &tail)
+    }
+
+    ghost told = { told_lines };
+
+    ghost begins = { begins_report };
+}

@@ -1,0 +1,16 @@
+-- What `totals` leaves.
+use Rattle.std.specs.Prelude.{◌≡◌, List, ℕ, Option, Result}
+use Rattle.report_text.specs.declared.parts.Ending.{Ending}
+use Rattle.capture_loop.specs.declared.stop.Stop.{Stop}
+use Rattle.capture_loop.specs.Leaves.{LeavesAll}
+use Rattle.command_line.specs.declared.plan.Plan.{Plan}
+use Rattle.totals_runner.specs.Told.{IsTotalsLines, IsTotalsReport}
+use Rattle.trace_runner.specs.declared.status.Status.{Status}
+use Rattle.trace_runner.specs.Headline.{status_by}
+
+-- The run ended so, by its input or before, and what is put is the report of the packets that were counted then, by as
+-- many seats as the plan says, or a part of it.
+abbrev pub LeavesTotals : Plan → Type 0 → (first left before after : Option (List ℕ)) → Status → Type 0
+LeavesTotals plan read_failed first left before after answer =
+    (end : Result Ending Stop) × (answer ≡ status_by end)
+    × LeavesAll (IsTotalsLines plan.seats) (IsTotalsReport plan.seats) read_failed first left before after end

@@ -1,0 +1,42 @@
+//! Mode `totals`: the packets are counted by adders that share one table.
+
+ghost use Rattle.std.specs.Prelude.{◌≡◌, ◌≤◌};
+ghost use Rattle.edge_traits.specs.Edge.{Rose};
+ghost use Rattle.command_line.specs.Words.{IsInRange};
+ghost use Rattle.trace_runner.specs.Headline.{ReadsFailed, WritesFailed};
+ghost use Rattle.trace_runner.specs.Totalled.{LeavesTotals};
+
+use crate::status::Status;
+use capture_loop::{Means, Stop};
+use command_line::Plan;
+use edge_traits::{Gate, Sink, Source};
+use std::alloc::Global;
+use std::thread::Threads;
+use totals_runner::count_input;
+
+/// Counts the source's packets by as many adders as the plan has seats, and puts the report into the sink.
+pub(crate) fn count<R: Threads + Sync, S: Source, K: Sink, G: Gate + Sync>(
+    rt: &R,
+    alloc: Global,
+    plan: &Plan,
+    source: &mut S,
+    sink: &mut K,
+    gate: &G,
+) -> Status
+    requires { IsInRange plan.now }
+    ensures leaves { LeavesTotals plan.now (Rose (S.faults source.old) (S.faults source.new)) (S.left source.old)
+        (S.left source.new) (K.put sink.old) (K.put sink.new) result }
+    ensures read_fault { result ≡ Status.ReadFault → Rose (S.faults source.old) (S.faults source.new) }
+    ensures write_fault { result ≡ Status.WriteFault → Rose (K.faults sink.old) (K.faults sink.new) }
+    ensures reads { ReadsFailed result (S.failed source.old) (S.failed source.new) }
+    ensures writes { WritesFailed result (K.failed sink.old) (K.failed sink.new) }
+    ensures no_usage { result ≡ Status.Usage → ⊥ }
+    ensures counted { (S.faults source.old ≤ S.faults source.new) × (K.faults sink.old ≤ K.faults sink.new) }
+{
+    let means = Means { rt, alloc, gate };
+    match count_input(&means, plan.seats, source, sink) {
+        Ok(ending) => Status::of_ending(&ending),
+        Err(Stop::Memory) => Status::Memory,
+        Err(Stop::NotPut) => Status::WriteFault,
+    }
+}
