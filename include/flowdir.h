@@ -63,10 +63,10 @@ struct flowdir_options {
 enum flowdir_status {
     FLOWDIR_OK = 0,            /* it was done */
     FLOWDIR_MEMORY = 1,        /* memory is wanting */
-    FLOWDIR_BAD = 2,           /* a number is out of its range, or the table is not closed */
+    FLOWDIR_BAD = 2,           /* a number is out of its range, a key stands twice, or the table is closed, or is not */
     FLOWDIR_NO_ROOM = 3,       /* more first pairs of one class than it has room for */
     FLOWDIR_FULL = 4,          /* the rows of the seat are used up, for every further update */
-    FLOWDIR_BUSY = 5           /* sit: no seat is left; close: a seat or a reader is out, or the table is closed */
+    FLOWDIR_BUSY = 5           /* sit: no seat is left; close: a seat or a reader is out; both: the table is closed */
 };
 
 enum flowdir_kind {
@@ -92,12 +92,19 @@ uint64_t flowdir_bound(const struct flowdir_options *options);
  * number of threads at once. */
 uint32_t flowdir_rows_for(const struct flowdir_options *options, uint32_t updates, struct flowdir_rows *rows);
 
-/* Opens a table that holds these pairs. BAD: options, rows, values or bytes out of their ranges, or a key that stands twice;
- * NO_ROOM; MEMORY. Any number of threads at once, each with a handle of its own. */
+/* The same, for a table to which no more than so many keys come, its first pairs among them: fewer rows where the keys
+ * are few, since few classes can then be split. BAD: options out of their ranges, or 2^30 updates or more. Any number of
+ * threads at once. */
+uint32_t flowdir_rows_by(const struct flowdir_options *options, uint32_t updates, uint64_t keys,
+                         struct flowdir_rows *rows);
+
+/* Opens a table that holds these pairs. BAD: options, rows, values or bytes out of their ranges, or a key that stands
+ * twice; NO_ROOM; MEMORY. Any number of threads at once, each with a handle of its own. */
 uint32_t flowdir_open(const struct flowdir_options *options, const struct flowdir_pair *first, size_t count,
                       struct flowdir_table *table);
 
-/* Takes a seat that nobody has had. BUSY: none is left; MEMORY. One thread at a time for a table. */
+/* Takes a seat that nobody has had. BUSY: none is left, or the table is closed; MEMORY. One thread at a time for a
+ * table. */
 uint32_t flowdir_sit(struct flowdir_table *table, struct flowdir_seat *seat);
 
 /* Gives the key this value, where it has none: NEW, OLD or NOROOM. BAD: a value of 2^61 or more, or calls used up;
@@ -120,7 +127,7 @@ uint32_t flowdir_lookup(struct flowdir_seat *seat, const struct flowdir_key *key
  * the table has no place for it, which never comes with a seat that came from it. One thread at a time for a table. */
 uint32_t flowdir_rise(struct flowdir_table *table, struct flowdir_seat *seat);
 
-/* Takes a reader, of which there may be any number. MEMORY, also where the table is closed. One thread at a time for a
+/* Takes a reader, of which there may be any number. BAD: the table is closed; MEMORY. One thread at a time for a
  * table. */
 uint32_t flowdir_read(struct flowdir_table *table, struct flowdir_reader *reader);
 

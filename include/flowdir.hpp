@@ -41,6 +41,12 @@ inline Options with_rows(Options options, uint32_t updates) {
     return options;
 }
 
+/* The same, where no more than so many keys come. */
+inline Options with_rows(Options options, uint32_t updates, uint64_t keys) {
+    check(flowdir_rows_by(&options, updates, keys, &options.rows));
+    return options;
+}
+
 /* One thread's place at a table. It goes back to its table when it ends, so the table has to outlive it. */
 class Seat {
 public:

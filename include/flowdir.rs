@@ -57,6 +57,7 @@ struct RawReply {
 extern "C" {
     fn flowdir_bound(options: *const Options) -> u64;
     fn flowdir_rows_for(options: *const Options, updates: u32, rows: *mut Rows) -> u32;
+    fn flowdir_rows_by(options: *const Options, updates: u32, keys: u64, rows: *mut Rows) -> u32;
     fn flowdir_open(options: *const Options, first: *const Pair, count: usize, table: *mut Handle) -> u32;
     fn flowdir_sit(table: *mut Handle, seat: *mut Handle) -> u32;
     fn flowdir_insert(seat: *mut Handle, key: *const Key, value: u64, reply: *mut RawReply) -> u32;
@@ -130,6 +131,14 @@ impl Options {
     pub fn with_rows_for(mut self, updates: u32) -> Result<Options, Refused> {
         let mut rows = Rows::default();
         done(unsafe { flowdir_rows_for(&self, updates, &mut rows) })?;
+        self.rows = rows;
+        Ok(self)
+    }
+
+    /// The same, where no more than so many keys come.
+    pub fn with_rows_by(mut self, updates: u32, keys: u64) -> Result<Options, Refused> {
+        let mut rows = Rows::default();
+        done(unsafe { flowdir_rows_by(&self, updates, keys, &mut rows) })?;
         self.rows = rows;
         Ok(self)
     }

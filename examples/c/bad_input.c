@@ -34,6 +34,7 @@ static void ranges(void) {
         struct flowdir_rows rows = {1, 2, 3, 4}, same = rows;
         expect(table[i].what, flowdir_open(&options, NULL, 0, &none), FLOWDIR_BAD);
         expect(table[i].what, flowdir_rows_for(&options, 7, &rows), FLOWDIR_BAD);
+        expect(table[i].what, flowdir_rows_by(&options, 7, 9, &rows), FLOWDIR_BAD);
         expect(table[i].what, flowdir_bound(&options), 0);
         expect("rows are as they were", memcmp(&rows, &same, sizeof rows), 0);
         expect("no table", none.at != NULL, 0);
@@ -47,6 +48,35 @@ static void ranges(void) {
         expect("rows of 2^32", flowdir_open(&options, NULL, 0, &none), FLOWDIR_BAD);
         expect("no table", none.at != NULL, 0);
     }
+}
+
+/* Rows by a number of keys: no more than without it, and fewer where the keys are few; these suffice. */
+static void rows_by(void) {
+    struct flowdir_options options = options_of(4, 8, 12, 0);
+    struct flowdir_rows all = {0}, few = {0}, many = {0}, same = {1, 2, 3, 4}, rows = same;
+    expect("rows", flowdir_rows_for(&options, 5000, &all), FLOWDIR_OK);
+    expect("rows by few keys", flowdir_rows_by(&options, 5000, 8, &few), FLOWDIR_OK);
+    expect("rows by many keys", flowdir_rows_by(&options, 5000, 1ull << 40, &many), FLOWDIR_OK);
+    expect("eight keys split no class", few.directory_rows, 1);
+    expect("no more by many keys", many.directory_rows <= all.directory_rows && many.bucket_rows <= all.bucket_rows, 1);
+    expect("as many op rows", few.op_rows, all.op_rows);
+    expect("fewer bucket rows", few.bucket_rows < all.bucket_rows, 1);
+    expect("2^30 updates", flowdir_rows_by(&options, 1u << 30, 8, &rows), FLOWDIR_BAD);
+    expect("rows are as they were", memcmp(&rows, &same, sizeof rows), 0);
+    options.rows = few;
+    struct flowdir_table table = {0};
+    struct flowdir_seat seat = {0};
+    struct flowdir_reply reply;
+    expect("open by few keys", flowdir_open(&options, NULL, 0, &table), FLOWDIR_OK);
+    expect("sit", flowdir_sit(&table, &seat), FLOWDIR_OK);
+    uint64_t updates = 0;
+    for (uint64_t i = 0; i < 5000; i++) {
+        struct flowdir_key key = key_of(i % 8);
+        updates += (i & 8 ? flowdir_remove(&seat, &key, &reply) : flowdir_insert(&seat, &key, i, &reply)) == FLOWDIR_OK;
+    }
+    expect("no update is refused", updates, 5000);
+    flowdir_drop(&seat);
+    flowdir_free(&table);
 }
 
 /* First pairs that no table can begin with. */
@@ -102,7 +132,8 @@ static void calls(void) {
     expect("close", flowdir_close(&table), FLOWDIR_OK);
     expect("close again", flowdir_close(&table), FLOWDIR_BUSY);
     expect("sit at a closed table", flowdir_sit(&table, &seat), FLOWDIR_BUSY);
-    expect("read a closed table", flowdir_read(&table, &reader), FLOWDIR_MEMORY);
+    expect("read a closed table", flowdir_read(&table, &reader), FLOWDIR_BAD);
+    expect("no reader", reader.at != NULL, 0);
     expect("count", flowdir_count(&table, &count), FLOWDIR_OK);
     expect("no pair is left", count, 0);
     expect("no pair there", flowdir_pair_at(&table, 0, &pair), FLOWDIR_BAD);
@@ -165,6 +196,7 @@ static void interval(void) {
 
 int main(void) {
     ranges();
+    rows_by();
     first_pairs();
     calls();
     interval();

@@ -1,6 +1,5 @@
 -- Pairs in the order of their keys have distinct keys where no two neighbours have one key.
 use Rattle.std.proofs.Common.{◌≡◌, ℕ, zero, suc, ◌+◌, ◌<◌, Bool, true, false, List, [], ◌∷◌, length, get_or, refl, sym, ap, ◌∙◌, subst, arith}
-use Rattle.std.proofs.lemmas.Bool.{cases_Bool}
 use Rattle.std.proofs.lemmas.List.Sorted.{ranks_by, sorted_far}
 use Rattle.std.specs.List.{AllByRecursion, IsDistinct}
 use Rattle.std.specs.List.Sorted.{IsSortedByKey}
@@ -9,7 +8,7 @@ use Rattle.std.specs.declared.cmp.Ordering.TheVariants.{Less, Equal, Greater}
 use Rattle.std.specs.Ordering.{is_lt, ordering_reverse}
 use Rattle.plain_map.specs.declared.keys.Key.{Key}
 use Rattle.plain_map.specs.declared.keys.Pair.{Pair}
-use Rattle.plain_map.specs.Keys.{key_cmp, no_key}
+use Rattle.plain_map.specs.Keys.{key_cmp}
 use Rattle.plain_map.proofs.KeyLemmas.{keys_total, exact_keys}
 use Rattle.bucket_states.specs.Items.{same_key}
 use Rattle.bucket_states.specs.Parts.{HasDistinctKeys, keys_of}
@@ -79,3 +78,14 @@ unfolding IsDistinct
 distinct_in_order [] sorted apart = tt
 distinct_in_order (p ∷ ps) sorted apart =
     (all_apart p.key ps p (first_apart p ps sorted apart), distinct_in_order ps (sorted_rest p ps sorted) (apart_rest p ps apart))
+
+-- and pairs of distinct keys are apart
+pub apart_of_distinct : (ps : List Pair) → HasDistinctKeys ps → AreApart ps
+unfolding IsDistinct
+apart_of_distinct [] distinct k d h = absurd (omega (arith, h))
+apart_of_distinct (p ∷ []) distinct k d h = absurd (omega (arith, h))
+apart_of_distinct (p ∷ q ∷ ps) distinct zero d h = distinct.0.0
+apart_of_distinct (p ∷ q ∷ ps) distinct (suc k) d h =
+    let next : suc k + 1 ≡ suc (k + 1) = omega arith in
+    subst (λ n. same_key (get_or (q ∷ ps) k d).key (get_or (p ∷ q ∷ ps) n d).key ≡ false) (sym next)
+    (apart_of_distinct (q ∷ ps) distinct.1 k d (omega (arith, h)))

@@ -3,5 +3,6 @@ pub mod ReaderHandleValues
 pub mod TableHandleValues
 pub mod FirstSeats
 pub mod Apart
+pub mod FitLemmas
 pub mod Values
 pub mod ShelfLemmas

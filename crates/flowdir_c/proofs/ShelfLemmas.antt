@@ -1,5 +1,5 @@
 -- What holds of the table that runs, if one does.
-use Rattle.std.proofs.Common.{◌≡◌, List, Some, None, refl}
+use Rattle.std.proofs.Common.{◌≡◌, Some, None, refl}
 use Rattle.std.specs.Prelude.{Option, IfSome}
 
 -- what is there is one thing

@@ -1,13 +1,12 @@
 -- What the calls from C promise, of the holders that the handles lead to before and after.
-use Rattle.std.specs.Prelude.{◌≡◌, ℕ, List, [], ◌∷◌, ◌++◌, length, map, replicate, Option, Some, None, IsSomeAnd, IsPermutation, slice_get}
+use Rattle.std.specs.Prelude.{◌≡◌, ℕ, ◌+◌, ◌≤◌, ◌⊎◌, List, [], ◌∷◌, ◌++◌, length, map, Option, Some, None, IsSomeAnd, IsPermutation, slice_get}
 use Rattle.std.specs.Arc.{arc_value}
-use Rattle.hash_bits.specs.declared.hashing.Hashing.TheVariants.{Mix}
 use Rattle.step_counts.specs.declared.settings.Settings.{Settings}
 use Rattle.step_counts.specs.StepCounts.{automatic_rows_of, step_bound}
 use Rattle.plain_map.specs.declared.keys.Key.{Key}
 use Rattle.plain_map.specs.declared.keys.Pair.{Pair}
 use Rattle.plain_map.specs.declared.calls.Call.{Call}
-use Rattle.core_model.specs.Setup.{Setup, settings_of}
+use Rattle.core_leaves.specs.Leaves.{rows_by}
 use Rattle.shared_table.specs.Readers.{StaysReader}
 use Rattle.shared_table.specs.Values.{IsNew, IsSame}
 use Rattle.flowdir_c.specs.declared.answer.Answer.{Answer}
@@ -18,6 +17,7 @@ use Rattle.flowdir_c.specs.declared.peeker.Peeker.{Peeker}
 use Rattle.flowdir_c.specs.declared.options.Options.{Options}
 use Rattle.flowdir_c.specs.declared.options.Rows.{Rows}
 use Rattle.flowdir_c.specs.Asked.{AreOptions, rows_of}
+use Rattle.flowdir_c.specs.Fit.{AreFit, AreFitPairs, LackRoom, rules_in}
 use Rattle.flowdir_c.specs.Told.{HasTold, pair_of, status_of, written}
 use Rattle.flowdir_c.specs.Glimpsed.{HasGlimpsed}
 use Rattle.flowdir_c.specs.Opened.{IsOpened}
@@ -37,23 +37,33 @@ abbrev pub AreRowsFor : Options → (updates : ℕ) → Rows → Type 0
 AreRowsFor options updates rows =
     (settings : Settings) × AreOptions options (Some settings) × (rows_of rows ≡ automatic_rows_of settings updates)
 
--- a table runs that was opened so, with these pairs in some order
+-- the rows that suffice a seat for so many updates where no more than so many keys come
+abbrev pub AreRowsBy : Options → (updates keys : ℕ) → Rows → Type 0
+AreRowsBy options updates keys rows =
+    (settings : Settings) × AreOptions options (Some settings) × (rows_of rows ≡ rows_by settings updates keys)
+
+-- a table runs that was opened so, with these pairs in some order, and nobody has had any of its seats; options and
+-- pairs fit
 pub record Opens (options : Options) (first : List FlowPair) (holders : List ShelfValue) : Type 0 where
   pub shelf : ShelfValue
   pub is : holders ≡ shelf ∷ []
+  pub free : shelf.free ≡ options.seats
+  pub fit : AreFit options
+  pub fit_pairs : AreFitPairs (map pair_of first)
   pub settings : Settings
   pub asked : AreOptions options (Some settings)
   pub pairs : List Pair
   pub all : IsPermutation (map pair_of first) pairs
   pub runs : IsSomeAnd shelf.table (λ t. IsOpened settings options.seed (rows_of options.rows) pairs t.setup)
 
--- the handle leads to a table as before: the same one runs, or none, and as many seats were given back
+-- the handle leads to a table as before: the same one runs, or none, and no seat was taken or given back
 pub record StaysTable (was now : List ShelfValue) : Type 0 where
   pub before : ShelfValue
   pub after : ShelfValue
   pub was_is : was ≡ before ∷ []
   pub now_is : now ≡ after ∷ []
   pub same : after.table ≡ before.table
+  pub free : after.free ≡ before.free
   pub back : after.back ≡ before.back
 
 -- one seat more was given back
@@ -65,15 +75,21 @@ pub record TakesBack (was now : List ShelfValue) (seats : List Holder) : Type 0 
   pub now_is : now ≡ after ∷ []
   pub seat_is : seats ≡ holder ∷ []
   pub same : after.table ≡ before.table
+  pub free : after.free ≡ before.free
   pub back : after.back ≡ before.back ++ holder.seat ∷ []
 
--- a seat of the table, which has made no call
-pub record HasSeat (tables : List ShelfValue) (seats : List Holder) : Type 0 where
-  pub shelf : ShelfValue
+-- one of the seats that nobody had had was taken; it is the table's, and has made no call
+pub record TakesSeat (was now : List ShelfValue) (seats : List Holder) : Type 0 where
+  pub before : ShelfValue
+  pub after : ShelfValue
   pub holder : Holder
-  pub table_is : tables ≡ shelf ∷ []
+  pub was_is : was ≡ before ∷ []
+  pub now_is : now ≡ after ∷ []
   pub seat_is : seats ≡ holder ∷ []
-  pub of_table : Some (arc_value holder.directory) ≡ shelf.table
+  pub same : after.table ≡ before.table
+  pub one : after.free + 1 ≡ before.free
+  pub back : after.back ≡ before.back
+  pub of_table : Some (arc_value holder.directory) ≡ after.table
   pub new : IsNew (arc_value holder.directory) holder.seat
 
 -- a reader of the table
@@ -137,13 +153,50 @@ abbrev pub IsPairAt : List ShelfValue → (at : ℕ) → FlowPair → Type 0
 IsPairAt holders at pair =
     (shelf : ShelfValue) × (holders ≡ shelf ∷ []) × (slice_get shelf.pairs at ≡ Some (pair_of pair))
 
--- a table runs that was opened so, with the pairs that a closed one had listed
+-- a table runs that was opened so, with the pairs that a closed one had listed, and nobody has had any of its seats; the
+-- options fit
 pub record Reopens (options : Options) (closed opened : List ShelfValue) : Type 0 where
   pub shelf : ShelfValue
   pub next : ShelfValue
   pub closed_is : closed ≡ shelf ∷ []
   pub opened_is : opened ≡ next ∷ []
+  pub free : next.free ≡ options.seats
+  pub fit : AreFit options
   pub settings : Settings
   pub asked : AreOptions options (Some settings)
   pub runs : IsSomeAnd next.table (λ t.
       IsOpened settings options.seed (rows_of options.rows) shelf.pairs t.setup)
+
+-- ---- why a call fails
+
+-- a table cannot be opened so: the options are out of their ranges, or the pairs cannot be kept or have a key twice
+abbrev pub IsUnfit : Options → List FlowPair → Type 0
+IsUnfit options first = AreFit options → AreFitPairs (map pair_of first) → ⊥
+
+-- more of the pairs that were listed are of one class than it has room for
+abbrev pub LacksRoom : Options → List ShelfValue → Type 0
+LacksRoom options holders =
+    (shelf : ShelfValue) × (holders ≡ shelf ∷ []) × LackRoom (rules_in options) shelf.pairs
+
+-- no table runs
+abbrev pub RunsNone : List ShelfValue → Type 0
+RunsNone holders = (shelf : ShelfValue) × (holders ≡ shelf ∷ []) × (shelf.table ≡ None)
+
+-- no table runs, or each of its seats was taken before
+abbrev pub HasNoSeat : List ShelfValue → Type 0
+HasNoSeat holders =
+    (shelf : ShelfValue) × (holders ≡ shelf ∷ []) × ((shelf.table ≡ None) ⊎ (shelf.free ≡ 0))
+
+-- there is no place for one more seat that is given back
+abbrev pub HasNoPlace : List ShelfValue → Type 0
+HasNoPlace holders =
+    (shelf : ShelfValue) × (holders ≡ shelf ∷ []) × (shelf.places ≤ length shelf.back)
+
+-- no table was closed
+abbrev pub IsUnclosed : List ShelfValue → Type 0
+IsUnclosed holders = (shelf : ShelfValue) × (holders ≡ shelf ∷ []) × (shelf.left ≡ None)
+
+-- no pair is listed at this place
+abbrev pub HasNoPairAt : List ShelfValue → (at : ℕ) → Type 0
+HasNoPairAt holders at =
+    (shelf : ShelfValue) × (holders ≡ shelf ∷ []) × (slice_get shelf.pairs at ≡ None)

@@ -1,5 +1,5 @@
 -- How the fields of a shelf give its value.
-use Rattle.std.specs.Prelude.{◌≡◌, Option, Some, None, All, IfSome, vec_capacity}
+use Rattle.std.specs.Prelude.{◌≡◌, Option, Some, None, All, IfSome, length, vec_capacity}
 use Rattle.std.specs.Arc.{arc_value}
 use Rattle.std.specs.declared.sync.Arc.{Arc}
 use Rattle.bucket_states.specs.Parts.{HasDistinctKeys}
@@ -18,6 +18,8 @@ module _ {Z : Type 0} where
 abbrev pub shelf_value : shelf.Inside → ShelfValue
 shelf_value s = record {
   table = table_in s.directory;
+  free = length s.fresh.items;
+  free_places = vec_capacity s.fresh;
   back = s.back.items;
   places = vec_capacity s.back;
   left = s.left;

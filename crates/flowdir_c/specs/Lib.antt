@@ -1,5 +1,6 @@
 pub mod Handles
 pub mod Asked
+pub mod Fit
 pub mod Told
 pub mod Glimpsed
 pub mod Opened

@@ -24,10 +24,13 @@ pub record ArePairsOf (closed : ClosedValue) (pairs : List Pair) : Type 0 where
   pub held : IsPermutation (closed_pairs closed.shape closed.words) pairs
   pub sorted : IsSortedByKey (λ (pair : Pair). pair.key) key_cmp pairs
 
--- what contracts see of it: the table that runs, if one does; the seats that were given back, and for how many there is
--- a place; what it left, if it is closed; and the pairs that are listed
+-- what contracts see of it: the table that runs, if one does; how many seats nobody has had yet, and for how many there
+-- is a place; the seats that were given back, and for how many there is a place; what it left, if it is closed; and the
+-- pairs that are listed
 pub record ShelfValue : Type 0 where
   pub table : Option TableValue
+  pub free : ℕ
+  pub free_places : ℕ
   pub back : List SeatValue
   pub places : ℕ
   pub left : Option ClosedValue

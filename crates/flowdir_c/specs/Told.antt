@@ -10,8 +10,8 @@ use Rattle.plain_map.specs.declared.records.Record.{Record}
 use Rattle.plain_map.specs.Serving.{IsAskable}
 use Rattle.core_model.specs.Setup.{settings_of}
 use Rattle.core_model.specs.SeatStates.{is_update}
-use Rattle.shared_table.specs.SeatValues.{SeatValue, account_of}
-use Rattle.shared_table.specs.Values.{Answers, IsSame, refused_at}
+use Rattle.shared_table.specs.SeatValues.{SeatValue}
+use Rattle.shared_table.specs.Values.{Answers, refused_at}
 use Rattle.flowdir_c.specs.declared.answer.Answer.{Answer}
 use Rattle.flowdir_c.specs.declared.answer.FlowKey.{FlowKey}
 use Rattle.flowdir_c.specs.declared.answer.FlowPair.{FlowPair}

@@ -1,8 +1,8 @@
 //! The calls that end a table, and those on what it leaves.
 
-ghost use Rattle.std.specs.Prelude.{◌≡◌, ◌≢◌, ◌∷◌, []};
+ghost use Rattle.std.specs.Prelude.{◌≡◌, ◌≢◌, ◌⊎◌, ◌∷◌, []};
 ghost use Rattle.flowdir_c.specs.Shelves.{ShelfValue};
-ghost use Rattle.flowdir_c.specs.Exports.{IsClosed, IsCounted, IsPairAt, StaysListed, StaysTable};
+ghost use Rattle.flowdir_c.specs.Exports.{HasNoPairAt, IsClosed, IsCounted, IsPairAt, IsUnclosed, StaysListed, StaysTable};
 
 use crate::answer::FlowPair;
 use crate::loose::Loose;
@@ -16,7 +16,7 @@ use std::mem;
 pub extern "C" fn flowdir_close(alloc: Global, table: &mut TableHandle) -> u32
     requires { (v : ShelfValue) × (table.old.holders ≡ v ∷ []) }
     ensures closed { result ≡ 0 → IsClosed table.old.holders table.new.holders }
-    ensures open { result ≢ 0 → StaysTable table.old.holders table.new.holders }
+    ensures open { result ≢ 0 → (result ≡ 5) × StaysTable table.old.holders table.new.holders }
 {
     let mut shelf = mem::replace(table, TableHandle::blank())
         .into_loose(alloc)
@@ -33,6 +33,7 @@ pub extern "C" fn flowdir_count(alloc: Global, table: &mut TableHandle, out: &mu
     ensures table { StaysTable table.old.holders table.new.holders }
     ensures counted { result ≡ 0 → IsCounted table.new.holders out.new }
     ensures uncounted { result ≢ 0 → out.new ≡ out.old }
+    ensures cause { result ≢ 0 → (result ≡ 1) ⊎ ((result ≡ 2) × IsUnclosed table.old.holders) }
 {
     let mut shelf = mem::replace(table, TableHandle::blank())
         .into_loose(alloc)
@@ -62,6 +63,7 @@ pub extern "C" fn flowdir_pair_at(
     ensures table { StaysListed table.old.holders table.new.holders }
     ensures pair { result ≡ 0 → IsPairAt table.new.holders at out.new }
     ensures none { result ≢ 0 → out.new ≡ out.old }
+    ensures cause { result ≢ 0 → (result ≡ 2) × HasNoPairAt table.old.holders at }
 {
     let shelf = mem::replace(table, TableHandle::blank())
         .into_loose(alloc)

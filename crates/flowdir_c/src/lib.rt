@@ -6,6 +6,7 @@
 
 mod answer;
 mod closed_calls;
+mod fewer;
 mod holder;
 mod loose;
 mod opening;

@@ -1,14 +1,16 @@
 //! What a table is opened with.
 
-ghost use Rattle.std.specs.Prelude.{◌≡◌, ◌^◌, ◌<◌, All, IfOk, IfSome, IsPermutation, IsTrue, length, map, replicate};
+ghost use Rattle.std.specs.Prelude.{◌≡◌, ◌≢◌, ◌^◌, ◌<◌, All, Err, IfOk, IfSome, IsPermutation, IsTrue, None, false, length, map, replicate};
 ghost use Rattle.std.specs.List.Sorted.{IsSortedByKey};
 ghost use Rattle.plain_map.specs.Keys.{key_cmp};
-ghost use Rattle.plain_map.specs.Updates.{value_limit};
+ghost use Rattle.plain_map.specs.Updates.{IsSmallPair};
 ghost use Rattle.bucket_states.specs.Parts.{HasDistinctKeys};
 ghost use Rattle.core_model.specs.Setup.{IsPair};
 ghost use Rattle.word_rows.specs.Shape.{AreBelow};
 ghost use Rattle.shared_table.specs.Values.{IsNew, new_seats};
 ghost use Rattle.flowdir_c.specs.Told.{pair_of};
+ghost use Rattle.flowdir_c.specs.Fit.{AreFitPairs};
+ghost use Rattle.flowdir_c.specs.declared.opening.NotOpened.TheVariants.{Bad, NoRoom};
 
 use crate::answer::FlowPair;
 use plain_map::{Pair, VALUE_LIMIT};
@@ -28,6 +30,7 @@ pub(crate) enum NotOpened {
 pub(crate) fn rows_in_range(rows: SeatRows) -> Option<SeatRows>
     ensures small { IfSome result (AreBelow (2 ^ 32)) }
     ensures same { IfSome result (λ r. r ≡ rows) }
+    ensures none { result ≡ None → AreBelow (2 ^ 32) rows → ⊥ }
 {
     let most = 1 << 32;
     if rows.op_rows < most
@@ -55,10 +58,11 @@ pub(crate) fn rows_of(
     vec![in alloc; rows; seats as usize]
 }
 
-/// The seats of a new table have made no call.
+/// The seats of a new table have made no call, and are as many as were asked for.
 pub(crate) fn are_new(seats: &[Seat], directory: &Directory, count: u32)
     requires { seats.now ≡ new_seats directory.now 0 count }
-    ensures { All (IsNew directory.now) seats.now }
+    ensures new { All (IsNew directory.now) seats.now }
+    ensures many { length seats.now ≡ count }
 {}
 
 // The pairs as the table has them.
@@ -83,7 +87,8 @@ fn in_order(mut pairs: Vec<Pair>) -> Vec<Pair>
 
 // Whether all values and bytes can be kept.
 fn can_be_kept(pairs: &[Pair]) -> bool
-    ensures { IsTrue result → All IsPair pairs.now }
+    ensures kept { IsTrue result → All IsPair pairs.now }
+    ensures lost { result ≡ false → All IsSmallPair pairs.now → ⊥ }
 {
     for pair in pairs {
         pair.key.has_words();
@@ -97,7 +102,8 @@ fn can_be_kept(pairs: &[Pair]) -> bool
 // Whether no two neighbours have one key.
 fn are_apart(pairs: &[Pair]) -> bool
     requires { IsSortedByKey (λ pair. pair.key) key_cmp pairs.now }
-    ensures { IsTrue result → HasDistinctKeys pairs.now }
+    ensures apart { IsTrue result → HasDistinctKeys pairs.now }
+    ensures twice { result ≡ false → HasDistinctKeys pairs.now → ⊥ }
 {
     for i in 1..pairs.len() {
         if pairs[i - 1].key == pairs[i].key {
@@ -107,12 +113,14 @@ fn are_apart(pairs: &[Pair]) -> bool
     true
 }
 
-/// The pairs that a table begins with, in the order of their keys. `Bad` comes where a value or its bytes are too
-/// large, or a key stands twice.
+/// The pairs that a table begins with, in the order of their keys. `Bad` comes only if a value or its bytes are too
+/// large, or a key stands twice; `NoRoom` never.
 pub(crate) fn first_pairs(alloc: Global, first: &[FlowPair]) -> Result<Vec<Pair>, NotOpened>
     ensures all { IfOk result (λ pairs. IsPermutation (map pair_of first.now) pairs.items) }
     ensures pairs { IfOk result (λ pairs. All IsPair pairs.items) }
     ensures distinct { IfOk result (λ pairs. HasDistinctKeys pairs.items) }
+    ensures bad { result ≡ Err Bad → AreFitPairs (map pair_of first.now) → ⊥ }
+    ensures room { result ≢ Err NoRoom }
 {
     let Ok(pairs) = copied(alloc, first) else {
         return Err(NotOpened::Memory);

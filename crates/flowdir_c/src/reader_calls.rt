@@ -1,20 +1,20 @@
 //! The calls by a reader.
 
-ghost use Rattle.std.specs.Prelude.{◌≡◌, ◌≢◌, ◌∷◌, []};
+ghost use Rattle.std.specs.Prelude.{◌≡◌, ◌≢◌, ◌⊎◌, ◌∷◌, []};
 ghost use Rattle.flowdir_c.specs.declared.peeker.Peeker.{Peeker};
 ghost use Rattle.flowdir_c.specs.Shelves.{ShelfValue};
-ghost use Rattle.flowdir_c.specs.Exports.{HasReader, Peeked, StaysTable};
+ghost use Rattle.flowdir_c.specs.Exports.{HasReader, Peeked, RunsNone, StaysTable};
 ghost use Rattle.flowdir_c.specs.Told.{key_of};
 
 use crate::answer::{Answer, FlowKey};
 use crate::loose::Loose;
 use crate::readers::ReaderHandle;
-use crate::status::{MEMORY, OK};
+use crate::status::{BAD, MEMORY, OK};
 use crate::tables::TableHandle;
 use std::alloc::Global;
 use std::mem;
 
-/// A new reader of a table.
+/// A new reader of a table that runs.
 #[unsafe(no_mangle)]
 pub extern "C" fn flowdir_read(
     alloc: Global,
@@ -25,10 +25,15 @@ pub extern "C" fn flowdir_read(
     ensures table { StaysTable table.old.holders table.new.holders }
     ensures reader { result ≡ 0 → HasReader table.new.holders reader.new.holders }
     ensures unread { result ≢ 0 → reader.new.holders ≡ reader.old.holders }
+    ensures cause { result ≢ 0 → (result ≡ 1) ⊎ ((result ≡ 2) × RunsNone table.old.holders) }
 {
     let shelf = mem::replace(table, TableHandle::blank())
         .into_loose(alloc)
         .into_box();
+    if !shelf.runs() {
+        *table = TableHandle::of_loose(Loose::of(shelf));
+        return BAD;
+    }
     let made = shelf.reader();
     *table = TableHandle::of_loose(Loose::of(shelf));
     let Some(peeker) = made else {

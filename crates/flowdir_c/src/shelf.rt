@@ -1,6 +1,6 @@
 //! A table, with the seats that nobody has, or what it left.
 
-ghost use Rattle.std.specs.Prelude.{◌≡◌, ◌<◌, ◌++◌, ◌∷◌, [], All, IfOk, IfSome, IsSomeAnd, IsTrue, None, Some, false, length, slice_get, vec_capacity, vec_len};
+ghost use Rattle.std.specs.Prelude.{◌≡◌, ◌+◌, ◌^◌, ◌<◌, ◌≤◌, ◌⊎◌, ◌++◌, ◌∷◌, [], All, Err, IfErr, IfOk, IfSome, IsSomeAnd, IsTrue, None, Ok, Some, false, length, slice_get, vec_capacity, vec_len};
 ghost use Rattle.std.specs.Option.{option_map};
 ghost use Rattle.flowdir_c.specs.Told.{pair_of};
 ghost use Rattle.std.specs.Arc.{arc_value};
@@ -9,6 +9,10 @@ ghost use Rattle.core_model.specs.Setup.{IsPair};
 ghost use Rattle.shared_table.specs.Values.{IsNew, IsOf, TableValue};
 ghost use Rattle.flowdir_c.specs.Opened.{IsOpened};
 ghost use Rattle.flowdir_c.specs.Shelves.{ArePairsOf, WasLeftTo};
+ghost use Rattle.flowdir_c.specs.Fit.{LackRoom, rules_with};
+ghost use Rattle.flowdir_c.specs.declared.opening.NotOpened.TheVariants.{Bad, NoRoom};
+ghost use Rattle.flowdir_c.specs.declared.shelf.NotTaken.TheVariants.{Busy};
+ghost use Rattle.word_rows.specs.Shape.{AreBelow};
 
 use crate::answer::FlowPair;
 use crate::holder::Holder;
@@ -23,6 +27,13 @@ use std::marker::Model;
 use std::mem;
 use std::sync::Arc;
 use step_counts::{SeatRows, Settings};
+
+/// Why no seat was taken.
+#[derive(Clone, Copy)]
+pub(crate) enum NotTaken {
+    Memory,
+    Busy,
+}
 
 /// A directory, until it is closed; the seats that nobody has had yet, and those that were given back; what a closed
 /// directory left, and once they were listed its pairs.
@@ -60,6 +71,10 @@ pub(crate) fn shelf_of(
     requires distinct { HasDistinctKeys first.now }
     ensures opened { IfOk result (λ shelf. IsSomeAnd shelf.table (λ t.
         IsOpened settings.now seed rows first.now t.setup)) }
+    ensures seats { IfOk result (λ shelf. shelf.free ≡ settings.now.seats) }
+    ensures small { IfOk result (λ _. AreBelow (2 ^ 32) rows) }
+    ensures bad { result ≡ Err Bad → AreBelow (2 ^ 32) rows → ⊥ }
+    ensures no_room { result ≡ Err NoRoom → LackRoom (rules_with settings.now seed) first.now }
 {
     let Some(rows) = rows_in_range(rows) else {
         return Err(NotOpened::Bad);
@@ -115,32 +130,47 @@ fn holder_of(directory: Arc<Directory, Global>, seat: Seat) -> Holder
 }
 
 impl Shelf {
-    /// Takes a seat that nobody has had, if there is one.
-    pub(crate) fn take(&mut self) -> Option<Holder>
+    /// Takes a seat that nobody has had. `Busy` comes only if there is none, or no table runs.
+    pub(crate) fn take(&mut self) -> Result<Holder, NotTaken>
         ensures table { self.new.table ≡ self.old.table }
         ensures back { self.new.back ≡ self.old.back }
-        ensures taken { IfSome result (λ holder. Some (arc_value holder.directory) ≡ self.old.table) }
-        ensures new { IfSome result (λ holder. IsNew (arc_value holder.directory) holder.seat) }
+        ensures taken { IfOk result (λ holder. Some (arc_value holder.directory) ≡ self.old.table) }
+        ensures new { IfOk result (λ holder. IsNew (arc_value holder.directory) holder.seat) }
+        ensures one { IfOk result (λ _. self.new.free + 1 ≡ self.old.free) }
+        ensures place { IfOk result (λ _. self.new.free < self.new.free_places) }
+        ensures untaken { IfErr result (λ _. self.new.free ≡ self.old.free) }
+        ensures busy { result ≡ Err Busy → (self.old.table ≡ None) ⊎ (self.old.free ≡ 0) }
     {
         let Some(directory) = &self.directory else {
-            return None;
+            return Err(NotTaken::Busy);
         };
         let Ok(directory) = Arc::try_clone(directory) else {
-            return None;
+            return Err(NotTaken::Memory);
         };
-        let seat = self.fresh.pop()?;
-        Some(holder_of(directory, seat))
+        let Some(seat) = self.fresh.pop() else {
+            return Err(NotTaken::Busy);
+        };
+        Ok(holder_of(directory, seat))
     }
 
     /// Puts a seat that was not given out again to those that nobody has had.
     pub(crate) fn put_back(&mut self, holder: Holder)
         requires table { Some (arc_value holder.directory) ≡ self.old.table }
         requires new { IsNew (arc_value holder.directory) holder.seat }
+        requires place { self.old.free < self.old.free_places }
         ensures table { self.new.table ≡ self.old.table }
         ensures back { self.new.back ≡ self.old.back }
+        ensures one { self.new.free ≡ self.old.free + 1 }
     {
         let Holder { seat, .. } = holder;
         add(&mut self.fresh, seat);
+    }
+
+    /// Whether a table runs.
+    pub(crate) fn runs(&self) -> bool
+        ensures { result ≡ false → self.now.table ≡ None }
+    {
+        self.directory.is_some()
     }
 
     /// A new reader, if the table runs.
@@ -158,7 +188,8 @@ impl Shelf {
 
     /// Whether there is a place for one more seat that is given back.
     pub(crate) fn has_place(&self) -> bool
-        ensures { IsTrue result → length self.now.back < self.now.places }
+        ensures place { IsTrue result → length self.now.back < self.now.places }
+        ensures full { result ≡ false → self.now.places ≤ length self.now.back }
     {
         self.back.len() < self.back.capacity()
     }
@@ -168,6 +199,7 @@ impl Shelf {
         requires own { Some (arc_value holder.directory) ≡ self.old.table }
         requires place { length self.old.back < self.old.places }
         ensures table { self.new.table ≡ self.old.table }
+        ensures free { self.new.free ≡ self.old.free }
         ensures back { self.new.back ≡ self.old.back ++ holder.seat ∷ [] }
     {
         let Holder { seat, .. } = holder;
@@ -179,6 +211,7 @@ impl Shelf {
         ensures closed { IsTrue result → self.new.table ≡ None }
         ensures left { IsTrue result → IsSomeAnd self.new.left (WasLeftTo self.old.back) }
         ensures open { result ≡ false → (self.new.table ≡ self.old.table) × (self.new.back ≡ self.old.back) }
+        ensures free { self.new.free ≡ self.old.free }
     {
         if self.back.len() != self.count as usize {
             return false;
@@ -202,8 +235,10 @@ impl Shelf {
     /// Lists the pairs of a closed table, and tells whether it is closed. The only error is want of memory.
     pub(crate) fn list(&mut self, alloc: Global) -> Result<bool, AllocError>
         ensures table { self.new.table ≡ self.old.table }
+        ensures free { self.new.free ≡ self.old.free }
         ensures back { self.new.back ≡ self.old.back }
         ensures left { self.new.left ≡ self.old.left }
+        ensures open { result ≡ Ok false → self.old.left ≡ None }
         ensures listed { IfOk result (λ is_closed. IsTrue is_closed →
             IsSomeAnd self.new.left (λ left. ArePairsOf left self.new.pairs)) }
     {
@@ -243,6 +278,10 @@ impl Shelf {
     ) -> Result<Shelf, NotOpened>
         ensures opened { IfOk result (λ shelf. IsSomeAnd shelf.table (λ t.
             IsOpened settings.now seed rows self.now.pairs t.setup)) }
+        ensures seats { IfOk result (λ shelf. shelf.free ≡ settings.now.seats) }
+        ensures small { IfOk result (λ _. AreBelow (2 ^ 32) rows) }
+        ensures bad { result ≡ Err Bad → AreBelow (2 ^ 32) rows → ⊥ }
+        ensures no_room { result ≡ Err NoRoom → LackRoom (rules_with settings.now seed) self.now.pairs }
     {
         shelf_of(alloc, settings, seed, rows, &self.pairs)
     }

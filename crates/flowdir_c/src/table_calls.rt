@@ -1,31 +1,52 @@
 //! The calls on a table.
 
-ghost use Rattle.std.specs.Prelude.{◌≡◌, ◌≢◌, ◌∷◌, [], Some};
+ghost use Rattle.std.specs.Prelude.{◌≡◌, ◌≢◌, ◌≤◌, ◌⊎◌, ◌∷◌, [], None, Some, map};
 ghost use Rattle.std.specs.Arc.{arc_value};
 ghost use Rattle.flowdir_c.specs.declared.holder.Holder.{Holder};
 ghost use Rattle.flowdir_c.specs.Shelves.{ShelfValue};
-ghost use Rattle.flowdir_c.specs.Exports.{AreRowsFor, HasSeat, IsBoundOf, Opens, Reopens, StaysListed, StaysTable, TakesBack};
+ghost use Rattle.flowdir_c.specs.Asked.{AreOptions};
+ghost use Rattle.flowdir_c.specs.Fit.{AreFit, LackRoom, rules_in};
+ghost use Rattle.flowdir_c.specs.Told.{pair_of};
+ghost use Rattle.flowdir_c.specs.Exports.{AreRowsBy, AreRowsFor, HasNoPlace, HasNoSeat, IsBoundOf, IsUnfit, LacksRoom, Opens, Reopens, StaysListed, StaysTable, TakesBack, TakesSeat};
+ghost use Rattle.batch_rows.specs.declared.rows.TheConstants.{CALL_LIMIT};
+ghost use Rattle.flowdir_c.specs.declared.opening.NotOpened.TheVariants.{Bad, NoRoom};
+ghost use Rattle.flowdir_c.specs.declared.shelf.NotTaken.TheVariants.{Busy, Memory};
 
 use crate::answer::FlowPair;
+use crate::fewer::splits_by;
 use crate::loose::Loose;
 use crate::opening::{NotOpened, first_pairs};
 use crate::options::{Options, Rows};
 use crate::seats::SeatHandle;
-use crate::shelf::shelf_of;
+use crate::shelf::{NotTaken, shelf_of};
 use crate::status::{BAD, BUSY, MEMORY, NO_ROOM, OK};
 use crate::tables::TableHandle;
+use batch_rows::{CALL_LIMIT, batch_rows};
 use std::alloc::Global;
 use std::mem;
 use step_counts::{automatic_rows, bound};
 
 /// The status of an opening that failed.
 fn status_of(failed: NotOpened) -> u32
-    ensures { result ≢ 0 }
+    ensures failed { result ≢ 0 }
+    ensures known { result ≤ 3 }
+    ensures bad { result ≡ 2 → failed ≡ Bad }
+    ensures no_room { result ≡ 3 → failed ≡ NoRoom }
 {
     match failed {
         NotOpened::Memory => MEMORY,
         NotOpened::Bad => BAD,
         NotOpened::NoRoom => NO_ROOM,
+    }
+}
+
+/// The status of a seat that was not taken.
+fn sit_status(failed: NotTaken) -> u32
+    ensures { (failed ≡ Memory → result ≡ 1) × (failed ≡ Busy → result ≡ 5) }
+{
+    match failed {
+        NotTaken::Memory => MEMORY,
+        NotTaken::Busy => BUSY,
     }
 }
 
@@ -45,11 +66,31 @@ pub extern "C" fn flowdir_bound(options: &Options) -> u64
 pub extern "C" fn flowdir_rows_for(options: &Options, updates: u32, out: &mut Rows) -> u32
     ensures rows { result ≡ 0 → AreRowsFor options.now updates out.new }
     ensures bad { result ≢ 0 → out.new ≡ out.old }
+    ensures cause { result ≢ 0 → (result ≡ 2) × AreOptions options.now None }
 {
     let Some(settings) = options.settings() else {
         return BAD;
     };
     let rows = automatic_rows(&settings, updates);
+    *out = Rows::of_rows(&rows);
+    OK
+}
+
+/// The rows with which no update of a seat that makes so many is refused, where no more than so many keys come to the
+/// table, its first ones among them.
+#[unsafe(no_mangle)]
+pub extern "C" fn flowdir_rows_by(options: &Options, updates: u32, keys: u64, out: &mut Rows) -> u32
+    ensures rows { result ≡ 0 → AreRowsBy options.now updates keys out.new }
+    ensures bad { result ≢ 0 → out.new ≡ out.old }
+    ensures cause { result ≢ 0 → (result ≡ 2) × (AreOptions options.now None ⊎ (CALL_LIMIT ≤ updates)) }
+{
+    let Some(settings) = options.settings() else {
+        return BAD;
+    };
+    if updates as usize >= CALL_LIMIT {
+        return BAD;
+    }
+    let rows = batch_rows(&settings, updates, splits_by(&settings, keys));
     *out = Rows::of_rows(&rows);
     OK
 }
@@ -64,6 +105,9 @@ pub extern "C" fn flowdir_open(
 ) -> u32
     ensures opened { result ≡ 0 → Opens options.now first.now table.new.holders }
     ensures unopened { result ≢ 0 → table.new.holders ≡ table.old.holders }
+    ensures known { result ≤ 3 }
+    ensures bad { result ≡ 2 → IsUnfit options.now first.now }
+    ensures no_room { result ≡ 3 → LackRoom (rules_in options.now) (map pair_of first.now) }
 {
     let Some(settings) = options.settings() else {
         return BAD;
@@ -94,16 +138,20 @@ pub extern "C" fn flowdir_open(
 #[unsafe(no_mangle)]
 pub extern "C" fn flowdir_sit(alloc: Global, table: &mut TableHandle, seat: &mut SeatHandle) -> u32
     requires { (v : ShelfValue) × (table.old.holders ≡ v ∷ []) }
-    ensures table { StaysTable table.old.holders table.new.holders }
-    ensures seat { result ≡ 0 → HasSeat table.new.holders seat.new.holders }
+    ensures seat { result ≡ 0 → TakesSeat table.old.holders table.new.holders seat.new.holders }
+    ensures table { result ≢ 0 → StaysTable table.old.holders table.new.holders }
     ensures unseated { result ≢ 0 → seat.new.holders ≡ seat.old.holders }
+    ensures cause { result ≢ 0 → (result ≡ 1) ⊎ ((result ≡ 5) × HasNoSeat table.old.holders) }
 {
     let mut shelf = mem::replace(table, TableHandle::blank())
         .into_loose(alloc)
         .into_box();
-    let Some(holder) = shelf.take() else {
-        *table = TableHandle::of_loose(Loose::of(shelf));
-        return BUSY;
+    let holder = match shelf.take() {
+        Ok(holder) => holder,
+        Err(failed) => {
+            *table = TableHandle::of_loose(Loose::of(shelf));
+            return sit_status(failed);
+        }
     };
     match Box::new(alloc, holder) {
         Ok(holder) => {
@@ -128,6 +176,7 @@ pub extern "C" fn flowdir_rise(alloc: Global, table: &mut TableHandle, seat: &mu
     ensures blank { result ≡ 0 → seat.new.holders ≡ [] }
     ensures table { result ≢ 0 → StaysTable table.old.holders table.new.holders }
     ensures sitting { result ≢ 0 → seat.new.holders ≡ seat.old.holders }
+    ensures cause { result ≢ 0 → (result ≡ 2) × HasNoPlace table.old.holders }
 {
     let mut shelf = mem::replace(table, TableHandle::blank())
         .into_loose(alloc)
@@ -156,6 +205,9 @@ pub extern "C" fn flowdir_reopen(
     ensures closed { StaysListed closed.old.holders closed.new.holders }
     ensures opened { result ≡ 0 → Reopens options.now closed.new.holders table.new.holders }
     ensures unopened { result ≢ 0 → table.new.holders ≡ table.old.holders }
+    ensures known { result ≤ 3 }
+    ensures bad { result ≡ 2 → AreFit options.now → ⊥ }
+    ensures no_room { result ≡ 3 → LacksRoom options.now closed.old.holders }
 {
     let Some(settings) = options.settings() else {
         return BAD;

@@ -1,5 +1,4 @@
-use Rattle.std.proofs.Common.{◌≡◌, ◌+◌, [], ◌∷◌, ◌++◌, get_or, take, sym, arith}
-use Rattle.std.specs.Prelude.{All}
+use Rattle.std.proofs.Common.{◌+◌, [], ◌∷◌, ◌++◌, get_or, take, sym, arith}
 use Rattle.std.proofs.lemmas.List.{take_all, take_more}
 use Rattle.std.proofs.lemmas.List.Elements.{All-push, All-same}
 use Rattle.plain_map.specs.declared.keys.Pair.{Pair}
@@ -20,7 +19,7 @@ loop-pair-preserved c =
     (All-push IsPair (take i xs) (get_or xs i no_pair) c.loop-pair.invariant
     (record { key = c.has_words.ensures; small = (c.if-pair-ge-VALUE_LIMIT.false, c.if-pair-ge-VALUE_LIMIT-2.false) }))
 
-pub returns : goal.returns
-returns c = λ is. All-same IsPair c.args.pairs.now (take c.loop-pair.pair-index c.args.pairs.now)
+pub returns-clause-kept : goal.returns-clause-kept
+returns-clause-kept c = λ is. All-same IsPair c.args.pairs.now (take c.loop-pair.pair-index c.args.pairs.now)
     (sym (take_all c.loop-pair.pair-index c.args.pairs.now
     (omega (arith, c.loop-pair-test.false, c.loop-pair.auto.pair-index-end)))) c.loop-pair.invariant

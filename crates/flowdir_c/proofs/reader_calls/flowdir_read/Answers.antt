@@ -1,4 +1,4 @@
-use Rattle.std.proofs.Common.{[], ◌∷◌, sym, ap, ◌∙◌}
+use Rattle.std.proofs.Common.{[], ◌∷◌, ap, ◌∙◌}
 use Rattle.flowdir_c.specs.Shelves.{ShelfValue}
 use Rattle.flowdir_c.proofs.reader_calls.flowdir_read.Goals as goal
 
@@ -11,7 +11,7 @@ pub returns-clause-reader : goal.returns-clause-reader
 returns-clause-reader c = λ done. record {
   shelf = c.into_box-shelf.result.value;
   peeker = c.in-Some.peeker;
-  table_is = c.of_loose.ensures ∙ ap (λ v. v ∷ []) c.of.ensures;
-  reader_is = c.of_loose-2.ensures ∙ ap (λ v. v ∷ []) (c.of-2.ensures ∙ c.in-Ok.ensures.ok);
-  of_table = c.in-Some.ensures ∙ ap (λ (s : ShelfValue). s.table) c.deref.ensures;
+  table_is = c.of_loose-2.ensures ∙ ap (λ v. v ∷ []) c.of-2.ensures;
+  reader_is = c.of_loose-3.ensures ∙ ap (λ v. v ∷ []) (c.of-3.ensures ∙ c.in-Ok.ensures.ok);
+  of_table = c.in-Some.ensures ∙ ap (λ (s : ShelfValue). s.table) c.deref-2.ensures;
 }

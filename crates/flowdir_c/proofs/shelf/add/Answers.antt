@@ -1,5 +1,4 @@
 use Rattle.std.proofs.Common.{[], ◌∷◌, ◌++◌}
-use Rattle.std.specs.Prelude.{All}
 use Rattle.std.proofs.lemmas.List.Elements.{All-push, All-same}
 use Rattle.shared_table.specs.Values.{IsNew, IsOf}
 use Rattle.flowdir_c.proofs.shelf.add.Goals as goal

@@ -1,4 +1,4 @@
-use Rattle.std.proofs.Common.{◌≡◌, List, sym, ap, ◌∙◌, subst}
+use Rattle.std.proofs.Common.{◌≡◌, ◌^◌, List, Err, length, sym, ap, ◌∙◌, subst}
 use Rattle.std.specs.Prelude.{All, replicate}
 use Rattle.std.specs.List.{IsDistinct}
 use Rattle.std.specs.Arc.{arc_value}
@@ -6,9 +6,14 @@ use Rattle.std.proofs.lemmas.List.Elements.{All-nil}
 use Rattle.hash_bits.specs.declared.hashing.Hashing.TheVariants.{Mix}
 use Rattle.step_counts.specs.declared.rows.SeatRows.{SeatRows}
 use Rattle.bucket_states.specs.Parts.{HasDistinctKeys}
-use Rattle.core_model.specs.Setup.{IsPair, Setup, seats_of}
+use Rattle.core_model.specs.Setup.{IsPair, seats_of}
 use Rattle.shared_table.specs.Openings.{setup_of}
 use Rattle.shared_table.specs.Values.{IsNew, IsOf, TableValue}
+use Rattle.shared_table.specs.SeatValues.{SeatValue}
+use Rattle.plain_map.specs.declared.leaves.OpenFault.{OpenFault}
+use Rattle.word_rows.specs.Shape.{AreBelow}
+use Rattle.flowdir_c.specs.Fit.{rules_with}
+use Rattle.flowdir_c.proofs.FitLemmas.{lack_at}
 use Rattle.flowdir_c.proofs.shelf.shelf_of.Goals as goal
 
 -- all its seats are new, and nothing is listed
@@ -19,7 +24,7 @@ invariant_of-result c =
     let same : t ≡ c.in-Ok-open.directory = c.in-Ok-new.ensures.ok in
     record {
       new = subst (λ (u : TableValue). All (IsNew u) c.in-Ok-open.fresh.items) (sym same)
-          (subst (All (IsNew c.in-Ok-open.directory)) c.deref-in-Ok-open.ensures.value c.are_new.ensures);
+          (subst (All (IsNew c.in-Ok-open.directory)) c.deref-in-Ok-open.ensures.value c.are_new.ensures.new);
       of = subst (All (IsOf t)) (sym c.in-Ok-with_capacity.ensures.items) (All-nil (IsOf t));
       all = sym (ap (λ (u : TableValue). seats_of u.setup) same ∙ ap seats_of c.in-Ok-open.ensures.setup);
       ran = tt;
@@ -28,10 +33,24 @@ invariant_of-result c =
     }
 
 -- and it is what was asked for
-pub returns-in-Ok-open : goal.returns-in-Ok-open
-returns-in-Ok-open c = record {
-  opened = ap (λ (u : TableValue). u.setup) c.in-Ok-new.ensures.ok ∙ c.in-Ok-open.ensures.setup
-      ∙ ap (λ (rows : List SeatRows). setup_of c.args.settings.now (Mix c.args.seed) rows c.args.first.now)
-      (c.deref.ensures.value ∙ c.in-Ok.ensures.same
-      ∙ ap (replicate c.args.settings.now.seats) c.in-Some.ensures.same);
-}
+pub returns-in-Ok-open-clause-opened : goal.returns-in-Ok-open-clause-opened
+returns-in-Ok-open-clause-opened c =
+    ap (λ (u : TableValue). u.setup) c.in-Ok-new.ensures.ok ∙ c.in-Ok-open.ensures.setup
+    ∙ ap (λ (rows : List SeatRows). setup_of c.args.settings.now (Mix c.args.seed) rows c.args.first.now)
+    (c.deref.ensures.value ∙ c.in-Ok.ensures.same
+    ∙ ap (replicate c.args.settings.now.seats) c.in-Some.ensures.same)
+
+-- with as many seats
+pub returns-in-Ok-open-clause-seats : goal.returns-in-Ok-open-clause-seats
+returns-in-Ok-open-clause-seats c =
+    sym (ap (λ (seats : List SeatValue). length seats) c.deref-in-Ok-open.ensures.value) ∙ c.are_new.ensures.many
+
+-- and rows below 2^32
+pub returns-in-Ok-open-clause-small : goal.returns-in-Ok-open-clause-small
+returns-in-Ok-open-clause-small c = subst (AreBelow (2 ^ 32)) c.in-Some.ensures.same c.in-Some.ensures.small
+
+-- and one class lacks room where none is opened for want of it
+pub returns-clause-no_room : goal.returns-clause-no_room
+returns-clause-no_room c = λ is.
+    lack_at (rules_with c.args.settings.now c.args.seed) c.args.first.now c.in-Err-NoRoom.field-0-0
+    (c.in-Err-NoRoom.ensures.no_room c.in-Err-NoRoom.field-0-0 (ap (λ (fault : OpenFault). Err fault) c.in-Err-NoRoom.field-0-is))

@@ -1,9 +1,11 @@
-use Rattle.std.proofs.Common.{List, [], ◌∷◌, ap, ◌∙◌, subst}
+use Rattle.std.proofs.Common.{◌^◌, List, [], ◌∷◌, ap, ◌∙◌, subst}
 use Rattle.std.specs.Prelude.{IsSomeAnd}
 use Rattle.step_counts.specs.declared.rows.SeatRows.{SeatRows}
 use Rattle.plain_map.specs.declared.keys.Pair.{Pair}
+use Rattle.word_rows.specs.Shape.{AreBelow}
 use Rattle.shared_table.specs.Values.{TableValue}
 use Rattle.flowdir_c.specs.Opened.{IsOpened}
+use Rattle.flowdir_c.proofs.FitLemmas.{made_in_range}
 use Rattle.flowdir_c.proofs.table_calls.flowdir_reopen.Goals as goal
 
 -- the handle that was there is the one that is taken out
@@ -17,6 +19,11 @@ returns-in-Ok-new-clause-opened c = λ done. record {
   next = c.in-Ok.shelf;
   closed_is = c.of_loose.ensures ∙ ap (λ v. v ∷ []) c.of.ensures;
   opened_is = c.of_loose-in-Ok.ensures ∙ ap (λ v. v ∷ []) (c.of-in-Ok.ensures ∙ c.in-Ok-new.ensures.ok);
+  free = c.in-Ok.ensures.seats ∙ c.in-Some.ensures.seats_are;
+  fit = record {
+    numbers = made_in_range c.in-Some.settings _ _ _ _ c.in-Some.ensures;
+    rows = subst (AreBelow (2 ^ 32)) c.to_rows.ensures c.in-Ok.ensures.small;
+  };
   settings = c.in-Some.settings;
   asked = c.in-Some.ensures;
   runs = subst (λ (u : SeatRows × List Pair). IsSomeAnd c.in-Ok.shelf.table (λ (t : TableValue).

@@ -1,4 +1,4 @@
-use Rattle.std.proofs.Common.{[], ◌∷◌, sym, subst, ◌++◌, ap, ◌∙◌}
+use Rattle.std.proofs.Common.{[], ◌∷◌, sym, ◌++◌, ap, ◌∙◌}
 use Rattle.flowdir_c.specs.declared.holder.Holder.{Holder}
 use Rattle.flowdir_c.specs.Shelves.{ShelfValue}
 use Rattle.flowdir_c.proofs.table_calls.flowdir_rise.Goals as goal
@@ -22,6 +22,7 @@ returns-clause-risen c = λ done. record {
   seat_is = sym (ap (λ h. h.holders) c.replace-2.ensures.value) ∙ c.into_loose-2.ensures
       ∙ ap (λ v. v ∷ []) (sym c.into_box-holder.ensures);
   same = c.keep.ensures.table ∙ ap (λ (v : ShelfValue). v.table) c.deref_mut.ensures.value;
+  free = c.keep.ensures.free ∙ ap (λ (v : ShelfValue). v.free) c.deref_mut.ensures.value;
   back = c.keep.ensures.back
       ∙ ap (λ (v : ShelfValue). v.back ++ c.into_inner.result.seat ∷ []) c.deref_mut.ensures.value
       ∙ ap (λ (h : Holder). c.into_box-shelf.result.value.back ++ h.seat ∷ []) c.into_inner.ensures;
