@@ -131,9 +131,9 @@ uint32_t flowdir_rise(struct flowdir_table *table, struct flowdir_seat *seat);
  * table. */
 uint32_t flowdir_read(struct flowdir_table *table, struct flowdir_reader *reader);
 
-/* Asks for the key's value by loads alone: FOUND or ABSENT. At some moment after the reader's last peek, and no later
- * than the last load of this one, the table's one history gives this reply: so the replies of one reader never go back
- * in time. Each reader by one thread at a time, all seats and readers at once. */
+/* Asks for the key's value by loads alone: FOUND or ABSENT. At some moment from the first load of this call to its last
+ * one the table's one history gives this reply: so the replies of one reader never go back in time. Each reader by one
+ * thread at a time, all seats and readers at once. */
 uint32_t flowdir_peek(struct flowdir_reader *reader, const struct flowdir_key *key, struct flowdir_reply *reply);
 
 /* Gives a reader up; its handle leads to nothing then. Any number of threads at once, each with a handle of its own. */

@@ -1,5 +1,5 @@
 -- A reader on its way: each load leads it on as a lookup goes, and no step of it is a store or an exchange.
-use Rattle.std.proofs.Common.{◌≡◌, ℕ, ◌+◌, ◌*◌, ◌^◌, ◌<◌, ◌≤◌, Bool, ltb, List, [], ◌∷◌, ◌++◌, drop, length, refl, sym, ap, ◌∙◌, subst, arith, append_assoc}
+use Rattle.std.proofs.Common.{◌≡◌, ℕ, ◌+◌, ◌*◌, ◌^◌, ◌<◌, ◌≤◌, ltb, List, [], ◌∷◌, ◌++◌, drop, length, refl, sym, ap, ◌∙◌, subst, arith, append_assoc}
 use Rattle.std.proofs.lemmas.Bool.{cond_both}
 use Rattle.std.proofs.lemmas.List.{append-nil, length_push}
 use Rattle.std.specs.Prelude.{slice_index}
@@ -9,18 +9,14 @@ use Rattle.step_counts.specs.declared.TheConstants.{ITEM_WORDS}
 use Rattle.step_counts.specs.declared.rows.SeatRows.{SeatRows}
 use Rattle.plain_map.specs.declared.keys.Key.{Key}
 use Rattle.plain_map.specs.declared.calls.Call.{Call}
-use Rattle.plain_map.specs.declared.calls.Call.TheVariants.{Lookup}
 use Rattle.plain_map.specs.declared.calls.Reply.{Reply}
-use Rattle.plain_map.specs.Room.{no_rows}
 use Rattle.bucket_states.specs.Items.{reply_in}
-use Rattle.word_rows.specs.Shape.{AreBelow, Shape}
+use Rattle.word_rows.specs.Shape.{AreBelow}
 use Rattle.word_rows.specs.BucketWords.{items_of_words}
-use Rattle.word_rows.specs.declared.addresses.Address.{Address}
 use Rattle.word_rows.specs.Places.{IsAddress, place, word_count}
 use Rattle.word_rows.specs.PlaceLaws.{PlacesAreWithin}
 use Rattle.core_model.specs.declared.events.Event.{Event}
 use Rattle.core_model.specs.declared.events.Ask.{Ask}
-use Rattle.core_model.specs.declared.events.Ask.TheVariants as A
 use Rattle.core_model.specs.declared.events.Action.{Action}
 use Rattle.core_model.specs.declared.events.Action.TheVariants as Act
 use Rattle.core_model.specs.declared.rounds.Aim.TheVariants.{ForLookup, ForFirstRound, ForSecondRound, ForLastLook}
@@ -28,21 +24,22 @@ use Rattle.core_model.specs.Setup.{Setup, rules_of, seats_of, settings_of}
 use Rattle.core_model.specs.Asks.{action_of, ask_in}
 use Rattle.core_model.specs.Phases.{Phase, FindRoot, FindDepth, FindEntry, LookWord, LookCount, LookItems, StoreDone}
 use Rattle.core_model.specs.SeatStates.{Flight}
-use Rattle.core_model.specs.Goes.{after_items, phase_after, used_after}
+use Rattle.core_model.specs.Goes.{phase_after, used_after}
 use Rattle.core_model.specs.Worlds.{IsRun, found_by, world_after}
 use Rattle.core_model.specs.Promises.{words_in}
 use Rattle.core_model.specs.Steps.{IsOnWord}
-use Rattle.core_model.specs.Fits.{Counts, Finds, Makes, StepFits, most_steps}
+use Rattle.core_model.specs.Fits.{Counts, Finds, Makes, most_steps}
 use Rattle.core_peeks.specs.Peeks.{WasHeld}
 use Rattle.core_peeks.specs.Glances.{IsLooking, Sees}
 use Rattle.core_peeks.proofs.Glances.{finds, on_word, sees_next, sees_on}
 use Rattle.seat_machine.specs.Going.{Going, Fits, IsGoing, action, asks, goes, goes_by, later}
 use Rattle.shared_table.specs.declared.rule.Plan.{Plan}
 use Rattle.shared_table.specs.Fronts.{Front}
-use Rattle.shared_table.specs.Rule.{Holds, M, plain}
+use Rattle.shared_table.specs.Seen.{WasSeen}
+use Rattle.shared_table.specs.Rule.{Holds, plain}
 use Rattle.shared_table.specs.Readings.{Looked, after_load, lone}
 use Rattle.shared_table.specs.Calls.{Token}
-use Rattle.shared_table.specs.Glancing.{Glances, GlancingValue, HasGlanced, IsGlancing, IsPaced, Start, front_of, glance_at, glancing_value, heard_in, start_of}
+use Rattle.shared_table.specs.Glancing.{Glances, GlancingValue, HasGlanced, IsGlancing, IsPaced, Start, began_at, front_of, glance_at, glancing_value, start_of}
 use Rattle.shared_table.proofs.Loads.{looks_at}
 use Rattle.shared_table.proofs.StepLemmas.{Loads, loads_from}
 
@@ -254,6 +251,41 @@ no_exchange setup first last key seat used flight (LookItems row count words) at
 no_exchange setup first last key seat used flight (StoreDone reply place) at old new k e = cc
 no_exchange setup first last key seat used flight phase at old new k e = k
 
+-- with the first load it begins there, and goes on from where it had begun with each further one
+module _ (setup : Setup) (key : Key) (known now : List Event) where
+  begun : (times : List (List Event)) (more : List ℕ) → length times ≡ length more →
+      Glances setup (began_at known times) now key (goes_by (start_of setup key) more) →
+      Glances setup (began_at known (times ++ now ∷ [])) now key (goes_by (start_of setup key) more)
+  begun [] [] e g = glances_first setup now key
+  begun [] (word ∷ more) e g = absurd (omega (arith, e))
+  begun (time ∷ times) more e g = g
+
+  -- which is after all that was known
+  begun_after : (times : List (List Event)) (more : List ℕ) → length times ≡ length more →
+      Glances setup (began_at known times) now key (goes_by (start_of setup key) more) → (later : List Event) →
+      began_at known times ≡ known ++ later →
+      (after : List Event) × (began_at known (times ++ now ∷ []) ≡ known ++ after)
+  begun_after [] [] e g later is = (g.sees.1.before, g.sees.1.from_first)
+  begun_after [] (word ∷ more) e g later is = absurd (omega (arith, e))
+  begun_after (time ∷ times) more e g later is = (later, is)
+
+-- one that has a reply has made a load
+seen_since : (setup opened : Setup) (key : Key) (was now : Front) (reply : Reply) (row : ℕ) (times : List (List Event))
+    (more : List ℕ) → length times ≡ length more → (goes_by (start_of setup key) more).phase ≡ StoreDone reply row →
+    now.times ≡ was.times ++ times → (later : List Event) → began_at was.known times ≡ was.known ++ later →
+    WasHeld opened (began_at was.known times) now.known key reply → WasSeen opened was now key reply
+seen_since setup opened key was now reply row [] [] e phase is later after held =
+    (let none : FindRoot ForLookup ≡ StoreDone reply row = phase in cc)
+seen_since setup opened key was now reply row [] (word ∷ more) e phase is later after held = absurd (omega (arith, e))
+seen_since setup opened key was now reply row (time ∷ times) more e phase is later after held = record {
+  first = time;
+  rest = times;
+  times = is;
+  later = later;
+  after = after;
+  held = held;
+}
+
 module _ (key : Key) (since : List Start) (plan : Plan) (table_id : TableId) (token : Token)
     (inv : IsGlancing key since plan table_id token) (value : GlancingValue)
     (view_is : glancing_value plan token ≡ value) where
@@ -265,6 +297,10 @@ module _ (key : Key) (since : List Start) (plan : Plan) (table_id : TableId) (to
   -- its front
   abbrev front : Front
   front = front_of plan token.me
+
+  -- what it reads is of no earlier moment
+  abbrev base : List Event
+  base = began_at inv.first.front.known inv.moments
 
   -- where it stands
   abbrev g : Going
@@ -280,21 +316,21 @@ module _ (key : Key) (since : List Start) (plan : Plan) (table_id : TableId) (to
   -- what stands there is a step on a word of the table, and its counts can go on
   pub stands_there : IsOnWord (glance_at key since value).setup.shape (asks (glance_at key since value))
   stands_there = subst (λ (x : Going). IsOnWord x.setup.shape (asks x)) (sym at_is)
-      (on_word_here (plain plan) inv.first.front.known front.known key g inv.at inv.run)
+      (on_word_here (plain plan) base front.known key g inv.at inv.run)
 
   pub stands_few : Counts (glance_at key since value).setup (glance_at key since value).account.used
       (glance_at key since value).flight
   stands_few = subst (λ (x : Going). Counts x.setup x.account.used x.flight) (sym at_is)
-      (counts_on (plain plan) inv.first.front.known front.known key g inv.at)
+      (counts_on (plain plan) base front.known key g inv.at)
 
   -- it asks for no store, and for no exchange
   pub stores_none : (at word : ℕ) → action (glance_at key since value) ≡ Act.Store at word →
       IsGoing (glance_at key since value).phase → ⊥
-  stores_none at word e going = no_store g.setup inv.first.front.known front.known key g.seat g.account.used g.flight g.phase
+  stores_none at word e going = no_store g.setup base front.known key g.seat g.account.used g.flight g.phase
       at word inv.at.sees (sym (ap action at_is) ∙ e) (subst (λ (x : Going). IsGoing x.phase) at_is going)
 
   pub exchanges_none : (at old new : ℕ) → action (glance_at key since value) ≡ Act.Exchange at old new → ⊥
-  exchanges_none at old new e = no_exchange g.setup inv.first.front.known front.known key g.seat g.account.used g.flight
+  exchanges_none at old new e = no_exchange g.setup base front.known key g.seat g.account.used g.flight
       g.phase at old new inv.at.sees (sym (ap action at_is) ∙ e)
 
   module _ (at : ℕ) (e : action (glance_at key since value) ≡ Act.Load at) where
@@ -307,7 +343,7 @@ module _ (key : Key) (since : List Start) (plan : Plan) (table_id : TableId) (to
     inside law =
         let there : IsAddress g.setup.shape l.from =
         subst (IsOnWord g.setup.shape) l.ask
-        (on_word_here (plain plan) inv.first.front.known front.known key g inv.at inv.run) in
+        (on_word_here (plain plan) base front.known key g inv.at inv.run) in
         let few = law g.setup.shape l.from there in
         omega (arith, few, l.is, ap (λ (c : Setup). word_count c.shape) inv.at.setup_is, inv.size)
 
@@ -339,8 +375,8 @@ module _ (key : Key) (since : List Start) (plan : Plan) (table_id : TableId) (to
       run_now = subst (λ (c : Setup). IsRun c now) inv.opened x.run
 
       -- what is known before the load, when it is made
-      known : Glances (plain plan) inv.first.front.known now key g
-      known = glances_on (plain plan) inv.first.front.known front.known x.later key g inv.at
+      known : Glances (plain plan) base now key g
+      known = glances_on (plain plan) base front.known x.later key g inv.at
 
       -- the word is the one that is asked for
       found : n ≡ found_by g.setup (asks g) (words_in g.setup now)
@@ -354,7 +390,17 @@ module _ (key : Key) (since : List Start) (plan : Plan) (table_id : TableId) (to
       -- so it fits
       pub load_fits_there : Fits (glance_at key since value) n
       load_fits_there = subst (λ (y : Going). Fits y n) (sym at_is)
-          (fits_here (plain plan) inv.first.front.known now key g known run_now looking n found)
+          (fits_here (plain plan) base now key g known run_now looking n found)
+
+      -- with this load it has begun
+      here : Glances (plain plan) (began_at inv.first.front.known (inv.moments ++ now ∷ [])) now key g
+      here = begun (plain plan) key inv.first.front.known now inv.moments inv.more inv.as_many known
+
+      -- after all that was known
+      after_now : (after : List Event)
+          × (began_at inv.first.front.known (inv.moments ++ now ∷ []) ≡ inv.first.front.known ++ after)
+      after_now = begun_after (plain plan) key inv.first.front.known now inv.moments inv.more inv.as_many known inv.later
+          inv.after
 
       -- the reader is still on its way
       pub load_keeps : then_token.table_id ≡ token.table_id → IsGlancing key since plan table_id then_token
@@ -371,10 +417,18 @@ module _ (key : Key) (since : List Start) (plan : Plan) (table_id : TableId) (to
         more = inv.more ++ n ∷ [];
         heard = ap (λ (f : Front). f.heard) front_is ∙ ap (λ ws. ws ++ n ∷ []) inv.heard
             ∙ append_assoc inv.first.front.heard inv.more (n ∷ []);
-        at = subst (λ (f : Front). Glances (plain plan) inv.first.front.known f.known key
-            (goes_by (start_of (plain plan) key) (inv.more ++ n ∷ []))) (sym front_is)
-            (subst (Glances (plain plan) inv.first.front.known now key) (sym (by_more (start_of (plain plan) key) inv.more n))
-            (glances_next (plain plan) inv.first.front.known now key g known run_now looking n found));
+        moments = inv.moments ++ now ∷ [];
+        times = ap (λ (f : Front). f.times) front_is ∙ ap (λ ts. ts ++ now ∷ []) inv.times
+            ∙ append_assoc inv.first.front.times inv.moments (now ∷ []);
+        as_many = omega (arith, length_push inv.moments now, length_push inv.more n, inv.as_many);
+        later = after_now.0;
+        after = after_now.1;
+        at = subst (λ (f : Front). Glances (plain plan) (began_at inv.first.front.known (inv.moments ++ now ∷ []))
+            f.known key (goes_by (start_of (plain plan) key) (inv.more ++ n ∷ []))) (sym front_is)
+            (subst (Glances (plain plan) (began_at inv.first.front.known (inv.moments ++ now ∷ [])) now key)
+            (sym (by_more (start_of (plain plan) key) inv.more n))
+            (glances_next (plain plan) (began_at inv.first.front.known (inv.moments ++ now ∷ [])) now key g here run_now
+            looking n found));
       }
 
       -- and stands where a lookup goes with that word
@@ -401,10 +455,11 @@ module _ (key : Key) (since : List Start) (plan : Plan) (table_id : TableId) (to
         held = λ reply row e.
             let phase : g.phase ≡ StoreDone reply row =
             sym (ap (λ (y : Going). y.phase) at_is) ∙ ap (λ (v : GlancingValue). (glance_at key since v).phase) (sym view_is) ∙ e in
-            let sees : WasHeld g.setup inv.first.front.known front.known key reply =
-            subst (Sees g.setup inv.first.front.known front.known key) phase inv.at.sees in
-            subst (λ (c : Setup). WasHeld c inv.first.front.known front.known key reply)
-            (inv.at.setup_is ∙ inv.of_setup) sees;
+            let sees : WasHeld g.setup base front.known key reply =
+            subst (Sees g.setup base front.known key) phase inv.at.sees in
+            seen_since (plain plan) inv.first.opened key inv.first.front front reply row inv.moments inv.more inv.as_many
+            phase inv.times inv.later inv.after
+            (subst (λ (c : Setup). WasHeld c base front.known key reply) (inv.at.setup_is ∙ inv.of_setup) sees);
       })
 
 -- what a reader of this token begins with
@@ -429,6 +484,11 @@ begins_glancing key since plan table_id token table size one opened run is = rec
   of_setup = refl;
   more = [];
   heard = sym (append-nil (front_of plan token.me).heard);
+  moments = [];
+  times = sym (append-nil (front_of plan token.me).times);
+  as_many = refl;
+  later = [];
+  after = sym (append-nil (front_of plan token.me).known);
   at = glances_first (plain plan) (front_of plan token.me).known key;
 }
 

@@ -1,5 +1,5 @@
 -- A load of a reader keeps the rule, and a new reader does.
-use Rattle.std.proofs.Common.{◌≡◌, ℕ, zero, suc, ◌<◌, eqb, List, [], ◌∷◌, ◌++◌, length, get_or, set, refl, sym, ap, ◌∙◌, subst, arith}
+use Rattle.std.proofs.Common.{◌≡◌, ℕ, zero, suc, ◌<◌, eqb, List, [], ◌∷◌, ◌++◌, get_or, set, refl, sym, ap, ◌∙◌, subst, arith}
 use Rattle.std.specs.Prelude.{All, sum_by, count_by}
 use Rattle.std.proofs.lemmas.List.{append-nil, map-append, map-set, set-get_or}
 use Rattle.std.proofs.lemmas.List.Elements.{All-nil, All-cons, All-head, All-push, All-set}
@@ -9,7 +9,7 @@ use lib.ListN.{get_elem?}
 use Rattle.atomic_table.specs.Table.{State, keeps, stepped, Allows, Enters}
 use Rattle.core_model.specs.declared.events.Event.{Event}
 use Rattle.core_model.specs.Setup.{Setup, seats_of}
-use Rattle.core_model.specs.Worlds.{IsRun, World, world_after}
+use Rattle.core_model.specs.Worlds.{IsRun, world_after}
 use Rattle.core_model.specs.Shown.{Holding, Bundle, IsOfRun}
 use Rattle.shared_table.specs.declared.view.View.{View}
 use Rattle.shared_table.specs.Fronts.{Front, IsFrontOf}
@@ -125,7 +125,7 @@ opened_as c (suc n) = refl
 pub enters_at : (c : Setup) (slots p : ℕ) → Enters (Holds c) slots p (λ n w. Entered (whole c, []) (w, []))
 enters_at c slots p s r homes few =
     let events : List Event = r.shows.events in
-    let front : Front = record { setup = c; known = events; heard = [] } in
+    let front : Front = record { setup = c; known = events; heard = []; times = [] } in
     let v : View = (lone front).0 in
     let is : bundles (s.views ++ v ∷ []) ≡ bundles s.views ++ [] ∷ [] = map-append (λ (u : View). u.bundle) s.views (v ∷ []) in
     let times : ℕ → Bundle → ℕ = λ seat b. count_by (λ (x : Holding). eqb x.seat seat) b in (

@@ -13,10 +13,10 @@ use Rattle.core_model.specs.Setup.{Setup, settings_of}
 use Rattle.core_model.specs.Phases.{Phase, FindRoot, FindDepth, FindEntry, LookWord, LookCount, LookItems, StoreDone}
 use Rattle.core_model.specs.Worlds.{IsRun}
 use Rattle.core_peeks.specs.Glances.{Sees}
-use Rattle.core_peeks.specs.Peeks.{WasHeld}
 use Rattle.seat_machine.specs.Going.{Going, goes_by}
 use Rattle.shared_table.specs.declared.rule.Plan.{Plan}
 use Rattle.shared_table.specs.Fronts.{Front}
+use Rattle.shared_table.specs.Seen.{WasSeen}
 use Rattle.shared_table.specs.Readings.{lone}
 use Rattle.shared_table.specs.Rule.{M, plain}
 use Rattle.shared_table.specs.Calls.{Token}
@@ -33,7 +33,7 @@ first_front d (f ∷ fs) = f
 
 -- the front of a token of one reader
 abbrev pub front_of : Plan → M → Front
-front_of key me = first_front (record { setup = plain key; known = []; heard = [] }) me.0.fronts
+front_of key me = first_front (record { setup = plain key; known = []; heard = []; times = [] }) me.0.fronts
 
 -- what contracts see of it, by its token
 abbrev pub glancing_value : Plan → Token → GlancingValue
@@ -59,6 +59,11 @@ start_of setup key = record {
   flight = record { packet = 0; call = Lookup key; number = 1; seen = []; steps = 0 };
   phase = FindRoot ForLookup;
 }
+
+-- what it reads is of no earlier moment: what had come by its first load, or where it has made none what was known
+abbrev pub began_at : (known : List Event) → (times : List (List Event)) → List Event
+began_at known [] = known
+began_at known (time ∷ times) = time
 
 -- where it stands
 abbrev pub glance_at : Key → List Start → GlancingValue → Going
@@ -98,13 +103,18 @@ pub record IsGlancing (key : Key) (since : List Start) (plan : Plan) (table_id :
   pub of_setup : plain plan ≡ first.opened
   pub more : List ℕ
   pub heard : (front_of plan token.me).heard ≡ first.front.heard ++ more
-  pub at : Glances (plain plan) first.front.known (front_of plan token.me).known key
+  pub moments : List (List Event)
+  pub times : (front_of plan token.me).times ≡ first.front.times ++ moments
+  pub as_many : length moments ≡ length more
+  pub later : List Event
+  pub after : began_at first.front.known moments ≡ first.front.known ++ later
+  pub at : Glances (plain plan) (began_at first.front.known moments) (front_of plan token.me).known key
       (goes_by (start_of (plain plan) key) more)
 
--- the reader is one of the same table, and where it has a reply the plain map had it at some moment since it began
+-- the reader is one of the same table, and where it has a reply the plain map had it at some moment since its first load
 pub record HasGlanced (key : Key) (start : Start) (v : GlancingValue) (g : Going) : Type 0 where
   pub table : v.table_id ≡ start.table_id
   pub opened : v.front.setup ≡ start.opened
   pub run : IsRun start.opened v.front.known
   pub held : (reply : Reply) (row : ℕ) → g.phase ≡ StoreDone reply row →
-      WasHeld start.opened start.front.known v.front.known key reply
+      WasSeen start.opened start.front v.front key reply

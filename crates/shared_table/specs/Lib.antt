@@ -1,5 +1,6 @@
 pub mod SeatValues
 pub mod Fronts
+pub mod Seen
 pub mod Rule
 pub mod Readings
 pub mod Seating

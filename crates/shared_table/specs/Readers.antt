@@ -35,6 +35,7 @@ front_of_desk desk = record {
   setup = record { shape = shape_of desk.layout; hashing = desk.rules.hashing; first = [] };
   known = [];
   heard = [];
+  times = [];
 }
 
 -- the front of a reader, by its badge

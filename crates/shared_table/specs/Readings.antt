@@ -2,7 +2,6 @@
 use Rattle.std.specs.Prelude.{◌≡◌, ℕ, List, [], ◌∷◌, ◌++◌, slice_index}
 use Rattle.atomic_table.specs.Table.{Step}
 use Rattle.core_model.specs.declared.events.Event.{Event}
-use Rattle.core_model.specs.Setup.{Setup}
 use Rattle.core_model.specs.Shown.{Holding}
 use Rattle.core_model.specs.Worlds.{IsRun, world_after}
 use Rattle.shared_table.specs.Fronts.{Front}
@@ -14,7 +13,12 @@ lone front = (record { bundle = []; fronts = front ∷ [] }, [])
 
 -- the reader after it found a word, when the run had so many events
 abbrev pub after_load : Front → (now : List Event) → (found : ℕ) → Front
-after_load front now found = record { setup = front.setup; known = now; heard = front.heard ++ found ∷ [] }
+after_load front now found = record {
+  setup = front.setup;
+  known = now;
+  heard = front.heard ++ found ∷ [];
+  times = front.times ++ now ∷ [];
+}
 
 -- the run had gone on so far, and the word was its word then
 pub record Looked (front : Front) (word found : ℕ) (then : M) : Type 0 where

@@ -5,11 +5,11 @@ ghost use Rattle.plain_map.specs.declared.keys.Key.{Key as KeyValue};
 ghost use Rattle.plain_map.specs.Keys.{no_key};
 ghost use Rattle.word_rows.specs.Places.{word_count};
 ghost use Rattle.core_model.specs.Worlds.{IsRun};
-ghost use Rattle.core_peeks.specs.Peeks.{WasHeld};
 ghost use Rattle.seat_machine.specs.Desks.{IsOf};
 ghost use Rattle.shared_table.specs.Glancing.{HasGlanced, Start, front_of, glance_at, start_of};
 ghost use Rattle.shared_table.specs.Readings.{lone};
 ghost use Rattle.shared_table.specs.Rule.{plain};
+ghost use Rattle.shared_table.specs.Seen.{WasSeen};
 
 use crate::rule::Looks;
 use crate::running::{Token, Words};
@@ -119,8 +119,8 @@ pub(crate) fn run_glance<B: Glance>(
     ensures one { result.0.me ≡ lone (front_of words.now.key result.0.me) }
     ensures opened { (front_of words.now.key result.0.me).setup ≡ plain words.now.key }
     ensures run { IsRun (plain words.now.key) (front_of words.now.key result.0.me).known }
-    ensures held { WasHeld (plain words.now.key) (front_of words.now.key token.me).known
-        (front_of words.now.key result.0.me).known key.now result.1 }
+    ensures held { WasSeen (plain words.now.key) (front_of words.now.key token.me)
+        (front_of words.now.key result.0.me) key.now result.1 }
 {
     let mut glancing: Glancing<B> = Glancing {
         words,

@@ -6,8 +6,8 @@
 //! **Why it ends**: it waits for nobody, and a row has no more items than a bucket has room for.
 
 ghost use Rattle.std.specs.Prelude.{◌≡◌};
-ghost use Rattle.core_peeks.specs.Peeks.{WasHeld};
 ghost use Rattle.shared_table.specs.Readers.{ReadsFrom, StaysReader};
+ghost use Rattle.shared_table.specs.Seen.{WasSeen};
 
 use crate::directory::Directory;
 use crate::glancing::run_glance;
@@ -59,12 +59,12 @@ impl Directory {
 impl Reader {
     /// Looks a key up with loads alone. It is never refused, and takes no memory.
     ///
-    /// At some moment between what the reader knew of the run before and what it knows then, the plain map of the run
-    /// gives this reply.
+    /// At some moment between this call's first load and its last one, the plain map of the run gives this reply. What
+    /// the reader knew of the run before comes before that first load.
     pub fn peek(&mut self, directory: &Directory, key: &Key) -> Reply
         requires reader { ReadsFrom directory.now self.old }
         ensures same { StaysReader self.old self.new }
-        ensures held { WasHeld self.old.front.setup self.old.front.known self.new.front.known key.now result }
+        ensures held { WasSeen self.old.front.setup self.old.front self.new.front key.now result }
     {
         let badge = mem::replace(&mut self.badge, Badge::blank());
         let (token, reply) = run_glance::<Brand>(

@@ -1,10 +1,10 @@
-use Rattle.std.proofs.Common.{◌≡◌, [], ◌∷◌, sym, ap, ◌∙◌, subst}
+use Rattle.std.proofs.Common.{sym, ap, ◌∙◌, subst}
 use Rattle.plain_map.specs.declared.keys.Key.{Key}
 use Rattle.core_model.specs.Worlds.{IsRun}
-use Rattle.core_peeks.specs.Peeks.{WasHeld}
 use Rattle.seat_machine.specs.Going.{Going}
 use Rattle.shared_table.specs.Rule.{M, plain}
-use Rattle.shared_table.specs.Glancing.{HasGlanced, Start, front_of, glance_at}
+use Rattle.shared_table.specs.Glancing.{Start, front_of}
+use Rattle.shared_table.specs.Seen.{WasSeen}
 use Rattle.shared_table.proofs.GlanceLemmas.{begins_glancing}
 use Rattle.shared_table.proofs.glancing.run_glance.Goals as goal
 
@@ -54,8 +54,8 @@ returns-clause-held g c =
     } in
     let row = c.glance-reply.ensures.0 in
     let phase = ap (λ (x : Going). x.phase) c.glance-reply.ensures.1.1 in
-    subst (λ (m : M). WasHeld (plain key) (front_of key c.args.token.me).known (front_of key m).known c.args.key.now
+    subst (λ (m : M). WasSeen (plain key) (front_of key c.args.token.me) (front_of key m) c.args.key.now
     c.glance-reply.result) (sym c.into_token.ensures.me)
-    (subst (λ (k : Key). WasHeld (plain key) (front_of key c.args.token.me).known
-    c.glance-reply.new.steps.front.known k c.glance-reply.result) c.requires.key
+    (subst (λ (k : Key). WasSeen (plain key) (front_of key c.args.token.me)
+    c.glance-reply.new.steps.front k c.glance-reply.result) c.requires.key
     ((c.into_token.ensures.glanced start c.requires.since).held c.glance-reply.result row phase))
