@@ -12,7 +12,7 @@ use Rattle.command_line.specs.Command.{flowdir_app}
 use Rattle.command_line.specs.CommandLines.{Given, Lists, asked, default_plan, faults, line, tests}
 use Rattle.command_line.specs.Words.{decimal, plan_of, reads}
 use Rattle.command_line.specs.declared.plan.Mode.{Mode}
-use Rattle.command_line.specs.declared.plan.Mode.TheVariants.{Serve, Play, Make, Trial, Totals}
+use Rattle.command_line.specs.declared.plan.Mode.TheVariants.{Serve, Play, Make, Trial, Totals, Check}
 use Rattle.command_line.specs.declared.plan.Plan.{Plan}
 
 -- ---- single lines
@@ -121,6 +121,14 @@ fault_of_lists Totals g (Some r) None None = refl
 fault_of_lists Totals g (Some r) None (Some t) = refl
 fault_of_lists Totals g (Some r) (Some s) None = refl
 fault_of_lists Totals g (Some r) (Some s) (Some t) = refl
+fault_of_lists Check g None None None = refl
+fault_of_lists Check g None None (Some t) = refl
+fault_of_lists Check g None (Some s) None = refl
+fault_of_lists Check g None (Some s) (Some t) = refl
+fault_of_lists Check g (Some r) None None = refl
+fault_of_lists Check g (Some r) None (Some t) = refl
+fault_of_lists Check g (Some r) (Some s) None = refl
+fault_of_lists Check g (Some r) (Some s) (Some t) = refl
 
 plan_of_lists : (mode : Mode) (g : Given) (rows schedule stop : Option Text)
     → plan_of (λ name. first_of name (matches_of flowdir_app (line mode g (lists_with rows schedule stop))))
@@ -166,6 +174,14 @@ plan_of_lists Totals g (Some r) None None = refl
 plan_of_lists Totals g (Some r) None (Some t) = refl
 plan_of_lists Totals g (Some r) (Some s) None = refl
 plan_of_lists Totals g (Some r) (Some s) (Some t) = refl
+plan_of_lists Check g None None None = refl
+plan_of_lists Check g None None (Some t) = refl
+plan_of_lists Check g None (Some s) None = refl
+plan_of_lists Check g None (Some s) (Some t) = refl
+plan_of_lists Check g (Some r) None None = refl
+plan_of_lists Check g (Some r) None (Some t) = refl
+plan_of_lists Check g (Some r) (Some s) None = refl
+plan_of_lists Check g (Some r) (Some s) (Some t) = refl
 
 pub any_line : (mode : Mode) (g : Given) (lists : Lists)
     → reads (line mode g lists) ≡ cond (list_all (λ b. b) (tests g)) (asked mode g lists) None

@@ -22,7 +22,7 @@ use Rattle.command_line.specs.Texts.{◌>>=◌, AreRowsInRange}
 use Rattle.command_line.specs.Words.{asked_rows, asked_schedule, asked_stops, decimal, hashing_of, reads, share_of}
 use Rattle.command_line.specs.Words.{start_below}
 use Rattle.command_line.specs.declared.plan.Mode.{Mode}
-use Rattle.command_line.specs.declared.plan.Mode.TheVariants.{Serve, Play, Make, Trial, Totals}
+use Rattle.command_line.specs.declared.plan.Mode.TheVariants.{Serve, Play, Make, Trial, Totals, Check}
 use Rattle.command_line.specs.declared.plan.Plan.{Plan}
 use Rattle.command_line.proofs.CommandLinesLemmas.{any_line}
 use Rattle.command_line.proofs.PlayTextLemmas.{schedule_back, stops_back}
@@ -169,6 +169,7 @@ asked_back p h Play = play_back p h
 asked_back p h Make = make_back p h
 asked_back p h Trial = trial_back p h
 asked_back p h Totals = totals_back p h
+asked_back p h Check = refl
 
 pub round_trip : (p : Plan) → IsAskable p → reads (line_of p) ≡ Some (as_used p p.mode)
 round_trip p h =

@@ -13,7 +13,7 @@ use Rattle.command_line.specs.Words.{share_in, start_in, stops_in, text_in}
 use Rattle.command_line.specs.declared.plays.Segment.{Segment}
 use Rattle.std.specs.Prelude.{replicate, ℕ}
 use Rattle.command_line.specs.declared.plan.Mode.{Mode}
-use Rattle.command_line.specs.declared.plan.Mode.TheVariants.{Serve, Play, Make, Trial, Totals}
+use Rattle.command_line.specs.declared.plan.Mode.TheVariants.{Serve, Play, Make, Trial, Totals, Check}
 use Rattle.command_line.specs.declared.plan.Plan.{Plan}
 use Rattle.std.proofs.Common.{codes, []}
 
@@ -56,6 +56,7 @@ mode_used given Play =
 mode_used given Make = refl
 mode_used given Trial = trial_used given
 mode_used given Totals = refl
+mode_used given Check = refl
 
 plan_used : (given : Values) → IfSome (plan_of given) IsAsUsed
 plan_used given = bound IsAsUsed (mode_of (text_in given (codes "mode") [])) _ (mode_used given)

@@ -17,7 +17,7 @@ use Rattle.command_line.specs.Texts.{◌>>=◌, comma}
 use Rattle.command_line.specs.Words.{IsInRange, asked_rows, asked_schedule, asked_stops, decimal, hashing_of}
 use Rattle.command_line.specs.Words.{share_of, start_below}
 use Rattle.command_line.specs.declared.plan.Mode.{Mode}
-use Rattle.command_line.specs.declared.plan.Mode.TheVariants.{Serve, Play, Make, Trial, Totals}
+use Rattle.command_line.specs.declared.plan.Mode.TheVariants.{Serve, Play, Make, Trial, Totals, Check}
 use Rattle.command_line.specs.declared.plan.Plan.{Plan}
 use Rattle.command_line.specs.declared.plays.Segment.{Segment}
 use Rattle.step_counts.specs.Ranges.{IsWithin}
@@ -64,6 +64,7 @@ mode_text Play = codes "play"
 mode_text Make = codes "make"
 mode_text Trial = codes "trial"
 mode_text Totals = codes "totals"
+mode_text Check = codes "check"
 
 abbrev pub line_with : Mode → Given → List Text → List Text
 line_with mode g more = mode_text mode ∷ (codes "--seats=" ++ g.seats) ∷ (codes "--items=" ++ g.items)
@@ -163,6 +164,7 @@ asked Totals g lists = Some (record default_plan {
   seats = decimal g.seats;
   stops = replicate (decimal g.seats) None;
 })
+asked Check g lists = Some (record default_plan { mode = Check })
 
 -- ---- the line that asks for a plan
 
@@ -291,3 +293,4 @@ as_used p Trial = record {
   packets = p.packets;
 }
 as_used p Totals = record default_plan { mode = Totals; seats = p.seats; stops = replicate p.seats None }
+as_used p Check = record default_plan { mode = Check }

@@ -49,7 +49,8 @@ mode_of text = if bytes_eq text (codes "serve") then Some mode.Serve
     else (if bytes_eq text (codes "play") then Some mode.Play
     else (if bytes_eq text (codes "make") then Some mode.Make
     else (if bytes_eq text (codes "trial") then Some mode.Trial
-    else (if bytes_eq text (codes "totals") then Some mode.Totals else None))))
+    else (if bytes_eq text (codes "totals") then Some mode.Totals
+    else (if bytes_eq text (codes "check") then Some mode.Check else None)))))
 
 -- ---- what a mode uses
 
@@ -60,6 +61,7 @@ has_seats mode.Play = true
 has_seats mode.Make = false
 has_seats mode.Trial = true
 has_seats mode.Totals = true
+has_seats mode.Check = false
 
 -- the mode has a table of flows: it uses `items`, `depth`, `start` and `seed`
 abbrev pub has_table : Mode → Bool
@@ -68,6 +70,7 @@ has_table mode.Play = true
 has_table mode.Make = false
 has_table mode.Trial = true
 has_table mode.Totals = false
+has_table mode.Check = false
 
 -- the mode makes a capture: it uses `number` and `packets`
 abbrev pub makes_capture : Mode → Bool
@@ -76,6 +79,7 @@ makes_capture mode.Play = false
 makes_capture mode.Make = true
 makes_capture mode.Trial = true
 makes_capture mode.Totals = false
+makes_capture mode.Check = false
 
 -- the number of an option that may be used, or its default
 abbrev pub number_if : Bool → Values → Number → ℕ
@@ -98,6 +102,7 @@ hashing_in mode.Play given = hashing_of (text_in given (codes "hash") (codes "mi
 hashing_in mode.Make given = Some (Mix seed.default)
 hashing_in mode.Trial given = Some (Mix (number_in given seed))
 hashing_in mode.Totals given = Some (Mix seed.default)
+hashing_in mode.Check given = Some (Mix seed.default)
 
 abbrev pub share_of : Text → Option Share
 share_of text = if bytes_eq text (codes "round") then Some Round
@@ -111,6 +116,7 @@ share_in mode.Play given = share_of (text_in given (codes "share") (codes "round
 share_in mode.Make given = Some Round
 share_in mode.Trial given = Some Flow
 share_in mode.Totals given = Some Round
+share_in mode.Check given = Some Round
 
 -- the rows of a text, automatic where there is no text
 abbrev pub asked_rows : Option Text → Option (Option SeatRows)
@@ -123,6 +129,7 @@ rows_for mode.Play given = asked_rows (given (codes "rows"))
 rows_for mode.Make given = Some None
 rows_for mode.Trial given = Some None
 rows_for mode.Totals given = Some None
+rows_for mode.Check given = Some None
 
 abbrev pub seats_in : Mode → Values → ℕ
 seats_in mode given = number_if (has_seats mode) given seats
@@ -138,6 +145,7 @@ schedule_for mode.Play n given = asked_schedule n (given (codes "schedule"))
 schedule_for mode.Make n given = Some []
 schedule_for mode.Trial n given = Some []
 schedule_for mode.Totals n given = Some []
+schedule_for mode.Check n given = Some []
 
 -- the stops of a text; no seat is stopped where there is no text
 abbrev pub asked_stops : (seats : ℕ) → Option Text → Option (List (Option ℕ))
@@ -150,6 +158,7 @@ stops_in mode.Play n given = asked_stops n (given (codes "stop"))
 stops_in mode.Make n given = Some (replicate n None)
 stops_in mode.Trial n given = Some (replicate n None)
 stops_in mode.Totals n given = Some (replicate n None)
+stops_in mode.Check n given = Some (replicate n None)
 
 -- the plan of a mode with these rows, this schedule and these stops
 abbrev pub plan_with : Mode → Option SeatRows → List Segment → List (Option ℕ) → Values → Option Plan

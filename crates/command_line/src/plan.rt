@@ -18,6 +18,8 @@ pub enum Mode {
     Trial,
     /// Counts the packets of a capture by class, by adders that share one table. It uses the number of seats alone.
     Totals,
+    /// Reads a report and says whether it is right, or what is wrong with it first. It uses no option.
+    Check,
 }
 
 /// The mode and its settings. A setting that the mode does not use has its default.

@@ -10,10 +10,12 @@ use Rattle.trace_runner.specs.declared.status.Status.TheVariants as status
 use Rattle.capture_loop.specs.Input.{packet_limit}
 use Rattle.trace_runner.specs.Headline.{Leaves, status_for, status_up_to}
 
-no_more : (most n : ℕ) → n ≤ most → nat_lt most n ≡ false
+-- a number within a limit is not above it
+pub no_more : (most n : ℕ) → n ≤ most → nat_lt most n ≡ false
 no_more most n few = grind (arith, nat_tests)
 
-some_more : (most n : ℕ) → most < n → nat_lt most n ≡ true
+-- and one above it is
+pub some_more : (most n : ℕ) → most < n → nat_lt most n ≡ true
 some_more most n many = grind (arith, nat_tests)
 
 -- the status of an input with few packets, and of one with many

@@ -25,4 +25,5 @@ pub mod UnrefusedPlays
 pub mod PlayTurns
 pub mod PlayLines
 pub mod PlayReports
+mod JudgedLemmas
 mod TotalsLemmas

@@ -90,7 +90,7 @@ code_of status.Limit = 6
 -- what the program says on standard error of a run that ended so, where it says anything
 abbrev pub complaint_of : Status → Option (List ℕ)
 complaint_of status.Memory = Some (codes "flowdir: out of memory")
-complaint_of status.Usage = Some (codes "flowdir: usage: flowdir serve|play|make|trial|totals [options]")
+complaint_of status.Usage = Some (codes "flowdir: usage: flowdir serve|play|make|trial|check|totals [options]")
 complaint_of status.ReadFault = Some (codes "flowdir: read fault")
 complaint_of status.WriteFault = Some (codes "flowdir: write fault")
 complaint_of status.Done = None

@@ -4,6 +4,7 @@ pub mod Reading
 pub mod Answered
 pub mod Served
 pub mod Headline
+pub mod Judged
 pub mod Playing
 pub mod Progress
 pub mod Serving

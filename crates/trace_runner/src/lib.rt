@@ -1,6 +1,7 @@
 //! The program behind its words: what is read, what is answered, what is printed.
 #![tactic(auto)]
 
+mod checking;
 mod intake;
 mod laws;
 mod looping;

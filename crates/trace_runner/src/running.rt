@@ -5,12 +5,14 @@ ghost use Rattle.edge_traits.specs.Edge.{Rose};
 ghost use Rattle.pcapng_reader.specs.Input.{Input};
 ghost use Rattle.pcapng_reader.specs.declared.fault.AnyFault.{AnyFault};
 ghost use Rattle.command_line.specs.declared.plan.Plan.{Plan as APlan};
-ghost use Rattle.command_line.specs.declared.plan.Mode.TheVariants.{Make, Play, Serve, Totals, Trial};
+ghost use Rattle.command_line.specs.declared.plan.Mode.TheVariants.{Check, Make, Play, Serve, Totals, Trial};
 ghost use Rattle.command_line.specs.Words.{IsInRange, reads};
 ghost use Rattle.trace_runner.specs.Headline.{LeavesAll, LeavesMade, LeavesTried, ReadsFailed, WritesFailed, status_for, status_up_to};
+ghost use Rattle.trace_runner.specs.Judged.{LeavesVerdict, status_of_text};
 ghost use Rattle.trace_runner.specs.Playing.{LeavesPlayed, play_limit};
 ghost use Rattle.trace_runner.specs.Totalled.{LeavesTotals};
 
+use crate::checking::check;
 use crate::making::make;
 use crate::playing::play;
 use crate::serving::serve;
@@ -29,7 +31,7 @@ use std::thread::Threads;
 /// a time. The calls of these are served by seats in threads of their own, and their lines are put into the sink before
 /// more is read of the source. `play` reads a capture of up to `PLAY_LIMIT` packets, whose calls are made step by step,
 /// by one schedule, and puts the report at once. `make` puts a made capture, and `trial` serves it and puts how many
-/// calls had each reply. `totals` goes through a capture as `serve` does, and counts its packets by adders in threads. The
+/// calls had each reply. `totals` goes through a capture as `serve` does, and counts its packets by adders in threads. `check` reads a report, and puts the line of its verdict. The
 /// gate is passed before each call that is served and each add, and told of each answer.
 pub fn run<R: Threads + Sync, S: Source, K: Sink, G: Gate + Sync>(
     rt: &R,
@@ -89,6 +91,18 @@ pub fn run<R: Threads + Sync, S: Source, K: Sink, G: Gate + Sync>(
         ¬ Rose (K.faults sink.old) (K.faults sink.new) →
         (result ≡ status_for packets ending) ⊎ (result ≡ Status.Memory) }
 
+    // `check`: what is put is the line of the verdict that the text deserves; so it is `check yes` exactly if the text
+    // is certified.
+    ensures checked { (plan : APlan) → reads (map string_bytes words.now) ≡ Some plan → plan.mode ≡ Check →
+        LeavesVerdict (S.left source.old) (S.left source.new) (K.put sink.old) (K.put sink.new) result }
+
+    // Where nothing fails, the text decides, and a limit of its length.
+    ensures exact_check { (plan : APlan) (text : List ℕ) → reads (map string_bytes words.now) ≡ Some plan →
+        plan.mode ≡ Check → S.left source.old ≡ Some text →
+        ¬ Rose (S.faults source.old) (S.faults source.new) →
+        ¬ Rose (K.faults sink.old) (K.faults sink.new) →
+        (result ≡ status_of_text text) ⊎ (result ≡ Status.Memory) }
+
     // The words ask for no plan, and then nothing is read or put, whatever the answer.
     ensures usage { result ≡ Status.Usage → reads (map string_bytes words.now) ≡ None }
     ensures refused { reads (map string_bytes words.now) ≡ None → (result ≡ Status.Usage) ⊎ (result ≡ Status.Memory) }
@@ -134,6 +148,8 @@ fn run_plan<R: Threads + Sync, S: Source, K: Sink, G: Gate + Sync>(
     ensures totals { plan.now.mode ≡ Totals →
         LeavesTotals plan.now (Rose (S.faults source.old) (S.faults source.new)) (S.left source.old)
         (S.left source.new) (K.put sink.old) (K.put sink.new) result }
+    ensures checked { plan.now.mode ≡ Check →
+        LeavesVerdict (S.left source.old) (S.left source.new) (K.put sink.old) (K.put sink.new) result }
     ensures no_usage { result ≡ Status.Usage → ⊥ }
     ensures read_fault { result ≡ Status.ReadFault → Rose (S.faults source.old) (S.faults source.new) }
     ensures write_fault { result ≡ Status.WriteFault → Rose (K.faults sink.old) (K.faults sink.new) }
@@ -146,6 +162,7 @@ fn run_plan<R: Threads + Sync, S: Source, K: Sink, G: Gate + Sync>(
         Mode::Play => play(alloc, plan, source, sink),
         Mode::Make => make(alloc, plan, sink),
         Mode::Trial => try_plan(rt, alloc, plan, sink, gate),
+        Mode::Check => check(alloc, source, sink),
         Mode::Totals => count(rt, alloc, plan, source, sink, gate),
     }
 }

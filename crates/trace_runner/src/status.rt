@@ -46,7 +46,9 @@ impl Status {
     {
         match self {
             Status::Memory => Some("flowdir: out of memory"),
-            Status::Usage => Some("flowdir: usage: flowdir serve|play|make|trial|totals [options]"),
+            Status::Usage => Some(
+                "flowdir: usage: flowdir serve|play|make|trial|check|totals [options]",
+            ),
             Status::ReadFault => Some("flowdir: read fault"),
             Status::WriteFault => Some("flowdir: write fault"),
             Status::Done | Status::BadCapture | Status::Limit => None,

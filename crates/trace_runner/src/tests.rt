@@ -73,7 +73,7 @@ fn statuses_as_codes_and_complaints(rt: HostRuntime) {
         (
             Status::Usage,
             2,
-            Some("flowdir: usage: flowdir serve|play|make|trial|totals [options]"),
+            Some("flowdir: usage: flowdir serve|play|make|trial|check|totals [options]"),
         ),
         (Status::ReadFault, 3, Some("flowdir: read fault")),
         (Status::WriteFault, 4, Some("flowdir: write fault")),

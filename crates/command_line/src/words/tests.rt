@@ -368,6 +368,32 @@ fn totals_uses_its_seats(rt: HostRuntime) -> Result<(), Fail> {
     Ok(())
 }
 
+/// `check` uses no option; what the options say is not looked at.
+#[test]
+fn check_uses_no_option(rt: HostRuntime) -> Result<(), Fail> {
+    let check = Wanted {
+        mode: Mode::Check,
+        ..DEFAULT
+    };
+    let cases = [
+        ("check", Some(check)),
+        ("checks", None),
+        ("check --seats 9", None),
+        (
+            "check --seats 1 --items 3 --depth 4 --start 5 --seed 6 --number 7 --packets 8",
+            Some(check),
+        ),
+        (
+            "check --hash no --share none --rows 1 --schedule x --stop x",
+            Some(check),
+        ),
+    ];
+    for (line, want) in cases {
+        assert_eq!(rt; plan_of_line(rt.alloc(), line)?, want, "{line}");
+    }
+    Ok(())
+}
+
 /// The segments and the stops that a line of `play` asks for; None for `Usage`.
 fn plays_of(
     alloc: Global,
@@ -551,7 +577,7 @@ fn faults_as_text(rt: HostRuntime) -> Result<(), Fail> {
     let usage = format!(in alloc; "{}", WordsFault::Usage)?;
     assert_eq!(rt;
         usage.as_str(),
-        "usage: flowdir serve|play|make|trial|totals [options]"
+        "usage: flowdir serve|play|make|trial|check|totals [options]"
     );
     let memory = format!(in alloc; "{}", WordsFault::Memory)?;
     assert_eq!(rt; memory.as_str(), "out of memory");

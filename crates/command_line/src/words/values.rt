@@ -65,6 +65,8 @@ fn mode_of(text: &str) -> Option<Mode>
         Some(Mode::Trial)
     } else if text == "totals" {
         Some(Mode::Totals)
+    } else if text == "check" {
+        Some(Mode::Check)
     } else {
         None
     }
@@ -76,7 +78,7 @@ fn has_seats(mode: Mode) -> bool
 {
     match mode {
         Mode::Serve | Mode::Play | Mode::Trial | Mode::Totals => true,
-        Mode::Make => false,
+        Mode::Make | Mode::Check => false,
     }
 }
 
@@ -86,7 +88,7 @@ fn has_table(mode: Mode) -> bool
 {
     match mode {
         Mode::Serve | Mode::Play | Mode::Trial => true,
-        Mode::Make | Mode::Totals => false,
+        Mode::Make | Mode::Totals | Mode::Check => false,
     }
 }
 
@@ -95,7 +97,7 @@ fn makes_capture(mode: Mode) -> bool
     ensures { result ≡ makes_capture mode }
 {
     match mode {
-        Mode::Serve | Mode::Play | Mode::Totals => false,
+        Mode::Serve | Mode::Play | Mode::Totals | Mode::Check => false,
         Mode::Make | Mode::Trial => true,
     }
 }
@@ -152,7 +154,7 @@ fn hashing_in(mode: Mode, matches: &ArgMatches<'_>) -> Option<Hashing>
             text(matches, "hash", "mix"),
             number(matches, &SEED),
         ),
-        Mode::Make | Mode::Totals => Some(Hashing::Mix(SEED.default)),
+        Mode::Make | Mode::Totals | Mode::Check => Some(Hashing::Mix(SEED.default)),
         Mode::Trial => Some(Hashing::Mix(number(matches, &SEED))),
     }
 }
@@ -176,7 +178,7 @@ fn share_in(mode: Mode, matches: &ArgMatches<'_>) -> Option<Share>
 {
     match mode {
         Mode::Serve | Mode::Play => share_of(text(matches, "share", "round")),
-        Mode::Make | Mode::Totals => Some(Share::Round),
+        Mode::Make | Mode::Totals | Mode::Check => Some(Share::Round),
         Mode::Trial => Some(Share::Flow),
     }
 }
@@ -206,7 +208,7 @@ fn rows_for(
 {
     match mode {
         Mode::Serve | Mode::Play => asked_rows(alloc, matches.get_str("rows")),
-        Mode::Make | Mode::Trial | Mode::Totals => Ok(Some(None)),
+        Mode::Make | Mode::Trial | Mode::Totals | Mode::Check => Ok(Some(None)),
     }
 }
 
@@ -248,7 +250,7 @@ fn schedule_for(
 {
     match mode {
         Mode::Play => asked_schedule(alloc, seats, matches.get_str("schedule")),
-        Mode::Serve | Mode::Make | Mode::Trial | Mode::Totals => {
+        Mode::Serve | Mode::Make | Mode::Trial | Mode::Totals | Mode::Check => {
             asked_schedule(alloc, seats, None)
         }
     }
@@ -293,7 +295,9 @@ fn stops_in(
 {
     match mode {
         Mode::Play => asked_stops(alloc, seats, matches.get_str("stop")),
-        Mode::Serve | Mode::Make | Mode::Trial | Mode::Totals => asked_stops(alloc, seats, None),
+        Mode::Serve | Mode::Make | Mode::Trial | Mode::Totals | Mode::Check => {
+            asked_stops(alloc, seats, None)
+        }
     }
 }
 

@@ -7,6 +7,7 @@ use Rattle.edge_traits.specs.Edge.{Rose}
 use Rattle.trace_runner.proofs.EndLemmas.{Keeps-same}
 use Rattle.trace_runner.proofs.HeadlineLemmas.{leaves_nothing}
 use Rattle.trace_runner.proofs.ExactLemmas.{Leaves-exact}
+use Rattle.trace_runner.proofs.JudgedLemmas.{check_exact, check_nothing}
 use Rattle.trace_runner.proofs.PlayLemmas.{LeavesPlay-exact, LeavesPlayed-nothing}
 use Rattle.trace_runner.proofs.TotalsLemmas.{totals_exact, totals_nothing}
 use Rattle.trace_runner.proofs.TrialWords.{no_rows}
@@ -94,3 +95,20 @@ returns-in-Err-Memory-clause-totals g c = λ plan asked counts.
     totals_nothing plan (Rose (g.S.Source.faults c.args.source.now) (g.S.Source.faults c.args.source.now))
     (g.S.Source.left c.args.source.now) (g.S.Source.left c.args.source.now) (g.K.Sink.put c.args.sink.now)
     (g.K.Sink.put c.args.sink.now) (Keeps-same (g.K.Sink.put c.args.sink.now))
+
+pub returns-in-Ok-clause-checked : goal.returns-in-Ok-clause-checked
+returns-in-Ok-clause-checked g c = λ plan asked checks.
+    let same : c.in-Ok.plan ≡ plan = same_plan (sym c.in-Ok.ensures.answers ∙ asked) in
+    c.run_plan.ensures.checked (ap (λ (p : Plan). p.mode) same ∙ checks)
+
+pub returns-in-Ok-clause-exact_check : goal.returns-in-Ok-clause-exact_check
+returns-in-Ok-clause-exact_check g c = λ plan text asked checks told no_read no_write.
+    let same : c.in-Ok.plan ≡ plan = same_plan (sym c.in-Ok.ensures.answers ∙ asked) in
+    let left = c.run_plan.ensures.checked (ap (λ (p : Plan). p.mode) same ∙ checks) in
+    check_exact text _ _ left.0 c.run_plan.result left.1 (λ is. no_read (c.run_plan.ensures.read_fault is))
+    (λ is. no_write (c.run_plan.ensures.write_fault is)) (left.2.told text told)
+
+pub returns-in-Err-Memory-clause-checked : goal.returns-in-Err-Memory-clause-checked
+returns-in-Err-Memory-clause-checked g c = λ plan asked checks.
+    check_nothing (g.S.Source.left c.args.source.now) (g.K.Sink.put c.args.sink.now) (g.K.Sink.put c.args.sink.now)
+    (Keeps-same (g.K.Sink.put c.args.sink.now))

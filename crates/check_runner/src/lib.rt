@@ -1,0 +1,11 @@
+//! A report is read whole and judged, and one line tells the verdict.
+#![tactic(auto)]
+
+mod checking;
+mod lines;
+mod reading;
+
+pub use checking::{Checked, Stop, check_input};
+
+#[cfg(test)]
+mod tests;

@@ -1,0 +1,8 @@
+//! The text of a key, read.
+#![tactic(auto)]
+
+mod ends;
+mod flows;
+mod groups;
+
+pub use flows::flow;

@@ -1,0 +1,10 @@
+pub mod ReadyLemmas
+pub mod PlaceLemmas
+pub mod LongLemmas
+pub mod FactLemmas
+pub mod EarlyLemmas
+pub mod LegalLemmas
+pub mod WholeLemmas
+pub mod KeptLemmas
+pub mod FaultLemmas
+pub mod VerdictLemmas

@@ -1,0 +1,12 @@
+use Rattle.std.proofs.Common.{take}
+use Rattle.std.specs.Prelude.{flat_map}
+use Rattle.report_told.specs.Told.{Told}
+use Rattle.report_told.specs.Points.{IsWhole}
+use Rattle.report_check.specs.Facts.{Facts, placed_at}
+use Rattle.report_check.specs.Judged.{StandSo}
+use Rattle.report_check.proofs.early.first_early.Given as goal
+
+abbrev pub invariant-loop-packet : goal.invariant-loop-packet
+invariant-loop-packet l =
+    (told : Told) → Facts told l.calls l.pending l.order → IsWhole told →
+    StandSo (flat_map (placed_at told) (take l.packet-index l.order)) l.standing

@@ -1,0 +1,6 @@
+use Rattle.std.proofs.lemmas.List.Sorted.{IsNonDecreasingBy-from_sort}
+use Rattle.report_check.proofs.whole.in_order.Goals as goal
+
+pub returns-clause-rises : goal.returns-clause-rises
+returns-clause-rises c =
+    IsNonDecreasingBy-from_sort (λ x. x) c.sort_unstable.new.self.items c.sort_unstable.ensures.sorted

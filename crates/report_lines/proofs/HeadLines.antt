@@ -1,0 +1,125 @@
+-- The head line can be read back.
+use Rattle.std.proofs.Common.{◌≡◌, ℕ, ◌≤◌, nat_lt, nat_le, ◌&&◌, Bool, true, cond, codes, List, [], ◌∷◌, ◌++◌, Some, None, refl, sym, ap, ◌∙◌, arith}
+use Rattle.std.specs.Prelude.{decimal}
+use Rattle.std.proofs.lemmas.Option.{cond_some}
+use Rattle.hash_bits.specs.declared.hashing.Hashing.{Hashing}
+use Rattle.hash_bits.specs.declared.hashing.Hashing.TheVariants.{Mix, Ports}
+use Rattle.trace_share.specs.declared.deals.Share.{Share}
+use Rattle.report_text.specs.Report.{head_line, hash_words, mode_word, share_word}
+use Rattle.report_text.specs.declared.parts.Head.{Head}
+use Rattle.report_told.specs.Rules.{IsHead, seed_in}
+use Rattle.report_lines.specs.Fields.{most_64}
+use Rattle.report_lines.specs.Lines.{head_at, ranged}
+use Rattle.report_lines.proofs.Behind.{behind, line_behind}
+use Rattle.report_lines.proofs.HeadFields.{hashing_text}
+use Rattle.report_lines.proofs.PartLaws.{number, mode, hashing, share, Part, known, field, Values, spelled, Fitting, ReadSo, Finds, IsLine, found_as, reads_again, reads_takes}
+
+abbrev head_parts : List Part
+head_parts =
+    known (codes "flowdir ") ∷ field mode ∷ known (codes " seats ") ∷ field (number 8) ∷ known (codes " items ")
+    ∷ field (number 16) ∷ known (codes " depth ") ∷ field (number 12) ∷ known (codes " start ") ∷ field (number 12)
+    ∷ known (codes " hash ") ∷ field hashing ∷ known (codes " share ") ∷ field share ∷ known (codes "\n") ∷ []
+
+abbrev head_values : Head → Values head_parts
+head_values head =
+    (head.play, (head.seats, (head.items, (head.depth, (head.start, (head.hashing, (head.share, tt)))))))
+
+abbrev head_of : Values head_parts → Head
+head_of values = record {
+  play = values.0;
+  seats = values.1.0;
+  items = values.1.1.0;
+  depth = values.1.1.1.0;
+  start = values.1.1.1.1.0;
+  hashing = values.1.1.1.1.1.0;
+  share = values.1.1.1.1.1.1.0;
+}
+
+-- the words behind `hash`
+hash_behind : (hash : Hashing) (dealt : Share) (rest : List ℕ) →
+    behind (hash_words hash ++ (codes "share" ∷ share_word dealt ∷ [])) rest
+    ≡ 32 ∷ (hashing_text hash ++ (codes " share " ++ (share_word dealt ++ (10 ∷ rest))))
+hash_behind (Mix seed) dealt rest = refl
+hash_behind (Ports seed) dealt rest = refl
+
+abbrev pub head_text : Head → List ℕ → List ℕ
+head_text head rest = head_line head ++ rest
+
+head_spelled : (head : Head) (rest : List ℕ) → head_text head rest ≡ spelled head_parts (head_values head) rest
+unfolding head_line
+head_spelled head rest =
+    line_behind (codes "flowdir") (mode_word head.play
+    ∷ codes "seats" ∷ decimal head.seats ∷ codes "items" ∷ decimal head.items
+    ∷ codes "depth" ∷ decimal head.depth ∷ codes "start" ∷ decimal head.start
+    ∷ codes "hash" ∷ (hash_words head.hashing ++ (codes "share" ∷ share_word head.share ∷ []))) rest
+    ∙ ap (λ (b : List ℕ). codes "flowdir " ++ (mode_word head.play ++ (codes " seats " ++ (decimal head.seats
+    ++ (codes " items " ++ (decimal head.items ++ (codes " depth " ++ (decimal head.depth ++ (codes " start "
+    ++ (decimal head.start ++ (codes " hash" ++ b)))))))))))
+    (hash_behind head.hashing head.share rest)
+
+in_range : (head : Head) → IsHead head →
+    (nat_lt 0 head.seats && nat_lt 0 head.items && nat_le head.start head.depth) ≡ true
+in_range head is =
+    let seats : 1 ≤ head.seats = is.settings.seats_in_range.0 in
+    let items : 1 ≤ head.items = is.settings.items_in_range.0 in
+    let start : head.start ≤ head.depth = is.settings.start_in_range.1 in
+    grind arith
+
+head_again : (head : Head) (rest : List ℕ) → IsHead head → head_at (head_text head rest) ≡ Some (head, rest)
+unfolding head_at
+head_again head rest is =
+    let seats : head.seats ≤ 8 = is.settings.seats_in_range.1 in
+    let items : head.items ≤ 16 = is.settings.items_in_range.1 in
+    let depth : head.depth ≤ 12 = is.settings.depth_in_range.1 in
+    let start : head.start ≤ 12 = omega (arith, is.settings.start_in_range.1) in
+    let seed : seed_in head.hashing ≤ most_64 = omega (arith, is.seed) in
+    ap head_at (head_spelled head rest)
+    ∙ reads_again head_parts (λ values left. ranged (head_of values) left) (head_values head) rest (omega arith)
+    (tt, (seats, (items, (depth, (start, (seed, (tt, tt)))))))
+    (refl, (refl, (refl, (refl, (refl, (refl, (refl, tt)))))))
+    ∙ ap (λ (b : Bool). cond b (Some (head, rest)) None) (in_range head is)
+
+range_is : (seats items depth start : ℕ) → (nat_lt 0 seats && nat_lt 0 items && nat_le start depth) ≡ true →
+    (1 ≤ seats) × (1 ≤ items) × (start ≤ depth)
+range_is seats items depth start test = (grind arith, grind arith, grind arith)
+
+found_head : (bytes : List ℕ) (head : Head) (rest : List ℕ) (values : Values head_parts) (left : List ℕ) →
+    bytes ≡ spelled head_parts values left → Fitting head_parts values →
+    ranged (head_of values) left ≡ Some (head, rest) → Finds head_text IsHead bytes head rest
+found_head bytes head rest values left text fits then =
+    let made : Head = head_of values in
+    let tested : ((nat_lt 0 (head_of values).seats && nat_lt 0 (head_of values).items
+    && nat_le (head_of values).start (head_of values).depth) ≡ true)
+    × (◌≡◌ {A = Head × List ℕ} (head_of values, left) (head, rest)) =
+    cond_some (nat_lt 0 (head_of values).seats && nat_lt 0 (head_of values).items
+    && nat_le (head_of values).start (head_of values).depth) (head_of values, left) (head, rest) then in
+    let range : (1 ≤ (head_of values).seats) × (1 ≤ (head_of values).items)
+    × ((head_of values).start ≤ (head_of values).depth) =
+    range_is (head_of values).seats (head_of values).items (head_of values).depth (head_of values).start
+    tested.0 in
+    let seed : seed_in (head_of values).hashing ≤ most_64 = fits.1.1.1.1.1.0 in
+    let found : Finds head_text IsHead bytes (head_of values) left = record {
+      text_is = text ∙ sym (head_spelled (head_of values) left);
+      fits = record {
+        settings = record {
+          seats_in_range = (range.0, fits.1.0);
+          items_in_range = (range.1, fits.1.1.0);
+          depth_in_range = (omega arith, fits.1.1.1.0);
+          start_in_range = (omega arith, range.2);
+        };
+        seed = omega (arith, seed);
+      };
+    } in
+    found_as head_text IsHead bytes (head_of values) head left rest found
+    (ap (λ (x : Head × List ℕ). Some x) tested.1)
+
+head_takes : (bytes : List ℕ) (head : Head) (rest : List ℕ) → head_at bytes ≡ Some (head, rest) →
+    Finds head_text IsHead bytes head rest
+unfolding head_at
+head_takes bytes head rest is =
+    let read : ReadSo head_parts (λ values left. ranged (head_of values) left) bytes (head, rest) =
+    reads_takes head_parts (λ values left. ranged (head_of values) left) bytes (head, rest) (omega arith) is in
+    found_head bytes head rest read.values read.left read.text read.fits read.then
+
+pub head_is_line : IsLine head_at head_text IsHead
+head_is_line = record { again = head_again; takes = head_takes }

@@ -1,0 +1,88 @@
+//! The head line.
+
+ghost use Rattle.std.specs.Prelude.{◌≡◌};
+ghost use Rattle.line_fields.specs.Reading.{Gives};
+ghost use Rattle.report_lines.specs.Fields.{hashing_at, mode_at, share_at};
+ghost use Rattle.report_lines.specs.Lines.{head_at};
+
+use hash_bits::Hashing;
+use line_fields::{number, text};
+use report_text::Head;
+use trace_share::Share;
+
+/// The head at the front, whose settings are in range, and the bytes behind its line.
+#[tactic(auto, unfolding(crate::specs::Lines::head_at))]
+pub fn head_line(bytes: &[u8]) -> Option<(Head, &[u8])>
+    ensures { Gives (λ x. (x.0, x.1.now)) result (head_at bytes.now) }
+{
+    let rest = text(bytes, b"flowdir ")?;
+    let (play, rest) = mode(rest)?;
+    let rest = text(rest, b" seats ")?;
+    let (seats, rest) = number(rest, 8)?;
+    let rest = text(rest, b" items ")?;
+    let (items, rest) = number(rest, 16)?;
+    let rest = text(rest, b" depth ")?;
+    let (depth, rest) = number(rest, 12)?;
+    let rest = text(rest, b" start ")?;
+    let (start, rest) = number(rest, 12)?;
+    let rest = text(rest, b" hash ")?;
+    let (hashing, rest) = hashing(rest)?;
+    let rest = text(rest, b" share ")?;
+    let (share, rest) = share(rest)?;
+    let rest = text(rest, b"\n")?;
+    let head = Head {
+        play,
+        seats: seats as u32,
+        items: items as u32,
+        depth: depth as u32,
+        start: start as u32,
+        hashing,
+        share,
+    };
+    if seats > 0 && items > 0 && start <= depth {
+        Some((head, rest))
+    } else {
+        None
+    }
+}
+
+// Whether the report is one of `play`.
+#[tactic(auto, unfolding(crate::specs::Fields::mode_at))]
+fn mode(bytes: &[u8]) -> Option<(bool, &[u8])>
+    ensures { Gives (λ x. (x.0, x.1.now)) result (mode_at bytes.now) }
+{
+    if let Some(rest) = text(bytes, b"serve") {
+        return Some((false, rest));
+    }
+    let rest = text(bytes, b"play")?;
+    Some((true, rest))
+}
+
+// The hash and its seed.
+#[tactic(auto, unfolding(crate::specs::Fields::hashing_at))]
+fn hashing(bytes: &[u8]) -> Option<(Hashing, &[u8])>
+    ensures { Gives (λ x. (x.0, x.1.now)) result (hashing_at bytes.now) }
+{
+    if let Some(rest) = text(bytes, b"mix seed ") {
+        let (seed, rest) = number(rest, u64::MAX)?;
+        return Some((Hashing::Mix(seed), rest));
+    }
+    let rest = text(bytes, b"ports seed ")?;
+    let (seed, rest) = number(rest, u64::MAX)?;
+    Some((Hashing::Ports(seed), rest))
+}
+
+// How packets are shared out.
+#[tactic(auto, unfolding(crate::specs::Fields::share_at))]
+fn share(bytes: &[u8]) -> Option<(Share, &[u8])>
+    ensures { Gives (λ x. (x.0, x.1.now)) result (share_at bytes.now) }
+{
+    if let Some(rest) = text(bytes, b"round") {
+        return Some((Share::Round, rest));
+    }
+    if let Some(rest) = text(bytes, b"block") {
+        return Some((Share::Block, rest));
+    }
+    let rest = text(bytes, b"flow")?;
+    Some((Share::Flow, rest))
+}

@@ -1,0 +1,5 @@
+pub mod Packets
+pub mod Answers
+pub mod Entries
+pub mod Steps
+pub mod Kept

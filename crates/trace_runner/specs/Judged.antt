@@ -1,0 +1,27 @@
+-- What `check` leaves.
+use Rattle.std.specs.Prelude.{◌≡◌, ℕ, List, Option, Result, Ok, Err, length, nat_lt, if◌then◌else◌}
+use Rattle.report_reading.specs.declared.reading.TheConstants.{TEXT_LIMIT}
+use Rattle.check_runner.specs.declared.checking.Checked.{Checked}
+use Rattle.check_runner.specs.declared.checking.Checked.TheVariants.{Judged, TooLong}
+use Rattle.check_runner.specs.declared.checking.Stop.{Stop}
+use Rattle.check_runner.specs.declared.checking.Stop.TheVariants.{Memory, NotPut, ReadFault}
+use Rattle.check_runner.specs.Checked.{LeavesChecked}
+use Rattle.trace_runner.specs.declared.status.Status.{Status}
+use Rattle.trace_runner.specs.declared.status.Status.TheVariants as status
+
+-- the status of a check that ended so
+abbrev pub status_of_check : Result Checked Stop → Status
+status_of_check (Ok (Judged verdict)) = status.Done
+status_of_check (Ok TooLong) = status.Limit
+status_of_check (Err ReadFault) = status.ReadFault
+status_of_check (Err NotPut) = status.WriteFault
+status_of_check (Err Memory) = status.Memory
+
+-- The check ended so, and what is put is the line of the verdict that the source's text deserves, or a part of it.
+abbrev pub LeavesVerdict : (first left before after : Option (List ℕ)) → Status → Type 0
+LeavesVerdict first left before after answer =
+    (end : Result Checked Stop) × (answer ≡ status_of_check end) × LeavesChecked first left before after end
+
+-- the status that a text is answered with where nothing fails
+abbrev pub status_of_text : List ℕ → Status
+status_of_text text = if nat_lt TEXT_LIMIT (length text) then status.Limit else status.Done
