@@ -1,0 +1,198 @@
+-- What a right order answers and leaves: a new session's value is its packet's number, values and bytes fit, and keys
+-- have a text.
+use Rattle.std.proofs.Common.{◌≡◌, ℕ, ◌^◌, ◌<◌, Bool, true, false, cond, List, [], ◌∷◌, map, length, get_or, Option, Some, None, refl, sym, ap, ◌∙◌, subst, arith}
+use Rattle.std.specs.Prelude.{T}
+use Rattle.std.specs.List.{AllByRecursion}
+use Rattle.std.specs.Option.{option_map_or, unwrap_or}
+use Rattle.std.specs.Ordering.{eq_by_cmp}
+use Rattle.std.proofs.lemmas.List.{get_or_default}
+use Rattle.std.specs.FinMap as finite
+use Rattle.std.specs.FinMap.{entries-from_sorted, entries_sorted, get-empty, get-insert, get-remove, same_entries_map}
+use Rattle.std.specs.FinMap.Entries.{is_sorted}
+use Rattle.plain_map.specs.declared.keys.Key.{Key}
+use Rattle.plain_map.specs.declared.keys.Pair.{Pair}
+use Rattle.plain_map.specs.declared.rules.Rules.{Rules}
+use Rattle.plain_map.specs.declared.calls.Call.{Call}
+use Rattle.plain_map.specs.declared.calls.Call.TheVariants.{Insert, Remove, Lookup, Tally}
+use Rattle.plain_map.specs.declared.calls.Reply.{Reply}
+use Rattle.plain_map.specs.declared.calls.Reply.TheVariants.{Absent}
+use Rattle.plain_map.specs.Keys.{Session, entry_of, held_in, key_cmp, pair_of}
+use Rattle.plain_map.specs.PlainObject.{Sessions, found_in, gone_from, grown, has_room, insert_reply, inserted, map_after, new_session, pairs_of, reply_of, sum_of, tallied}
+use Rattle.plain_map.specs.Places.{IsInKeyOrder}
+use Rattle.plain_map.specs.Held.{sessions_of}
+use Rattle.plain_map.specs.History.{Placed, answered, pending, Legal, call_in, packet_of, sessions_after}
+use Rattle.plain_map.proofs.KeyLemmas.{keys_total, exact_keys, tied}
+use Rattle.plain_map.proofs.SessionLemmas.{held_at}
+use Rattle.flow_keys.specs.Flow.{InsertsOnly}
+use Rattle.flow_reading.specs.Flows.{IsFlow}
+use Rattle.report_told.specs.Rules.{AreSessions, IsReply}
+use Rattle.report_promises.specs.Good.{IsFitting}
+use Rattle.report_promises.proofs.TextLemmas.{TellsPacket}
+
+-- ---- what is held
+
+-- a session that can be told
+pub record IsTellable (key : Key) (held : Session) : Type 0 where
+  pub flow : IsFlow key
+  pub value : held.value < 2 ^ 64
+  pub bytes : held.bytes < 2 ^ 64
+
+-- so is each that is held
+abbrev pub AreTellable : Sessions → Type 0
+AreTellable m = (q : Key) (held : Session) → finite.get m q ≡ Some held → IsTellable q held
+
+same_some : {A : Type 0} (x y : A) → Some x ≡ Some y → x ≡ y
+same_some x y is = ap (λ o. unwrap_or o x) is
+
+none_some : {A : Type 0} (x : A) → None ≡ Some x → ⊥
+none_some x is = let no : None ≡ Some x = is in cc
+
+tellable-insert : (m : Sessions) (key : Key) (new : Session) → IsTellable key new → AreTellable m →
+    AreTellable (finite.insert m key new)
+tellable-insert m key new good all q held is =
+    go (eq_by_cmp key_cmp q key) refl (sym (get-insert keys_total m key new q) ∙ is)
+  where
+    go : (b : Bool) → eq_by_cmp key_cmp q key ≡ b → cond b (Some new) (finite.get m q) ≡ Some held → IsTellable q held
+    go true same found =
+        subst (λ (s : Session). IsTellable q s) (same_some new held found)
+        (subst (λ (k : Key). IsTellable k new) (sym (exact_keys q key (tied (key_cmp q key) same))) good)
+    go false same found = all q held found
+
+tellable-remove : (m : Sessions) (key : Key) → AreTellable m → AreTellable (finite.remove m key)
+tellable-remove m key all q held is = go (eq_by_cmp key_cmp q key) (sym (get-remove keys_total m key q) ∙ is)
+  where
+    go : (b : Bool) → cond b None (finite.get m q) ≡ Some held → IsTellable q held
+    go true found = absurd (none_some held found)
+    go false found = all q held found
+
+tellable-inserted : (m : Sessions) (key : Key) (new : Session) (held : Option Session) (room : Bool) →
+    IsTellable key new → AreTellable m → AreTellable (inserted m key new held room)
+tellable-inserted m key new (Some old) room good all = all
+tellable-inserted m key new None true good all = tellable-insert m key new good all
+tellable-inserted m key new None false good all = all
+
+tellable-tallied : (m : Sessions) (key : Key) (amount : ℕ) (held : Option Session) → finite.get m key ≡ held →
+    AreTellable m → AreTellable (tallied m key amount held)
+tellable-tallied m key amount (Some held) is all =
+    let good : IsTellable key held = all key held is in
+    tellable-insert m key (grown held amount)
+    (record { flow = good.flow; value = good.value; bytes = omega arith }) all
+tellable-tallied m key amount None is all = all
+
+-- what is held after a call that can be told
+tellable-after : (rules : Rules) (m : Sessions) (packet : ℕ) (asked : Call) → packet < 2 ^ 32 →
+    IsFitting (packet, asked) → AreTellable m → AreTellable (map_after rules m asked)
+unfolding map_after
+tellable-after rules m packet (Insert key value) few fits all =
+    tellable-inserted m key (new_session value) (finite.get m key) (has_room rules m key)
+    (record { flow = fits.flow; value = omega (arith, few, fits.value); bytes = omega arith }) all
+tellable-after rules m packet (Remove key) few fits all = tellable-remove m key all
+tellable-after rules m packet (Lookup key) few fits all = all
+tellable-after rules m packet (Tally key amount) few fits all =
+    tellable-tallied m key amount (finite.get m key) refl all
+
+tellable-empty : AreTellable finite.empty
+tellable-empty q held is = absurd (none_some held (sym (get-empty key_cmp q) ∙ is))
+
+-- ---- what is answered
+
+-- the reply can be told beside the call
+pub record IsToldReply (packet : ℕ) (asked : Call) (reply : Reply) : Type 0 where
+  pub fits : IsReply reply
+  pub tells : TellsPacket packet asked reply
+
+map_reply : (m : Sessions) (key : Key) (packet : ℕ) (asked : Call) (made : Session → Reply) (held : Option Session) →
+    ((s : Session) → IsTellable key s → IsToldReply packet asked (made s)) → finite.get m key ≡ held → AreTellable m →
+    IsToldReply packet asked (option_map_or made held Absent)
+map_reply m key packet asked made (Some s) each is all = each s (all key s is)
+map_reply m key packet asked made None each is all = record { fits = tt; tells = tt }
+
+new_reply : (m : Sessions) (key : Key) (packet value : ℕ) (held : Option Session) (room : Bool) → value ≡ packet →
+    finite.get m key ≡ held → AreTellable m → IsToldReply packet (Insert key value) (insert_reply held room)
+new_reply m key packet value (Some s) room same is all = record { fits = (all key s is).value; tells = tt }
+new_reply m key packet value None true same is all = record { fits = tt; tells = same }
+new_reply m key packet value None false same is all = record { fits = tt; tells = tt }
+
+told_reply : (rules : Rules) (m : Sessions) (packet : ℕ) (asked : Call) → InsertsOnly packet asked → AreTellable m →
+    IsToldReply packet asked (reply_of rules m asked)
+unfolding reply_of
+told_reply rules m packet (Insert key value) value_is all =
+    new_reply m key packet value (finite.get m key) (has_room rules m key) value_is refl all
+told_reply rules m packet (Remove key) value_is all =
+    map_reply m key packet (Remove key) gone_from (finite.get m key)
+    (λ s good. record { fits = good.value; tells = tt }) refl all
+told_reply rules m packet (Lookup key) value_is all =
+    map_reply m key packet (Lookup key) found_in (finite.get m key)
+    (λ s good. record { fits = good.value; tells = tt }) refl all
+told_reply rules m packet (Tally key amount) value_is all =
+    map_reply m key packet (Tally key amount) (sum_of amount) (finite.get m key)
+    (λ s good. record { fits = omega arith; tells = tt }) refl all
+
+-- what was answered can be told
+abbrev pub HasToldReply : Placed → Type 0
+HasToldReply (answered r) = IsToldReply r.packet r.call r.reply
+HasToldReply (pending u) = Unit {0}
+
+-- it can be told what a call of the order asks
+abbrev pub CanBeAsked : Placed → Type 0
+CanBeAsked placed = IsFitting (packet_of placed, call_in placed)
+
+one_reply : (rules : Rules) (m : Sessions) (placed : Placed) → CanBeAsked placed → AreTellable m →
+    Legal rules m (placed ∷ []) → HasToldReply placed
+one_reply rules m (answered r) fits all legal =
+    subst (IsToldReply r.packet r.call) (sym legal.0) (told_reply rules m r.packet r.call fits.value all)
+one_reply rules m (pending u) fits all legal = tt
+
+pub told_replies : (rules : Rules) (m : Sessions) (order : List Placed) → AllByRecursion CanBeAsked order →
+    Legal rules m order → AreTellable m →
+    AllByRecursion HasToldReply order × AreTellable (sessions_after rules m order)
+told_replies rules m [] fits legal all = (tt, all)
+told_replies rules m (placed ∷ later) fits legal all =
+    let next = told_replies rules (map_after rules m (call_in placed)) later fits.1 legal.1
+    (tellable-after rules m (packet_of placed) (call_in placed) fits.0.packet fits.0 all) in
+    ((one_reply rules m placed fits.0 all (legal.0, tt), next.0), next.1)
+
+-- ---- the sessions
+
+-- entries as pairs are those entries
+entries_back : (es : List (Key × Session)) → map entry_of (map pair_of es) ≡ es
+entries_back [] = refl
+entries_back (e ∷ es) = ap (λ rest. e ∷ rest) (entries_back es)
+
+pub in_key_order : (m : Sessions) → IsInKeyOrder (pairs_of m)
+unfolding pairs_of
+in_key_order m =
+    subst (λ (es : List (Key × Session)). T (is_sorted key_cmp es)) (sym (entries_back (finite.entries m)))
+    (entries_sorted m)
+
+-- the pairs stand for the sessions
+sessions_back : (m : Sessions) → sessions_of (pairs_of m) ≡ m
+unfolding pairs_of sessions_of
+sessions_back m =
+    same_entries_map _ m (entries-from_sorted key_cmp (map entry_of (pairs_of m)) (in_key_order m)
+    ∙ entries_back (finite.entries m))
+
+-- sessions that can be told are those of a report
+pub told_sessions : (m : Sessions) → AreTellable m → AreSessions (pairs_of m)
+told_sessions m all = record {
+  each = λ k d inside.
+      (let pair : Pair = get_or (pairs_of m) k d in
+      let good : IsTellable pair.key (held_in pair) =
+      all pair.key (held_in pair) (held_at (pairs_of m) (in_key_order m) m (sessions_back m) pair.key k
+      (record { in_range = inside; has_key = λ e. same_key k d e inside }) pair
+      (get_or_default (pairs_of m) k d pair inside)) in
+      (good.flow, good.value, good.bytes));
+  ordered = in_key_order m;
+}
+  where
+    same_key : (k : ℕ) (d e : Pair) → k < length (pairs_of m) →
+        (get_or (pairs_of m) k e).key ≡ (get_or (pairs_of m) k d).key
+    same_key k d e inside = ap (λ (p : Pair). p.key) (get_or_default (pairs_of m) k e d inside)
+
+-- the sessions that a right order of calls leaves, from none on
+pub order_told : (rules : Rules) (order : List Placed) → AllByRecursion CanBeAsked order →
+    Legal rules finite.empty order →
+    AllByRecursion HasToldReply order × AreSessions (pairs_of (sessions_after rules finite.empty order))
+order_told rules order fits legal =
+    let both = told_replies rules finite.empty order fits legal tellable-empty in
+    (both.0, told_sessions (sessions_after rules finite.empty order) both.1)

@@ -1,0 +1,11 @@
+pub mod SettingsLemmas
+pub mod PacketLemmas
+pub mod ToldOf
+pub mod TextLemmas
+pub mod NumberLemmas
+pub mod HeldLemmas
+pub mod PlacedLemmas
+pub mod SeenLemmas
+pub mod WholeLemmas
+pub mod GrammarLemmas
+pub mod GoodLemmas

@@ -1,0 +1,6 @@
+//! Which reports are certified: those whose lines tell of one right order of all calls.
+#![tactic(auto)]
+
+mod laws;
+
+pub use laws::promise_laws;
