@@ -3,4 +3,4 @@
 
 mod laws;
 
-pub use laws::promise_laws;
+pub use laws::{call_laws, promise_laws};
