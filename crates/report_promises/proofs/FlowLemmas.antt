@@ -1,4 +1,4 @@
--- The key of a packet's call has a text, with the lower endpoint first, where the numbers of its heads fit their fields.
+-- The key of a packet's call has a text, with the lower endpoint first, if the numbers of its heads fit their fields.
 use Rattle.std.proofs.Common.{◌≡◌, ◌⊎◌, inl, inr, ℕ, ◌+◌, ◌*◌, ◌/◌, ◌%◌, ◌^◌, ◌<◌, ◌≤◌, ◌==◌, Bool, true, false, cond, refl, sym, ap, subst, arith}
 use Rattle.std.specs.Prelude.{not, ◌&&◌, ◌||◌}
 use Rattle.packet_heads.specs.Heads.{HasWidths, IsWithin}
@@ -16,6 +16,7 @@ use Rattle.flow_reading.specs.Flows.{IsFlow}
 record IsBit (version bit : ℕ) : Type 0 where
   is : ((version ≡ 4) × (bit ≡ 0)) ⊎ ((version ≡ 6) × (bit ≡ 2 ^ 40))
 
+-- each version has its bit
 is_bit : (version : ℕ) → (version ≡ 4) ⊎ (version ≡ 6) → IsBit version (version_bit version)
 is_bit version (inl four) = record { is = inl (four, ap version_bit four) }
 is_bit version (inr six) = record { is = inr (six, ap version_bit six) }
@@ -24,12 +25,15 @@ is_bit version (inr six) = record { is = inr (six, ap version_bit six) }
 abbrev IsFirst : Endpoint → Endpoint → Type 0
 IsFirst low high = (low.address < high.address) ⊎ ((low.address ≡ high.address) × (low.port ≤ high.port))
 
+-- an endpoint that is below another is not above it
 below_first : (one other : Endpoint) → is_below one other ≡ true → IsFirst one other
 below_first one other is = grind arith
 
+-- and where it is not below, the other is not above it
 above_first : (one other : Endpoint) → is_below one other ≡ false → IsFirst other one
 above_first one other is = grind arith
 
+-- the number is that of TCP or that of UDP
 known_number : (protocol : Protocol) → (number_of protocol ≡ 6) ⊎ (number_of protocol ≡ 17)
 known_number (Tcp flags payload) = inl refl
 known_number Udp = inr refl
@@ -122,6 +126,7 @@ call_key heads packet = by heads.protocol
         tcp (has_flag flags 1 || has_flag flags 4) (has_flag flags 2 && not (has_flag flags 16)) payload (payload == 0)
     by Udp = refl
 
+-- the key of a packet has a text, with the lower endpoint first
 pub flow_of_key : (heads : Heads) → HasWidths heads → IsFlow (flow_key heads)
 flow_of_key heads widths = go (is_below heads.target heads.source) refl
   where

@@ -42,6 +42,7 @@ asked_on P ((seat, Refused packet asked full) ∷ lines) all = asked_on P lines 
 -- what is known of a line
 record IsKnown (head : Head) (line : ℕ × Outcome) : Type 0 where
   fits : IsLine head line
+  -- what the text tells
   told : CanBeTold head.seats line.1
 
 -- what is known of an answered call
@@ -49,6 +50,7 @@ record IsKnownAnswer (r : Record) : Type 0 where
   reply : IsToldReply r.packet r.call r.reply
   seen : HasSeenFew (answered r)
 
+-- an answered call of which this is known, or a refused one, is told on a line that may stand so
 one_known : (head : Head) (line : ℕ × Outcome) → head.seats ≤ 8 → IsFitting (asked_in line.1) → line.0 < head.seats →
     HasEnded head line.1 → AllByRecursion IsKnownAnswer (record_in line.1) → IsKnown head line
 one_known head (seat, Answered r) few fits inside ended answers = record {
@@ -88,6 +90,7 @@ answers_parted : (P : Record → Type 0) (outcome : Outcome) (later : List Recor
 answers_parted P (Answered r) later all = ((all.0, tt), all.1)
 answers_parted P (Refused packet asked full) later all = (tt, all)
 
+-- so are all calls that ended
 all_known : (head : Head) (lines : List (ℕ × Outcome)) → head.seats ≤ 8 →
     AllByRecursion IsFitting (calls_ended lines) →
     AllByRecursion (λ (line : ℕ × Outcome). line.0 < head.seats) lines →
@@ -108,6 +111,7 @@ lines_of head (line ∷ lines) all =
     let later = lines_of head lines all.1 in
     ((all.0.fits, later.0), (all.0.told, later.1))
 
+-- what is known of answered calls, put together
 both_known : (rs : List Record) → AllByRecursion (λ (r : Record). HasToldReply (answered r)) rs →
     AllByRecursion (λ (r : Record). HasSeenFew (answered r)) rs → AllByRecursion IsKnownAnswer rs
 both_known [] replies seen = tt
@@ -117,21 +121,26 @@ both_known (r ∷ rs) replies seen =
 -- ---- a good report
 
 module _ (report : Report) (all : List Placed) (good : IsGood report all) where
+  -- how many seats there are
   abbrev seats : ℕ
   seats = report.head.seats
 
+  -- the calls that ended, with their seats
   abbrev lines : List (ℕ × Outcome)
   lines = ended_in report
 
+  -- the calls under way
   abbrev us : List Pending
   us = begun_in report
 
+  -- those that took effect
   abbrev effects : List Pending
   effects = filter good.took us
 
   abbrev told : Told
   told = told_of report
 
+  -- there are eight seats at most
   few_seats : seats ≤ 8
   few_seats = good.head.settings.seats_in_range.1
 
@@ -148,6 +157,7 @@ module _ (report : Report) (all : List Placed) (good : IsGood report all) where
       (All-filter good.took (λ (u : Pending). IsFitting (u.packet, u.call)) us
       (All-unmap IsFitting (λ (u : Pending). (u.packet, u.call)) us good.under_way)))))
 
+  -- each reply can be told, and so can each session that is left
   replies : AllByRecursion HasToldReply all
       × AreSessions (pairs_of (sessions_after (rules_told report.head) empty all))
   replies = order_replies (rules_told report.head) all asked good.legal
@@ -156,12 +166,14 @@ module _ (report : Report) (all : List Placed) (good : IsGood report all) where
   next_few : (u : Pending) → HasBegun report u → u.number < 2 ^ 32
   next_few u is = omega (arith, is.number, few_answered u.seat lines, good.few)
 
+  -- the numbers in the order fit
   numbers : All (λ (p : Placed). number_of p < 2 ^ 32) all
   numbers =
       order_few lines effects all good.numbered good.few
       (All-filter good.took (λ (u : Pending). u.number < 2 ^ 32) us
       (All-weaker (HasBegun report) (λ (u : Pending). u.number < 2 ^ 32) next_few us good.begun)) good.whole
 
+  -- so do the counts that answered calls had seen
   answers : AllByRecursion IsKnownAnswer (answered_on lines)
   answers =
       both_known (answered_on lines)
@@ -169,6 +181,7 @@ module _ (report : Report) (all : List Placed) (good : IsGood report all) where
       (All-from_recursion HasToldReply all replies.0))
       (of_answered HasSeenFew (answered_on lines) effects all good.whole (all_seen_few all good.after numbers))
 
+  -- each line of a call that ended may stand so
   known : AllByRecursion (IsLine report.head) lines
       × AllByRecursion (λ (line : ℕ × Outcome). CanBeTold seats line.1) lines
   known =
@@ -191,12 +204,14 @@ module _ (report : Report) (all : List Placed) (good : IsGood report all) where
     seen_told seats u.seen is.long (λ s within. is.fit s 0 (omega (arith, within, is.long))),
   )
 
+  -- each line of a call under way may stand so
   waits_known : AllByRecursion (IsWait report.head) us
   waits_known =
       recursion_from_All (IsWait report.head) us
       (λ k d inside. wait_known (get_or us k d) (good.begun k d inside)
       (All-unmap IsFitting (λ (u : Pending). (u.packet, u.call)) us good.under_way k d inside))
 
+  -- and has a count for each seat
   waits_long : AllByRecursion (HasCounts seats) us
   waits_long = recursion_from_All (HasCounts seats) us
       (All-weaker (HasBegun report) (HasCounts seats) (λ u is. is.long) us good.begun)
@@ -210,6 +225,7 @@ module _ (report : Report) (all : List Placed) (good : IsGood report all) where
       (All-weaker CanBeAsked (λ (p : Placed). packet_of p < 2 ^ 32) (λ p fits. fits.packet) all
       (All-from_recursion CanBeAsked all asked))))
 
+  -- the report is in the grammar
   in_grammar : IsInGrammar told
   in_grammar = record {
     head = good.head;
@@ -220,26 +236,33 @@ module _ (report : Report) (all : List Placed) (good : IsGood report all) where
 
   -- ---- the order
 
+  -- no packet is of two calls
   once : (packet : ℕ) → times packet (map packet_of (calls_of (answered_on lines) us)) ≤ 1
   once = calls_once lines us good.rise good.apart
 
+  -- the answered calls are told
   records : records_told told ≡ map (plain seats) (answered_on lines)
   records = records_are report good.numbered
 
+  -- a call under way is its seat's next among the lines
   abbrev IsNext : Pending → Type 0
   IsNext u = u.number ≡ suc (answers_of u.seat told.entries)
 
+  -- and so it is
   is_next : (u : Pending) → HasBegun report u → IsNext u
   is_next u is = omega (arith, is.number, answers_are report good.numbered u.seat)
 
+  -- the calls under way are told
   waits : pending_told told ≡ map (begun seats) us
   waits =
       waits_are report
       (recursion_from_All IsNext us (All-weaker (HasBegun report) IsNext is_next us good.begun))
 
+  -- the packets of the order are told
   order : order_told told ≡ map packet_of all
   order = order_is report ∙ good.order
 
+  -- and so is the order of the calls
   placed : placed_told told ≡ map (placed_as seats) all
   placed =
       ap (flat_map (with_packet (calls_told told))) order
@@ -251,6 +274,7 @@ module _ (report : Report) (all : List Placed) (good : IsGood report all) where
 
   -- ---- the points
 
+  -- each packet stands in it as often as it must
   whole : IsWhole told
   whole packet =
       let so = stands_so (answered_on lines) us good.took all good.updates good.whole packet (once packet) in
@@ -268,6 +292,7 @@ module _ (report : Report) (all : List Placed) (good : IsGood report all) where
         known = λ some. omega (arith, some, stands, answered_are, effects_are, so.known);
       }
 
+  -- the report is right
   right : IsRight told
   right = record {
     whole = whole;
@@ -282,6 +307,7 @@ module _ (report : Report) (all : List Placed) (good : IsGood report all) where
         (All-map (IsShortEnough report.tail.bound) (plain seats) (answered_on lines) good.steps);
   }
 
+  -- so its text is certified
   certified : Certified (report_of report)
   certified = (told, record { text_is = text_told report known.1 waits_long; in_grammar = in_grammar }, right)
 

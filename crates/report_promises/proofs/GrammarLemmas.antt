@@ -18,7 +18,7 @@ use Rattle.report_told.specs.Rules.{AreEntries, IsEntry, Rise, ended_packets, pa
 use Rattle.report_told.specs.Points.{order_told, packets_in as packets_on}
 use Rattle.report_promises.specs.Good.{begun_in, calls_ended, ended_in, packets_in}
 use Rattle.report_promises.proofs.NumberLemmas.{none_made}
-use Rattle.report_promises.proofs.ToldOf.{both_parts, by_batch, by_kind, calls_in, chunks_in, each_batch, entries_of, line_of, map_joined, orders_in, packets_of, told_of, waiting_of, waits_in}
+use Rattle.report_promises.proofs.ToldOf.{always, both_parts, by_batch, by_kind, calls_in, chunks_in, entries_of, joined_all, line_of, map_joined, mapped, orders_in, packets_of, told_of, waiting_of, waits_in}
 
 -- ---- an order's lines
 
@@ -31,6 +31,7 @@ record ArePartsOf (ids : List CallId) (parts : List (List CallId)) : Type 0 wher
   joined : flat_map (λ part. part) parts ≡ ids
   some : AllByRecursion (λ (part : List CallId). (1 ≤ length part) × (length part ≤ 16)) parts
 
+-- parts of 16 are such parts, where no more than so many elements are left
 parts_of : (fuel : ℕ) (ids : List CallId) → length ids ≤ fuel → ArePartsOf ids (chunks_in ids)
 parts_of fuel [] few = record { joined = refl; some = tt }
 parts_of zero (id ∷ ids) few = absurd (omega (arith, few))
@@ -48,9 +49,11 @@ parts_of (suc fuel) (id ∷ ids) few =
       some = ((omega (arith, first), omega (arith, first)), more.some);
     })
 
+-- however many there are
 parts_are : (ids : List CallId) → ArePartsOf ids (chunks_in ids)
 parts_are ids = parts_of (length ids) ids (omega arith)
 
+-- the packets of an order's lines
 orders_joined : (parts : List (List CallId)) →
     flat_map packets_on (map (λ ids. order (packets_of ids)) parts) ≡ packets_of (flat_map (λ part. part) parts)
 orders_joined [] = refl
@@ -70,25 +73,29 @@ order_in_batch seats batch =
     ∙ orders_joined (chunks_in batch.order)
     ∙ ap packets_of (parts_are batch.order).joined
 
+-- the packets of all lines of orders are those of all orders
 pub order_is : (report : Report) → order_told (told_of report) ≡ packets_in report
 order_is report =
     by_batch packets_on (λ batch. packets_of batch.order) report.head.seats report.batches
-    (each_batch (λ batch. flat_map packets_on (entries_of report.head.seats batch) ≡ packets_of batch.order)
+    (always (λ batch. flat_map packets_on (entries_of report.head.seats batch) ≡ packets_of batch.order)
     (order_in_batch report.head.seats) report.batches)
     ∙ sym (map_joined (λ (id : CallId). id.packet) (λ (batch : Batch). batch.order) report.batches)
 
 -- ---- the packets of calls
 
+-- the packets of lines of calls that ended
 calls_packets : (seats : ℕ) (lines : List (ℕ × Outcome)) →
     flat_map packet_ended (map (λ line. call (line_of seats line)) lines) ≡ map (λ asked. asked.0) (calls_ended lines)
 calls_packets seats [] = refl
 calls_packets seats (line ∷ lines) = ap (λ ps. (asked_in line.1).0 ∷ ps) (calls_packets seats lines)
 
+-- and of those of calls under way
 waits_packets : (seats : ℕ) (us : List Pending) →
     flat_map packet_pending (map (λ u. pending (waiting_of seats u)) us) ≡ map (λ (u : Pending). u.packet) us
 waits_packets seats [] = refl
 waits_packets seats (u ∷ us) = ap (λ ps. u.packet ∷ ps) (waits_packets seats us)
 
+-- the packets of the calls of a batch that ended
 ended_in_batch : (seats : ℕ) (batch : Batch) →
     flat_map packet_ended (entries_of seats batch) ≡ map (λ asked. asked.0) (calls_ended batch.outcomes)
 ended_in_batch seats batch =
@@ -100,6 +107,7 @@ ended_in_batch seats batch =
     ∙ append-nil (flat_map packet_ended (calls_in seats batch))
     ∙ calls_packets seats batch.outcomes
 
+-- and of those under way
 waiting_in_batch : (seats : ℕ) (batch : Batch) →
     flat_map packet_pending (entries_of seats batch) ≡ map (λ (u : Pending). u.packet) batch.pending
 waiting_in_batch seats batch =
@@ -117,7 +125,7 @@ ended_are : (report : Report) →
 ended_are report =
     by_batch packet_ended (λ batch. map (λ asked. asked.0) (calls_ended batch.outcomes)) report.head.seats
     report.batches
-    (each_batch (λ batch. flat_map packet_ended (entries_of report.head.seats batch)
+    (always (λ batch. flat_map packet_ended (entries_of report.head.seats batch)
     ≡ map (λ asked. asked.0) (calls_ended batch.outcomes)) (ended_in_batch report.head.seats) report.batches)
     ∙ sym (map_joined (λ (asked : ℕ × Call). asked.0) (λ (batch : Batch). calls_ended batch.outcomes) report.batches)
     ∙ ap (map (λ (asked : ℕ × Call). asked.0))
@@ -128,12 +136,13 @@ waiting_are : (report : Report) →
     waiting_packets (told_of report).entries ≡ map (λ (u : Pending). u.packet) (begun_in report)
 waiting_are report =
     by_batch packet_pending (λ batch. map (λ (u : Pending). u.packet) batch.pending) report.head.seats report.batches
-    (each_batch (λ batch. flat_map packet_pending (entries_of report.head.seats batch)
+    (always (λ batch. flat_map packet_pending (entries_of report.head.seats batch)
     ≡ map (λ (u : Pending). u.packet) batch.pending) (waiting_in_batch report.head.seats) report.batches)
     ∙ sym (map_joined (λ (u : Pending). u.packet) (λ (batch : Batch). batch.pending) report.batches)
 
 -- ---- each line
 
+-- the lines of an order's parts may stand so
 orders_fit : (head : Head) (parts : List (List CallId)) →
     AllByRecursion (λ (part : List CallId). (1 ≤ length part) × (length part ≤ 16)) parts →
     AllByRecursion (λ packet. packet < 2 ^ 32) (packets_of (flat_map (λ part. part) parts)) →
@@ -156,19 +165,11 @@ orders_fit head (part ∷ parts) some few =
 abbrev pub IsLine : Head → ℕ × Outcome → Type 0
 IsLine head line = IsEntry head (call (line_of head.seats line))
 
+-- so may the line of a call under way
 abbrev pub IsWait : Head → Pending → Type 0
 IsWait head u = IsEntry head (pending (waiting_of head.seats u))
 
-mapped : {A B : Type 0} (P : B → Type 0) (made : A → B) (xs : List A) → AllByRecursion (λ x. P (made x)) xs →
-    AllByRecursion P (map made xs)
-mapped P made [] all = tt
-mapped P made (x ∷ xs) all = (all.0, mapped P made xs all.1)
-
-joined_all : {A : Type 0} (P : A → Type 0) (xs ys : List A) → AllByRecursion P xs → AllByRecursion P ys →
-    AllByRecursion P (xs ++ ys)
-joined_all P [] ys one other = other
-joined_all P (x ∷ xs) ys one other = (one.0, joined_all P xs ys one.1 other)
-
+-- the lines of all batches may stand so
 entries_fit : (head : Head) (batches : List Batch) →
     AllByRecursion (IsLine head) (flat_map (λ batch. batch.outcomes) batches) →
     AllByRecursion (IsWait head) (flat_map (λ batch. batch.pending) batches) →
@@ -195,6 +196,7 @@ entries_fit head (batch ∷ batches) lines waits packets =
 
 -- ---- all lines
 
+-- the lines of a report may stand one behind the other
 pub entries_told : (report : Report) → AllByRecursion (IsLine report.head) (ended_in report) →
     AllByRecursion (IsWait report.head) (begun_in report) →
     AllByRecursion (λ packet. packet < 2 ^ 32) (packets_in report) →

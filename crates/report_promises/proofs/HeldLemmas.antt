@@ -41,12 +41,15 @@ pub record IsTellable (key : Key) (held : Session) : Type 0 where
 abbrev pub AreTellable : Sessions → Type 0
 AreTellable m = (q : Key) (held : Session) → finite.get m q ≡ Some held → IsTellable q held
 
+-- what is there is one thing
 same_some : {A : Type 0} (x y : A) → Some x ≡ Some y → x ≡ y
 same_some x y is = ap (λ o. unwrap_or o x) is
 
+-- nothing is not something
 none_some : {A : Type 0} (x : A) → None ≡ Some x → ⊥
 none_some x is = let no : None ≡ Some x = is in cc
 
+-- with a session more that can be told
 tellable-insert : (m : Sessions) (key : Key) (new : Session) → IsTellable key new → AreTellable m →
     AreTellable (finite.insert m key new)
 tellable-insert m key new good all q held is =
@@ -58,6 +61,7 @@ tellable-insert m key new good all q held is =
         (subst (λ (k : Key). IsTellable k new) (sym (exact_keys q key (tied (key_cmp q key) same))) good)
     go false same found = all q held found
 
+-- with a key less
 tellable-remove : (m : Sessions) (key : Key) → AreTellable m → AreTellable (finite.remove m key)
 tellable-remove m key all q held is = go (eq_by_cmp key_cmp q key) (sym (get-remove keys_total m key q) ∙ is)
   where
@@ -65,12 +69,14 @@ tellable-remove m key all q held is = go (eq_by_cmp key_cmp q key) (sym (get-rem
     go true found = absurd (none_some held found)
     go false found = all q held found
 
+-- after an insert
 tellable-inserted : (m : Sessions) (key : Key) (new : Session) (held : Option Session) (room : Bool) →
     IsTellable key new → AreTellable m → AreTellable (inserted m key new held room)
 tellable-inserted m key new (Some old) room good all = all
 tellable-inserted m key new None true good all = tellable-insert m key new good all
 tellable-inserted m key new None false good all = all
 
+-- after a tally, whose bytes are kept small
 tellable-tallied : (m : Sessions) (key : Key) (amount : ℕ) (held : Option Session) → finite.get m key ≡ held →
     AreTellable m → AreTellable (tallied m key amount held)
 tellable-tallied m key amount (Some held) is all =
@@ -91,6 +97,7 @@ tellable-after rules m packet (Lookup key) few fits all = all
 tellable-after rules m packet (Tally key amount) few fits all =
     tellable-tallied m key amount (finite.get m key) refl all
 
+-- where nothing is held, each session can be told
 tellable-empty : AreTellable finite.empty
 tellable-empty q held is = absurd (none_some held (sym (get-empty key_cmp q) ∙ is))
 
@@ -101,18 +108,21 @@ pub record IsToldReply (packet : ℕ) (asked : Call) (reply : Reply) : Type 0 wh
   pub fits : IsReply reply
   pub tells : TellsPacket packet asked reply
 
+-- the reply that tells what is held, or that nothing is
 map_reply : (m : Sessions) (key : Key) (packet : ℕ) (asked : Call) (made : Session → Reply) (held : Option Session) →
     ((s : Session) → IsTellable key s → IsToldReply packet asked (made s)) → finite.get m key ≡ held → AreTellable m →
     IsToldReply packet asked (option_map_or made held Absent)
 map_reply m key packet asked made (Some s) each is all = each s (all key s is)
 map_reply m key packet asked made None each is all = record { fits = tt; tells = tt }
 
+-- the reply to an insert
 new_reply : (m : Sessions) (key : Key) (packet value : ℕ) (held : Option Session) (room : Bool) → value ≡ packet →
     finite.get m key ≡ held → AreTellable m → IsToldReply packet (Insert key value) (insert_reply held room)
 new_reply m key packet value (Some s) room same is all = record { fits = (all key s is).value; tells = tt }
 new_reply m key packet value None true same is all = record { fits = tt; tells = same }
 new_reply m key packet value None false same is all = record { fits = tt; tells = tt }
 
+-- the plain map's reply can be told, where what is held can
 told_reply : (rules : Rules) (m : Sessions) (packet : ℕ) (asked : Call) → InsertsOnly packet asked → AreTellable m →
     IsToldReply packet asked (reply_of rules m asked)
 unfolding reply_of
@@ -137,12 +147,14 @@ HasToldReply (pending u) = Unit {0}
 abbrev pub CanBeAsked : Placed → Type 0
 CanBeAsked placed = IsFitting (packet_of placed, call_in placed)
 
+-- so can the reply of a call of a legal order
 one_reply : (rules : Rules) (m : Sessions) (placed : Placed) → CanBeAsked placed → AreTellable m →
     Legal rules m (placed ∷ []) → HasToldReply placed
 one_reply rules m (answered r) fits all legal =
     subst (IsToldReply r.packet r.call) (sym legal.0) (told_reply rules m r.packet r.call fits.value all)
 one_reply rules m (pending u) fits all legal = tt
 
+-- and those of all its calls, and what it leaves
 pub told_replies : (rules : Rules) (m : Sessions) (order : List Placed) → AllByRecursion CanBeAsked order →
     Legal rules m order → AreTellable m →
     AllByRecursion HasToldReply order × AreTellable (sessions_after rules m order)
@@ -159,6 +171,7 @@ entries_back : (es : List (Key × Session)) → map entry_of (map pair_of es) �
 entries_back [] = refl
 entries_back (e ∷ es) = ap (λ rest. e ∷ rest) (entries_back es)
 
+-- the pairs of sessions are in the order of their keys
 pub in_key_order : (m : Sessions) → IsInKeyOrder (pairs_of m)
 unfolding pairs_of
 in_key_order m =

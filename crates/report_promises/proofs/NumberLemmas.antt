@@ -15,14 +15,14 @@ use Rattle.report_text.specs.Report.{Batch, Report}
 use Rattle.report_told.specs.Told.{Entry, call, pending, order}
 use Rattle.report_told.specs.Points.{answers_of, is_answered_by, pending_in, pending_told, records_behind, records_told, record_in as told_in}
 use Rattle.report_promises.specs.Good.{AreCountedBySeat, answered_by, answered_on, begun_in, ended_in}
-use Rattle.report_promises.proofs.ToldOf.{begun, both_parts, by_batch, by_kind, calls_in, chunks_in, entries_of, line_of, map_joined, orders_in, packets_of, plain, told_of, waiting_of, waits_in}
+use Rattle.report_promises.proofs.PacketLemmas.{one_if}
+use Rattle.report_promises.proofs.ToldOf.{always, begun, both_parts, by_batch, by_kind, calls_in, chunks_in, entries_of, joined_all, line_of, map_joined, mapped, orders_in, packets_of, plain, told_of, waiting_of, waits_in}
 
-abbrev one_if : Bool → ℕ
-one_if b = cond b 1 0
-
+-- calls of a seat that are answered on two lists of lines
 answers-append : (seat : ℕ) (es fs : List Entry) → answers_of seat (es ++ fs) ≡ answers_of seat es + answers_of seat fs
 answers-append seat es fs = sum_by-append (λ e. one_if (is_answered_by seat e)) es fs
 
+-- answered calls of lines, and of those behind them
 records-append : (before es fs : List Entry) →
     records_behind before (es ++ fs) ≡ records_behind before es ++ records_behind (before ++ es) fs
 records-append before [] fs = ap (λ (b : List Entry). records_behind b fs) (sym (append-nil before))
@@ -35,11 +35,13 @@ records-append before (e ∷ es) fs =
 
 -- Lines that answer no call.
 
+-- the line is of no call that ended
 abbrev IsSilent : Entry → Type 0
 IsSilent (call told) = ⊥
 IsSilent (pending told) = Unit {0}
 IsSilent (order packets) = Unit {0}
 
+-- such lines answer no call of a seat
 silent_answers : (seat : ℕ) (es : List Entry) → AllByRecursion IsSilent es → answers_of seat es ≡ 0
 silent_answers seat [] silent = refl
 silent_answers seat (call told ∷ es) silent = absurd silent.0
@@ -48,26 +50,12 @@ silent_answers seat (pending told ∷ es) silent =
 silent_answers seat (order packets ∷ es) silent =
     omega (arith, answers-append seat (order packets ∷ []) es, silent_answers seat es silent.1)
 
+-- and tell no answered call
 silent_records : (before es : List Entry) → AllByRecursion IsSilent es → records_behind before es ≡ []
 silent_records before [] silent = refl
 silent_records before (call told ∷ es) silent = absurd silent.0
 silent_records before (pending told ∷ es) silent = silent_records (before ++ pending told ∷ []) es silent.1
 silent_records before (order packets ∷ es) silent = silent_records (before ++ order packets ∷ []) es silent.1
-
-waits_silent : (seats : ℕ) (us : List Pending) →
-    AllByRecursion IsSilent (map (λ u. pending (waiting_of seats u)) us)
-waits_silent seats [] = tt
-waits_silent seats (u ∷ us) = (tt, waits_silent seats us)
-
-orders_silent : {A : Type 0} (packets : A → List ℕ) (parts : List A) →
-    AllByRecursion IsSilent (map (λ part. order (packets part)) parts)
-orders_silent packets [] = tt
-orders_silent packets (part ∷ parts) = (tt, orders_silent packets parts)
-
-both_silent : (es fs : List Entry) → AllByRecursion IsSilent es → AllByRecursion IsSilent fs →
-    AllByRecursion IsSilent (es ++ fs)
-both_silent [] fs one other = other
-both_silent (e ∷ es) fs one other = (one.0, both_silent es fs one.1 other)
 
 -- Lines of calls that ended.
 
@@ -75,6 +63,7 @@ both_silent (e ∷ es) fs one other = (one.0, both_silent es fs one.1 other)
 abbrev Alike : List Entry → List (ℕ × Outcome) → Type 0
 Alike before front = (seat : ℕ) → answers_of seat before ≡ length (answered_by seat front)
 
+-- a seat's answered calls on two lists of lines
 answered_by-append : (seat : ℕ) (xs ys : List (ℕ × Outcome)) →
     answered_by seat (xs ++ ys) ≡ answered_by seat xs ++ answered_by seat ys
 answered_by-append seat xs ys =
@@ -94,6 +83,7 @@ one_answer seats seat (at, Refused packet asked full) = go (at == seat)
     go true = refl
     go false = refl
 
+-- with one line more they still do
 alike_more : (seats : ℕ) (before : List Entry) (front : List (ℕ × Outcome)) (line : ℕ × Outcome) →
     Alike before front → Alike (before ++ call (line_of seats line) ∷ []) (front ++ line ∷ [])
 alike_more seats before front line alike seat =
@@ -127,6 +117,7 @@ module _ (seats : ℕ) (whole : List (ℕ × Outcome)) (counted : AreCountedBySe
       with_name s n = record (plain seats r) { seat = s; number = n } ∷ []
   one_told before front rest (seat, Refused packet asked full) cut alike = refl
 
+  -- so are the calls of more lines
   lines_told : (before : List Entry) (front lines later : List (ℕ × Outcome)) →
       whole ≡ front ++ (lines ++ later) → Alike before front →
       (records_behind before (map (λ line. call (line_of seats line)) lines) ≡ map (plain seats) (answered_on lines))
@@ -151,9 +142,14 @@ module _ (seats : ℕ) (whole : List (ℕ × Outcome)) (counted : AreCountedBySe
             ∙ ap (λ (xs : List (ℕ × Outcome)). length (answered_by seat xs)) (append_assoc front (line ∷ []) lines),
       )
 
+  -- behind the calls that ended a batch has silent lines
   silent_in : (batch : Batch) → AllByRecursion IsSilent (waits_in seats batch ++ orders_in batch)
-  silent_in batch = both_silent (waits_in seats batch) (orders_in batch) (waits_silent seats batch.pending)
-      (orders_silent packets_of (chunks_in batch.order))
+  silent_in batch =
+      joined_all IsSilent (waits_in seats batch) (orders_in batch)
+      (mapped IsSilent (λ u. pending (waiting_of seats u)) batch.pending
+      (always (λ u. IsSilent (pending (waiting_of seats u))) (λ u. tt) batch.pending))
+      (mapped IsSilent (λ ids. order (packets_of ids)) (chunks_in batch.order)
+      (always (λ ids. IsSilent (order (packets_of ids))) (λ ids. tt) (chunks_in batch.order)))
 
   -- the lines of a batch, those that answer no call too
   batch_told : (before : List Entry) (front later : List (ℕ × Outcome)) (batch : Batch) →
@@ -177,6 +173,7 @@ module _ (seats : ℕ) (whole : List (ℕ × Outcome)) (counted : AreCountedBySe
             ),
       )
 
+  -- and the lines of all batches
   batches_told : (before : List Entry) (front : List (ℕ × Outcome)) (batches : List Batch) →
       whole ≡ front ++ flat_map (λ batch. batch.outcomes) batches → Alike before front →
       (records_behind before (flat_map (entries_of seats) batches)
@@ -205,10 +202,12 @@ module _ (seats : ℕ) (whole : List (ℕ × Outcome)) (counted : AreCountedBySe
 
 -- ---- the calls
 
+-- no lines answer no calls
 none_before : Alike [] []
 none_before seat = refl
 
 module _ (report : Report) (counted : AreCountedBySeat (ended_in report)) where
+  -- the answered calls of the report, and how many a seat has
   all_told : (records_behind [] (flat_map (entries_of report.head.seats) report.batches)
       ≡ map (plain report.head.seats) (answered_on (ended_in report)))
       × Alike (flat_map (entries_of report.head.seats) report.batches) (ended_in report)
@@ -227,6 +226,7 @@ module _ (report : Report) (counted : AreCountedBySeat (ended_in report)) where
 abbrev IsNext : List Entry → Pending → Type 0
 IsNext all u = u.number ≡ suc (answers_of u.seat all)
 
+-- calls under way are told as they are
 waits_told : (all : List Entry) (seats : ℕ) (us : List Pending) → AllByRecursion (IsNext all) us →
     flat_map (pending_in all) (map (λ u. pending (waiting_of seats u)) us) ≡ map (begun seats) us
 waits_told all seats [] next = refl
@@ -244,6 +244,7 @@ none_made f made none [] = refl
 none_made f made none (x ∷ xs) =
     ap (λ ys. ys ++ flat_map f (map made xs)) (none x) ∙ none_made f made none xs
 
+-- those of a batch
 waits_in_batch : (all : List Entry) (seats : ℕ) (batch : Batch) → AllByRecursion (IsNext all) batch.pending →
     flat_map (pending_in all) (entries_of seats batch) ≡ map (begun seats) batch.pending
 waits_in_batch all seats batch next =
@@ -256,6 +257,7 @@ waits_in_batch all seats batch next =
     ∙ append-nil (flat_map (pending_in all) (waits_in seats batch))
     ∙ waits_told all seats batch.pending next
 
+-- and those of each batch
 waits_by_batch : (all : List Entry) (seats : ℕ) (batches : List Batch) →
     AllByRecursion (IsNext all) (flat_map (λ batch. batch.pending) batches) →
     AllByRecursion (λ (b : Batch). flat_map (pending_in all) (entries_of seats b) ≡ map (begun seats) b.pending) batches

@@ -7,22 +7,27 @@ use Rattle.std.proofs.lemmas.List.Sorted.{IsPermutation-map, sum_by-IsPermutatio
 use Rattle.std.proofs.lemmas.Bool.{cases_eq, eq-eqb, ne_eqb}
 use Rattle.report_told.specs.Rules.{Rise, times}
 
-abbrev one_if : Bool → ℕ
+-- 1 where it holds
+abbrev pub one_if : Bool → ℕ
 one_if b = cond b 1 0
 
+-- the first packet counts where it is the one
 pub times-cons : (packet x : ℕ) (xs : List ℕ) → times packet (x ∷ xs) ≡ one_if (x == packet) + times packet xs
 times-cons packet x xs = sum_by-cons (λ other. cond (other == packet) 1 0) x xs
 
+-- where it is, it stands once more
 times-same : (packet x : ℕ) (xs : List ℕ) → x ≡ packet → times packet (x ∷ xs) ≡ suc (times packet xs)
 times-same packet x xs same =
     let one : one_if (x == packet) ≡ 1 = ap one_if (eq-eqb x packet same) in
     omega (arith, times-cons packet x xs, one)
 
+-- where it is not, it stands as often as behind it
 times-other : (packet x : ℕ) (xs : List ℕ) → (x ≡ packet → ⊥) → times packet (x ∷ xs) ≡ times packet xs
 times-other packet x xs other =
     let none : one_if (x == packet) ≡ 0 = ap one_if (ne_eqb x packet other) in
     omega (arith, times-cons packet x xs, none)
 
+-- in two lists it stands as often as in both together
 pub times-append : (packet : ℕ) (xs ys : List ℕ) → times packet (xs ++ ys) ≡ times packet xs + times packet ys
 times-append packet xs ys = sum_by-append (λ other. cond (other == packet) 1 0) xs ys
 
@@ -35,6 +40,7 @@ times-permuted key packet xs ys is =
 
 -- Packets that rise.
 
+-- what stands behind the first rises too
 rise_tail : (x : ℕ) (xs : List ℕ) → Rise (x ∷ xs) → Rise xs
 rise_tail x [] rise = tt
 rise_tail x (y ∷ xs) rise = rise.1

@@ -21,15 +21,18 @@ use Rattle.report_promises.proofs.ToldOf.{begun, placed_as, plain}
 abbrev pub calls_of : List Record → List Pending → List Placed
 calls_of records us = map answered records ++ map waiting us
 
+-- calls as they are told have their packets
 packets_kept : (seats : ℕ) (calls : List Placed) → map packet_of (map (placed_as seats) calls) ≡ map packet_of calls
 packets_kept seats [] = refl
 packets_kept seats (answered r ∷ calls) = ap (λ ps. r.packet ∷ ps) (packets_kept seats calls)
 packets_kept seats (waiting u ∷ calls) = ap (λ ps. u.packet ∷ ps) (packets_kept seats calls)
 
+-- so has one
 packet_kept : (seats : ℕ) (placed : Placed) → packet_of (placed_as seats placed) ≡ packet_of placed
 packet_kept seats (answered r) = refl
 packet_kept seats (waiting u) = refl
 
+-- the answered calls and those under way, as they are told
 calls_as : (seats : ℕ) (records : List Record) (us : List Pending) →
     map answered (map (plain seats) records) ++ map waiting (map (begun seats) us)
     ≡ map (placed_as seats) (calls_of records us)
@@ -45,6 +48,7 @@ abbrev pub with_packet : List Placed → (packet : ℕ) → List Placed
 with_packet calls packet = filter (λ placed. packet_of placed == packet) calls
 
 module _ (seats : ℕ) (calls : List Placed) (once : (packet : ℕ) → times packet (map packet_of calls) ≤ 1) where
+  -- a call is the one call of its packet
   one_placed : (placed : Placed) → Contains calls placed →
       with_packet (map (placed_as seats) calls) (packet_of placed) ≡ placed_as seats placed ∷ []
   one_placed placed (i, inside, is) =
@@ -58,6 +62,7 @@ module _ (seats : ℕ) (calls : List Placed) (once : (packet : ℕ) → times pa
       (ap packet_of there ∙ packet_kept seats placed)
       ∙ ap (λ (p : Placed). p ∷ []) there
 
+  -- so an order's packets tell its calls
   each_placed : (order : List Placed) → AllByRecursion (Contains calls) order →
       flat_map (with_packet (map (placed_as seats) calls)) (map packet_of order) ≡ map (placed_as seats) order
   each_placed [] all = refl
@@ -103,6 +108,7 @@ order_as seats records us took order once whole =
 
 -- ---- the points
 
+-- as they are told, calls have the replies that they had
 pub legal_told : (seats : ℕ) (rules : Rules) (m : Sessions) (order : List Placed) → Legal rules m order →
     Legal rules m (map (placed_as seats) order)
 legal_told seats rules m [] legal = tt
@@ -111,6 +117,7 @@ legal_told seats rules m (answered r ∷ later) legal =
 legal_told seats rules m (waiting u ∷ later) legal =
     (tt, legal_told seats rules (map_after rules m u.call) later legal.1)
 
+-- and leave the sessions that they left
 pub sessions_told : (seats : ℕ) (rules : Rules) (m : Sessions) (order : List Placed) →
     sessions_after rules m (map (placed_as seats) order) ≡ sessions_after rules m order
 sessions_told seats rules m [] = refl
@@ -126,12 +133,15 @@ record IsCutSo (seats : ℕ) (order before later : List Placed) (placed : Placed
   before_is : before ≡ map (placed_as seats) own_before
   placed_is : placed ≡ placed_as seats own
 
+-- equal lists begin alike
 first_same : {A : Type 0} (x y : A) (xs ys : List A) → x ∷ xs ≡ y ∷ ys → x ≡ y
 first_same x y xs ys is = cc
 
+-- and go on alike
 rest_same : {A : Type 0} (x y : A) (xs ys : List A) → x ∷ xs ≡ y ∷ ys → xs ≡ ys
 rest_same x y xs ys is = cc
 
+-- each cut of the mapped list is one of the list
 cut_so : (seats : ℕ) (order before later : List Placed) (placed : Placed) →
     map (placed_as seats) order ≡ before ++ placed ∷ later → IsCutSo seats order before later placed
 cut_so seats [] [] later placed is = absurd (omega (arith, ap length is))
@@ -159,36 +169,36 @@ cut_so seats (p ∷ order) (b ∷ before) later placed is =
       placed_is = next.placed_is;
     }
 
+-- counts of 0
+no_count : (n i : ℕ) → slice_index (replicate n 0) i ≡ 0
+no_count zero i = refl
+no_count (suc n) zero = refl
+no_count (suc n) (suc i) = no_count n i
+
 -- no more is told to have been seen
 count_trimmed : (seats others : ℕ) (counts : List ℕ) (seat : ℕ) →
     slice_index (take seats counts ++ replicate others 0) seat ≤ slice_index counts seat
-count_trimmed zero others counts seat = omega (arith, none others seat)
-  where
-    none : (n i : ℕ) → slice_index (replicate n 0) i ≡ 0
-    none zero i = refl
-    none (suc n) zero = refl
-    none (suc n) (suc i) = none n i
-count_trimmed (suc seats) others [] seat = omega (arith, none others seat)
-  where
-    none : (n i : ℕ) → slice_index (replicate n 0) i ≡ 0
-    none zero i = refl
-    none (suc n) zero = refl
-    none (suc n) (suc i) = none n i
+count_trimmed zero others counts seat = omega (arith, no_count others seat)
+count_trimmed (suc seats) others [] seat = omega (arith, no_count others seat)
 count_trimmed (suc seats) others (n ∷ counts) zero = omega arith
 count_trimmed (suc seats) others (n ∷ counts) (suc seat) = count_trimmed seats others counts seat
 
+-- so it is for what a call had seen
 seen_as : (seats : ℕ) (placed : Placed) (seat : ℕ) → seen_of (placed_as seats placed) seat ≤ seen_of placed seat
 seen_as seats (answered r) seat = count_trimmed seats (MOST_SEATS - seats) r.seen.counts seat
 seen_as seats (waiting u) seat = count_trimmed seats (MOST_SEATS - seats) u.seen.counts seat
 
+-- as it is told, a call has its seat
 seat_as : (seats : ℕ) (placed : Placed) → seat_of (placed_as seats placed) ≡ seat_of placed
 seat_as seats (answered r) = refl
 seat_as seats (waiting u) = refl
 
+-- and its number
 number_as : (seats : ℕ) (placed : Placed) → number_of (placed_as seats placed) ≡ number_of placed
 number_as seats (answered r) = refl
 number_as seats (waiting u) = refl
 
+-- a call that stands is told as standing
 stands_as : (seats : ℕ) (order : List Placed) (seat number : ℕ) → Stands order seat number →
     Stands (map (placed_as seats) order) seat number
 stands_as seats order seat number (k, placed, inside, is, (of, named)) = (
@@ -199,6 +209,7 @@ stands_as seats order seat number (k, placed, inside, is, (of, named)) = (
   (seat_as seats placed ∙ of, number_as seats placed ∙ named),
 )
 
+-- what stands before a call is told before it
 after_as : (seats : ℕ) (before : List Placed) (placed : Placed) → IsAfter before placed →
     IsAfter (map (placed_as seats) before) (placed_as seats placed)
 after_as seats before placed after = record {
@@ -211,6 +222,7 @@ after_as seats before placed after = record {
       (after.seen seat number inside least (omega (arith, seen, seen_as seats placed seat)));
 }
 
+-- an order that is after is told so
 pub after_told : (seats : ℕ) (order : List Placed) → After order → After (map (placed_as seats) order)
 after_told seats order after before later placed is =
     let so = cut_so seats order before later placed is in

@@ -84,6 +84,7 @@ stands_few before seat number few (k, placed, inside, is, (of, named)) =
     All-get_or (λ (p : Placed). number_of p < 2 ^ 32) before k placed inside few in
     omega (arith, there, ap number_of is, named)
 
+-- a call that stands behind others had seen few
 seen_few : (before : List Placed) (placed : Placed) → All (λ (p : Placed). number_of p < 2 ^ 32) before →
     IsAfter before placed → HasSeenFew placed
 seen_few before placed few after seat inside = elim (cases_lt 0 (seen_of placed seat)) [

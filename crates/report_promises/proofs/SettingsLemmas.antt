@@ -13,6 +13,7 @@ record AreAlike (one other : Settings) : Type 0 where
   items : one.items ≡ other.items
   depth : one.depth ≡ other.depth
 
+-- settings of one head have the same numbers
 alike : (head : Head) (one other : Settings) → IsSettingsOf head one → IsSettingsOf head other → AreAlike one other
 alike head one other is are = record {
   seats = is.seats_are ∙ sym are.seats_are;

@@ -28,6 +28,7 @@ TellsPacket packet asked (Found value) = Unit {0}
 TellsPacket packet asked Absent = Unit {0}
 TellsPacket packet asked (Sum total) = Unit {0}
 
+-- then the reply has the words that it has beside its call
 reply_told : (packet : ℕ) (asked : Call) (reply : Reply) → TellsPacket packet asked reply →
     told_reply_words packet asked reply ≡ reply_words asked reply
 reply_told packet asked New is = ap (λ (n : ℕ). codes "new" ∷ decimal n ∷ []) (sym is)
@@ -51,6 +52,7 @@ abbrev pub CanBeTold : (seats : ℕ) → Outcome → Type 0
 CanBeTold seats (Answered r) = TellsPacket r.packet r.call r.reply × (seats ≤ length r.seen.counts)
 CanBeTold seats (Refused packet asked full) = Unit {0}
 
+-- the line of a call that ended
 line_told : (seats seat : ℕ) (outcome : Outcome) → CanBeTold seats outcome →
     call_line seats (line_of seats (seat, outcome)) ≡ outcome_line seats seat outcome
 unfolding call_line outcome_line
@@ -63,6 +65,7 @@ line_told seats seat (Answered r) can =
     (after_told seats r.seen can.1)
 line_told seats seat (Refused packet asked full) can = refl
 
+-- the line of a call under way
 waiting_told : (seats : ℕ) (u : Pending) → seats ≤ length u.seen.counts →
     waiting_line seats (waiting_of seats u) ≡ pending_line seats u
 unfolding waiting_line pending_line
@@ -70,16 +73,19 @@ waiting_told seats u long =
     ap (λ (words : List (List ℕ)). line (codes "pending" ∷ (call_words u.packet u.seat u.call ++ words)))
     (after_told seats u.seen long)
 
+-- packets as words
 decimals : (ids : List CallId) → map decimal (packets_of ids) ≡ map (λ (id : CallId). decimal id.packet) ids
 decimals [] = refl
 decimals (id ∷ ids) = ap (λ words. decimal id.packet ∷ words) (decimals ids)
 
+-- a line of an order
 packets_told : (ids : List CallId) → packets_line (packets_of ids) ≡ order_line ids
 unfolding packets_line order_line
 packets_told ids = ap (λ (words : List (List ℕ)). line (codes "order" ∷ words)) (decimals ids)
 
 -- Kind by kind.
 
+-- the lines of calls that ended
 calls_told : (seats : ℕ) (lines : List (ℕ × Outcome)) →
     AllByRecursion (λ (one : ℕ × Outcome). CanBeTold seats one.1) lines →
     flat_map (entry_line seats) (map (λ one. call (line_of seats one)) lines)
@@ -94,6 +100,7 @@ calls_told seats (one ∷ lines) can =
 abbrev pub HasCounts : (seats : ℕ) → Pending → Type 0
 HasCounts seats u = seats ≤ length u.seen.counts
 
+-- the lines of calls under way
 waits_told : (seats : ℕ) (us : List Pending) → AllByRecursion (HasCounts seats) us →
     flat_map (entry_line seats) (map (λ u. pending (waiting_of seats u)) us) ≡ flat_map (pending_line seats) us
 waits_told seats [] can = refl
@@ -102,6 +109,7 @@ waits_told seats (u ∷ us) can =
     (waiting_told seats u can.0)
     ∙ ap (λ (text : List ℕ). pending_line seats u ++ text) (waits_told seats us can.1)
 
+-- the lines of an order
 orders_told : (seats : ℕ) (parts : List (List CallId)) →
     flat_map (entry_line seats) (map (λ ids. order (packets_of ids)) parts) ≡ flat_map order_line parts
 orders_told seats [] = refl
@@ -125,6 +133,7 @@ batch_told seats batch ends waits =
     ∙ ap (λ (text : List ℕ). flat_map (λ (one : ℕ × Outcome). outcome_line seats one.0 one.1) batch.outcomes
     ++ (flat_map (pending_line seats) batch.pending ++ text)) (orders_told seats (chunks_in batch.order))
 
+-- the lines of each batch
 batches_told : (seats : ℕ) (batches : List Batch) →
     AllByRecursion (λ (one : ℕ × Outcome). CanBeTold seats one.1) (flat_map (λ (b : Batch). b.outcomes) batches) →
     AllByRecursion (HasCounts seats) (flat_map (λ (b : Batch). b.pending) batches) →

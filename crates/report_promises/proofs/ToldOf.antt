@@ -29,10 +29,12 @@ use Rattle.report_told.specs.Told.{Entry, call, pending, order, Told}
 abbrev pub trimmed : (seats : ℕ) → Seen → Seen
 trimmed seats seen = record { counts = take seats seen.counts ++ replicate (MOST_SEATS - seats) 0 }
 
+-- how a call ended
 abbrev pub ended_of : (seats : ℕ) → Outcome → Ended
 ended_of seats (Answered r) = ended.Answered r.reply r.steps (trimmed seats r.seen)
 ended_of seats (Refused packet asked full) = ended.Refused full
 
+-- the line of a call that ended, with its seat
 abbrev pub line_of : (seats : ℕ) → ℕ × Outcome → CallLine
 line_of seats line = record {
   packet = (asked_in line.1).0;
@@ -41,9 +43,11 @@ line_of seats line = record {
   ended = ended_of seats line.1;
 }
 
+-- the line of a call under way
 abbrev pub waiting_of : (seats : ℕ) → Pending → PendingLine
 waiting_of seats u = record { packet = u.packet; seat = u.seat; call = u.call; seen = trimmed seats u.seen }
 
+-- an order's packets
 abbrev pub packets_of : List CallId → List ℕ
 packets_of ids = map (λ id. id.packet) ids
 
@@ -51,18 +55,23 @@ packets_of ids = map (λ id. id.packet) ids
 abbrev pub calls_in : (seats : ℕ) → Batch → List Entry
 calls_in seats batch = map (λ line. call (line_of seats line)) batch.outcomes
 
+-- those of its calls under way
 abbrev pub waits_in : (seats : ℕ) → Batch → List Entry
 waits_in seats batch = map (λ u. pending (waiting_of seats u)) batch.pending
 
+-- an order in parts of 16
 abbrev pub chunks_in : List CallId → List (List CallId)
 chunks_in ids = first_chunks 16 (chunk_count (length ids) 16) ids
 
+-- those of its order
 abbrev pub orders_in : Batch → List Entry
 orders_in batch = map (λ ids. order (packets_of ids)) (chunks_in batch.order)
 
+-- all lines of a batch
 abbrev pub entries_of : (seats : ℕ) → Batch → List Entry
 entries_of seats batch = calls_in seats batch ++ (waits_in seats batch ++ orders_in batch)
 
+-- what the text of the report tells
 abbrev pub told_of : Report → Told
 told_of report = record {
   head = report.head;
@@ -73,12 +82,15 @@ told_of report = record {
 
 -- ---- a call as it is told
 
+-- an answered call
 abbrev pub plain : (seats : ℕ) → Record → Record
 plain seats r = record r { seen = trimmed seats r.seen; place = 0 }
 
+-- a call under way
 abbrev pub begun : (seats : ℕ) → Pending → Pending
 begun seats u = record u { seen = trimmed seats u.seen }
 
+-- a call of an order
 abbrev pub placed_as : (seats : ℕ) → Placed → Placed
 placed_as seats (answered r) = answered (plain seats r)
 placed_as seats (waiting u) = waiting (begun seats u)
@@ -104,10 +116,12 @@ by_batch f of seats (batch ∷ batches) each =
     ∙ ap (λ xs. xs ++ flat_map f (flat_map (entries_of seats) batches)) each.0
     ∙ ap (λ ys. of batch ++ ys) (by_batch f of seats batches each.1)
 
--- what holds of all holds batch by batch
-pub each_batch : (P : Batch → Type 0) → ((batch : Batch) → P batch) → (batches : List Batch) → AllByRecursion P batches
-each_batch P always [] = tt
-each_batch P always (batch ∷ batches) = (always batch, each_batch P always batches)
+-- ---- what holds of each
+
+-- what holds of everything holds of each element
+pub always : {A : Type 0} (P : A → Type 0) → ((x : A) → P x) → (xs : List A) → AllByRecursion P xs
+always P holds [] = tt
+always P holds (x ∷ xs) = (holds x, always P holds xs)
 
 -- lists that are joined and then mapped
 pub map_joined : {A B C : Type 0} (made : B → C) (part : A → List B) (xs : List A) →
@@ -116,6 +130,18 @@ map_joined made part [] = refl
 map_joined made part (x ∷ xs) =
     map-append made (part x) (flat_map part xs) ∙ ap (λ ys. map made (part x) ++ ys) (map_joined made part xs)
 
+-- what holds of each image holds of the mapped list
+pub mapped : {A B : Type 0} (P : B → Type 0) (made : A → B) (xs : List A) → AllByRecursion (λ x. P (made x)) xs →
+    AllByRecursion P (map made xs)
+mapped P made [] all = tt
+mapped P made (x ∷ xs) all = (all.0, mapped P made xs all.1)
+
+-- what holds of two lists holds of both together
+pub joined_all : {A : Type 0} (P : A → Type 0) (xs ys : List A) → AllByRecursion P xs → AllByRecursion P ys →
+    AllByRecursion P (xs ++ ys)
+joined_all P [] ys one other = other
+joined_all P (x ∷ xs) ys one other = (one.0, joined_all P xs ys one.1 other)
+
 -- what holds of two lists, one behind the other, holds of both
 pub both_parts : {A : Type 0} (P : A → Type 0) (xs ys : List A) → AllByRecursion P (xs ++ ys) →
     AllByRecursion P xs × AllByRecursion P ys
@@ -123,11 +149,3 @@ both_parts P [] ys all = (tt, all)
 both_parts P (x ∷ xs) ys all =
     let later = both_parts P xs ys all.1 in
     ((all.0, later.0), later.1)
-
--- and of joined lists it holds part by part
-pub each_part : {A B : Type 0} (P : B → Type 0) (part : A → List B) (xs : List A) →
-    AllByRecursion P (flat_map part xs) → AllByRecursion (λ (x : A). AllByRecursion P (part x)) xs
-each_part P part [] all = tt
-each_part P part (x ∷ xs) all =
-    let both = both_parts P (part x) (flat_map part xs) all in
-    (both.0, each_part P part xs both.1)

@@ -18,6 +18,7 @@ use Rattle.report_promises.proofs.ToldOf.{begun, plain}
 abbrev pub record_packets : List Record → List ℕ
 record_packets records = map (λ r. r.packet) records
 
+-- and of calls under way
 abbrev pub waiting_packets : List Pending → List ℕ
 waiting_packets us = map (λ u. u.packet) us
 
@@ -51,6 +52,7 @@ order_packets records us =
     of_waits [] = refl
     of_waits (v ∷ vs) = ap (λ ps. v.packet ∷ ps) (of_waits vs)
 
+-- how often a packet has a call
 pub times_calls : (packet : ℕ) (records : List Record) (us : List Pending) →
     times packet (map packet_of (calls_of records us))
     ≡ times packet (record_packets records) + times packet (waiting_packets us)
@@ -82,11 +84,13 @@ calls_once lines us rise apart packet =
 
 -- Calls as they are told have their packets.
 
+-- answered calls
 pub plain_packets : (seats : ℕ) (records : List Record) →
     record_packets (map (plain seats) records) ≡ record_packets records
 plain_packets seats [] = refl
 plain_packets seats (r ∷ records) = ap (λ ps. r.packet ∷ ps) (plain_packets seats records)
 
+-- and updates under way
 pub begun_updates : (seats : ℕ) (us : List Pending) →
     waiting_packets (filter (λ u. is_update u.call) (map (begun seats) us))
     ≡ waiting_packets (filter (λ u. is_update u.call) us)
@@ -111,6 +115,7 @@ pub record StandsSo (records : List Record) (us : List Pending) (order : List Pl
   pub known : times packet (map packet_of order)
       ≤ times packet (record_packets records) + times packet (waiting_packets (filter (λ u. is_update u.call) us))
 
+-- so often each packet stands, where no packet is of two calls
 pub stands_so : (records : List Record) (us : List Pending) (took : Pending → Bool) (order : List Placed) →
     ((u : Pending) → took u ≡ true → is_update u.call ≡ true) → Whole records (filter took us) order →
     (packet : ℕ) → times packet (map packet_of (calls_of records us)) ≤ 1 → StandsSo records us order packet
