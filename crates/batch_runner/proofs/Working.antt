@@ -1,10 +1,11 @@
 -- The workers of a table, as they are made and taken apart.
-use Rattle.std.proofs.Common.{◌≡◌, ℕ, zero, suc, ◌<◌, ◌+◌, ◌^◌, List, [], ◌∷◌, ◌++◌, length, map, take, drop, reverse, refl, sym, ap, ◌∙◌, subst, vec_len, Vec, Global, arith, append_assoc, append-nil}
+use Rattle.std.proofs.Common.{◌≡◌, ℕ, zero, suc, ◌<◌, ◌≤◌, ◌+◌, ◌^◌, List, [], ◌∷◌, ◌++◌, Some, length, map, take, drop, reverse, refl, sym, ap, ◌∙◌, subst, vec_len, Vec, Global, arith, append_assoc, append-nil}
 use Rattle.std.specs.Prelude.{All}
 use Rattle.std.specs.List.{AllZip}
 use Rattle.std.proofs.lemmas.List.{drop_all, reverse-append}
 use Rattle.std.proofs.Math.Seq.{take-length}
-use Rattle.std.proofs.lemmas.List.Elements.{All-nil, All-cons, All-head, All-tail}
+use Rattle.std.proofs.lemmas.List.Elements.{All-nil, All-cons, All-head, All-tail, length_all_zip}
+use Rattle.std.proofs.lemmas.Option.{same_Some}
 use Rattle.step_counts.specs.declared.rows.SeatRows.{SeatRows}
 use Rattle.step_counts.specs.StepCounts.{need_of}
 use Rattle.plain_map.specs.declared.calls.Call.{Call}
@@ -12,13 +13,15 @@ use Rattle.plain_map.specs.declared.records.Record.{Record}
 use Rattle.plain_map.specs.Serving.{IsAskable}
 use Rattle.word_rows.specs.Shape.{sizes_of}
 use Rattle.core_model.specs.Setup.{settings_of}
+use Rattle.shared_table.specs.SeatValues.{SeatValue}
 use Rattle.shared_table.specs.declared.caller.Caller.{Caller}
-use Rattle.shared_table.specs.SeatValues.{SeatValue, account_of}
 use Rattle.shared_table.specs.Values.{IsSame, TableValue, new_seat, new_seats}
 use Rattle.trace_share.specs.declared.outcome.Outcome.{Outcome}
-use Rattle.trace_share.specs.Outcomes.{RefusedByRoom, records_in}
+use Rattle.trace_share.specs.declared.workers.Worker.{Worker}
+use Rattle.trace_share.specs.Outcomes.{ComesTo, RefusedByRoom, records_in}
 use Rattle.trace_share.specs.Work.{IsReady, IsDone}
-use Rattle.batch_runner.specs.Seats.{AreFresh, AreThrough, HaveMade, IsFresh, IsThrough, SeatWorker}
+use Rattle.batch_runner.specs.declared.workers.SeatWorker.{SeatWorker}
+use Rattle.batch_runner.specs.Seats.{AreFresh, AreThrough, HasMade, HasWorked, HaveMade, IsFresh, IsThrough, MayWork, answered_by, needed_by, ranges_of, spent_by}
 
 -- ---- new seats
 
@@ -45,21 +48,39 @@ new_end t n (y ∷ ys) x (suc m) e =
 
 -- ---- workers
 
--- what a worker's server has answered and published, its ranges, what an update may need, and how it stays the same
+-- what the caller that a seat becomes has answered and published, its ranges, what an update may need, and how it stays
+-- the same
 abbrev pub answered : Caller → List Record
-answered s = (account_of s.seat).records
+answered s = answered_by s.seat
 
 abbrev pub spent : Caller → List SeatRows
-spent s = (account_of s.seat).spent
+spent s = spent_by s.seat
 
 abbrev pub rows : Caller → SeatRows
-rows s = sizes_of s.seat.holding.setup.shape s.seat.holding.seat
+rows s = ranges_of s.seat
 
 abbrev pub need : Caller → SeatRows
-need s = need_of (settings_of s.seat.holding.setup)
+need s = needed_by s.seat
 
 abbrev pub stays : Caller → Caller → Type 0
 stays s s' = IsSame s.seat s'.seat × (s'.directory.now ≡ s.directory.now)
+
+-- what came of calls that a caller was asked came of its seat's
+pub by_seat : (calls : List (ℕ × Call)) (log : List Outcome) (was now : Caller) →
+    ComesTo answered spent rows need stays calls log was now →
+    ComesTo answered_by spent_by ranges_of needed_by IsSame calls log was.seat now.seat
+by_seat calls log was now c = record {
+  asked = c.asked;
+  answered_are = c.answered_are;
+  numbered = c.numbered;
+  used = c.used;
+  each_used = c.each_used;
+  spent_are = c.spent_are;
+  refused = c.refused;
+  same_rows = c.same_rows;
+  same_need = c.same_need;
+  same = c.same.0;
+}
 
 -- a share of calls that may be asked, no more than can be counted
 abbrev pub IsShort : List (ℕ × Call) → Type 0
@@ -79,19 +100,22 @@ module _ {K : Type 0} (holds : K → List Outcome → Type 0) (room : K → ℕ)
   many_fresh t n (share ∷ shares) [] f = absurd f
   many_fresh t n (share ∷ shares) (w ∷ ws) f = ap suc (many_fresh t (suc n) shares ws f.1)
 
-  -- they are ready
+  -- they may work
   pub all_ready : (t : TableValue) (n : ℕ) (shares : List (List (ℕ × Call))) (ws : List (SeatWorker K)) →
-      All IsShort shares → AreFresh holds room t n shares ws → All (IsReady answered holds room) ws
-  all_ready t n [] [] short f = All-nil (IsReady answered holds room)
+      All IsShort shares → AreFresh holds room t n shares ws → All (MayWork holds room t) ws
+  all_ready t n [] [] short f = All-nil (MayWork holds room t)
   all_ready t n [] (w ∷ ws) short f = absurd f
   all_ready t n (share ∷ shares) [] short f = absurd f
   all_ready t n (share ∷ shares) (w ∷ ws) short f =
       let one = f.0 in
       let here = All-head IsShort share shares short in
-      let none : length (answered w.server) ≡ 0 = ap (λ (s : SeatValue). length (account_of s).records) one.seat in
+      let none : length (answered_by (new_seat t n)) ≡ 0 = refl in
       let long : vec_len w.calls ≡ length share = w.calls.ok.0 ∙ ap length one.calls_are in
-      All-cons (IsReady answered holds room) w ws
+      All-cons (MayWork holds room t) w ws
       (record {
+        own = new_seat t n;
+        seat = one.seat;
+        of = record { table = refl; setup = refl };
         none = one.none;
         room_left = one.room_left;
         askable = subst (All (λ (call : ℕ × Call). IsAskable call.1)) (sym one.calls_are) here.0;
@@ -99,35 +123,72 @@ module _ {K : Type 0} (holds : K → List Outcome → Type 0) (room : K → ℕ)
       })
       (all_ready t (suc n) shares ws (All-tail IsShort share shares short) f.1)
 
-  -- one that is done has made its calls
+  -- the worker that a seat becomes is ready
+  pub ready_there : (t : TableValue) (w : SeatWorker K) (v : Worker Caller K) → (may : MayWork holds room t w) →
+      v.server.seat ≡ may.own → v.calls ≡ w.calls → v.kept ≡ w.kept → IsReady answered holds room v
+  ready_there t w v may seat calls kept = record {
+    none = subst (λ (k : K). holds k []) (sym kept) may.none;
+    room_left = subst (λ (k : K). vec_len v.calls ≤ room k) (sym kept)
+        (subst (λ (c : Vec (ℕ × Call) Global). vec_len c ≤ room w.kept) (sym calls) may.room_left);
+    askable = subst (λ (c : Vec (ℕ × Call) Global). All (λ (call : ℕ × Call). IsAskable call.1) c.items) (sym calls)
+        may.askable;
+    countable = subst (λ (s : SeatValue). length (answered_by s) + vec_len v.calls < 2 ^ 32) (sym seat)
+        (subst (λ (c : Vec (ℕ × Call) Global). length (answered_by may.own) + vec_len c < 2 ^ 32) (sym calls)
+        may.countable);
+  }
+
+  -- and when it is done, so has the seat
+  pub worked_there : (w x : SeatWorker K) (v u : Worker Caller K) (own after : SeatValue) → w.seat ≡ Some own →
+      v.server.seat ≡ own → v.calls ≡ w.calls → u.server.seat ≡ after → x.seat ≡ Some after → x.kept ≡ u.kept →
+      IsDone answered spent rows need stays holds v u → HasWorked holds w x
+  worked_there w x v u own after had seat calls seat_then has kept d = record {
+    before = own;
+    after = after;
+    had = had;
+    has = has;
+    log = d.log;
+    kept = subst (λ (k : K). holds k d.log) (sym kept) d.kept;
+    came_to = subst (λ (b : SeatValue).
+        ComesTo answered_by spent_by ranges_of needed_by IsSame w.calls.items d.log own b) seat_then
+        (subst (λ (a : SeatValue).
+        ComesTo answered_by spent_by ranges_of needed_by IsSame w.calls.items d.log a u.server.seat) seat
+        (subst (λ (c : Vec (ℕ × Call) Global).
+        ComesTo answered_by spent_by ranges_of needed_by IsSame c.items d.log v.server.seat u.server.seat) calls
+        (by_seat v.calls.items d.log v.server u.server d.came_to)));
+  }
+
+  -- one that has worked has made its calls
   made_by : (t : TableValue) (n : ℕ) (share : List (ℕ × Call)) (w v : SeatWorker K) → IsFresh holds room t n share w →
-      IsDone answered spent rows need stays holds w v → IsThrough holds t n share v
+      HasWorked holds w v → IsThrough holds t n share v
   made_by t n share w v f d =
       let c = d.came_to in
-      let was : w.server.seat ≡ new_seat t n = f.seat in
-      let used_is : c.used ≡ (account_of v.server.seat).spent =
-      sym (c.spent_are ∙ ap (λ (s : SeatValue). (account_of s).spent ++ c.used) was) in (
-        d.log,
-        record {
+      let was : d.before ≡ new_seat t n = same_Some d.before (new_seat t n) (sym d.had ∙ f.seat) in
+      let used_is : c.used ≡ spent_by d.after =
+      sym (c.spent_are ∙ ap (λ (s : SeatValue). spent_by s ++ c.used) was) in
+      record {
+        log = d.log;
+        own = d.after;
+        seat = d.has;
+        made = record {
           of = record {
-            table = c.same.0.table ∙ ap (λ (s : SeatValue). s.table_id) was;
-            setup = c.same.0.setup ∙ ap (λ (s : SeatValue). s.holding.setup) was;
+            table = c.same.table ∙ ap (λ (s : SeatValue). s.table_id) was;
+            setup = c.same.setup ∙ ap (λ (s : SeatValue). s.holding.setup) was;
           };
-          number_is = c.same.0.number ∙ ap (λ (s : SeatValue). s.holding.seat) was;
+          number_is = c.same.number ∙ ap (λ (s : SeatValue). s.holding.seat) was;
           asked = c.asked ∙ f.calls_are;
-          records = c.answered_are ∙ ap (λ (s : SeatValue). (account_of s).records ++ records_in d.log) was;
+          records = c.answered_are ∙ ap (λ (s : SeatValue). answered_by s ++ records_in d.log) was;
           refused = subst (λ (used : List SeatRows). RefusedByRoom (sizes_of t.setup.shape n)
               (need_of (settings_of t.setup)) [] used d.log)
               used_is
               (subst (λ (s : SeatValue). RefusedByRoom (sizes_of s.holding.setup.shape s.holding.seat)
-              (need_of (settings_of s.holding.setup)) (account_of s).spent c.used d.log) was c.refused);
-        },
-        d.kept,
-      )
+              (need_of (settings_of s.holding.setup)) (spent_by s) c.used d.log) was c.refused);
+        };
+        kept = d.kept;
+      }
 
   -- so have all that are done
   pub all_through : (t : TableValue) (n : ℕ) (shares : List (List (ℕ × Call))) (ws vs : List (SeatWorker K)) →
-      AreFresh holds room t n shares ws → AllZip (IsDone answered spent rows need stays holds) ws vs →
+      AreFresh holds room t n shares ws → AllZip (HasWorked holds) ws vs →
       AreThrough holds t n shares vs
   all_through t n [] [] [] f z = tt
   all_through t n [] [] (v ∷ vs) f z = absurd z
@@ -224,26 +285,37 @@ module _ {K : Type 0} (holds : K → List Outcome → Type 0) where
 
   -- one more is
   pub made_more : (t : TableValue) (n m : ℕ) (all : List (List (ℕ × Call))) (ws now : List (SeatWorker K))
-      (w : SeatWorker K) (seats seats' : List SeatValue) (kept kept' : List K) → MadeFrom t m all ws seats kept →
-      ws ≡ now ++ w ∷ [] → n ≡ length now → m ≡ suc n → seats' ≡ seats ++ w.server.seat ∷ [] →
-      kept' ≡ kept ++ w.kept ∷ [] → MadeFrom t n all now seats' kept'
-  made_more t n m all ws now w seats seats' kept kept' from ws_is n_is m_is seats_are kept_are =
+      (w : SeatWorker K) (seat : SeatValue) (seats seats' : List SeatValue) (kept kept' : List K) →
+      MadeFrom t m all ws seats kept → ws ≡ now ++ w ∷ [] → n ≡ length now → m ≡ suc n → w.seat ≡ Some seat →
+      seats' ≡ seats ++ seat ∷ [] → kept' ≡ kept ++ w.kept ∷ [] → MadeFrom t n all now seats' kept'
+  made_more t n m all ws now w seat seats seats' kept kept' from ws_is n_is m_is seat_is seats_are kept_are =
       let r = through_end t 0 from.front now w (subst (AreThrough holds t 0 from.front) ws_is from.through) in
       let z : 0 + length now ≡ n = omega (arith, n_is) in
       let one = subst (λ (k : ℕ). IsThrough holds t k r.share w) z r.last in
+      let own : one.own ≡ seat = same_Some one.own seat (sym one.seat ∙ seat_is) in
       record {
         front = r.front;
         back = r.share ∷ from.back;
         cut = from.cut ∙ ap (λ (xs : List (List (ℕ × Call))). xs ++ from.back) r.cut
             ∙ append_assoc r.front (r.share ∷ []) from.back;
         through = r.others;
-        logs = one.0 ∷ from.logs;
-        made = subst (λ (x : List SeatValue). HaveMade t n (r.share ∷ from.back) x (one.0 ∷ from.logs))
-            (sym (ap reverse seats_are ∙ reverse_end seats w.server.seat))
-            (one.1, subst (λ (k : ℕ). HaveMade t k from.back (reverse seats) from.logs) m_is from.made);
-        held = subst (λ (x : List K). AllZip holds x (one.0 ∷ from.logs))
-            (sym (ap reverse kept_are ∙ reverse_end kept w.kept)) (one.2, from.held);
+        logs = one.log ∷ from.logs;
+        made = subst (λ (x : List SeatValue). HaveMade t n (r.share ∷ from.back) x (one.log ∷ from.logs))
+            (sym (ap reverse seats_are ∙ reverse_end seats seat)) (
+              subst (λ (s : SeatValue). HasMade t n r.share s one.log) own one.made,
+              subst (λ (k : ℕ). HaveMade t k from.back (reverse seats) from.logs) m_is from.made,
+            );
+        held = subst (λ (x : List K). AllZip holds x (one.log ∷ from.logs))
+            (sym (ap reverse kept_are ∙ reverse_end kept w.kept)) (one.kept, from.held);
       }
+
+  -- the last one that is left has a seat
+  pub seat_there : (t : TableValue) (n : ℕ) (all : List (List (ℕ × Call))) (ws now : List (SeatWorker K))
+      (w : SeatWorker K) (seats : List SeatValue) (kept : List K) → MadeFrom t n all ws seats kept →
+      ws ≡ now ++ w ∷ [] → (own : SeatValue) × (w.seat ≡ Some own)
+  seat_there t n all ws now w seats kept from ws_is =
+      let r = through_end t 0 from.front now w (subst (AreThrough holds t 0 from.front) ws_is from.through) in
+      (r.last.own, r.last.seat)
 
   -- then all are
   pub made_end : (t : TableValue) (all : List (List (ℕ × Call))) (ws : List (SeatWorker K)) (seats : List SeatValue)
@@ -285,3 +357,10 @@ whole_slice ws vs n is long =
     let n_is : n ≡ length vs = is ∙ sym long in
     ap (λ t. take n (vs ++ t)) none ∙ ap (take n) (append-nil vs)
     ∙ ap (λ (k : ℕ). take k vs) n_is ∙ take-length vs
+
+-- so what holds of a slice of it, element by element, holds of the `Vec`
+pub all_zip_slice : {A : Type 0} (R : A → A → Type 0) (slice ws vs : List A) (n : ℕ) → slice ≡ ws → n ≡ length ws →
+    AllZip R slice vs → AllZip R ws (take n (vs ++ drop (length vs) ws))
+all_zip_slice {A} R slice ws vs n same is zip =
+    let zip_there : AllZip R ws vs = subst (λ (us : List A). AllZip R us vs) same zip in
+    subst (AllZip R ws) (sym (whole_slice ws vs n is (sym (length_all_zip R ws vs zip_there)))) zip_there

@@ -1,6 +1,7 @@
 pub mod Dealt
 pub mod Served
 pub mod Seats
+pub mod Opened
 pub mod Printed
 pub mod Promises
 pub mod Told

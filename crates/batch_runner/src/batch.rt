@@ -1,6 +1,6 @@
 //! One batch.
 
-ghost use Rattle.std.specs.Prelude.{◌≡◌, ◌^◌, ◌<◌, ◌++◌, All, IfOk, List, OnErr, length, map};
+ghost use Rattle.std.specs.Prelude.{◌≡◌, ◌^◌, ◌<◌, ◌≤◌, ◌++◌, All, IfOk, List, OnErr, length, map, vec_len};
 ghost use Rattle.std.specs.List.{AllZip};
 ghost use Rattle.std.specs.Option.{ForSome};
 ghost use Rattle.plain_map.specs.Calls.{key_in};
@@ -11,12 +11,15 @@ ghost use Rattle.core_model.specs.Setup.{settings_of};
 ghost use Rattle.shared_table.specs.Values.{new_seats};
 ghost use Rattle.report_text.specs.Report.{batch_lines};
 ghost use Rattle.trace_share.specs.declared.outcome.Outcome.{Outcome as AnOutcome};
+ghost use Rattle.trace_share.specs.Work.{IsLogOf, room_in};
 ghost use Rattle.batch_rows.specs.Demands.{IsDemandOf};
 ghost use Rattle.batch_rows.specs.Depths.{IsTableFor};
 ghost use Rattle.batch_rows.specs.declared.rows.TheConstants.{CALL_LIMIT};
 ghost use Rattle.batch_runner.specs.Served.{CanOpen, IsServed, Served, rules_of, setup_in, shares_of};
 ghost use Rattle.batch_runner.specs.Printed.{lines_of};
 ghost use Rattle.batch_runner.specs.Dealt.{IsDealt};
+ghost use Rattle.batch_runner.specs.Opened.{IsOpened, IsWorked};
+ghost use Rattle.batch_runner.specs.Seats.{MayWork};
 ghost use Rattle.batch_runner.specs.Told.{CanGoOn, HasOutcomes, IsClosedBatch, IsOrderOf, IsToldBy};
 ghost use Rattle.batch_runner.specs.Totals.{IsTotalOf};
 
@@ -26,7 +29,7 @@ use crate::outcomes::{counts_of, outcomes_of};
 use crate::service::Service;
 use crate::text::put_lines;
 use crate::totals::{Totals, totals_in};
-use crate::workers::serve_shares;
+use crate::workers::{SeatWorker, take_apart, workers_of};
 use crate::workspace::Workspace;
 use batch_rows::{Demand, sizes_for};
 use edge_traits::Gate;
@@ -34,7 +37,25 @@ use plain_map::{Call, CallId, MOST_SEATS, OpenFault, Pair};
 use shared_table::{ClosedTable, Directory, Seat, order_laws};
 use std::alloc::{AllocError, Global};
 use std::thread::Threads;
-use trace_share::{Collector, Outcome};
+use trace_share::{Collector, Outcome, serve_on};
+
+/// What a batch is asked, and how it is served.
+#[derive(Clone, Copy)]
+pub struct Asked<'a> {
+    pub service: &'a Service,
+    /// The pairs that its table begins with.
+    pub first: &'a [Pair],
+    /// Each with the packet that it came from.
+    pub calls: &'a [(u32, Call)],
+}
+
+/// A batch whose table is open.
+#[derive(Drop)]
+pub struct OpenBatch<K> {
+    pub directory: Directory,
+    /// One for each seat, seat 0 first, with the calls that are dealt to it.
+    pub workers: Vec<SeatWorker<K>>,
+}
 
 /// What a batch came to.
 #[derive(Drop)]
@@ -61,14 +82,100 @@ pub struct Account {
     pub order: Vec<CallId>,
 }
 
-/// Opens a table with these pairs, lets the seats make the calls that are dealt to them, in threads of their own,
-/// closes it, and tells what it came to; appends the lines of the calls and of their one order. Before the caller's
-/// thread makes calls it does `beside` once; what this gave comes beside what the batch came to.
+/// Opens a table with the pairs of a batch whose calls are dealt already, and of which it is told what they ask of the
+/// table. The shares are those of the seats, seat 0 first. The only error is want of memory.
+///
+/// Then the workers may work on the table, each in a thread of its own, as `trace_share::serve_on` lets them.
+pub fn open_batch<K: Collector>(
+    alloc: Global,
+    asked: &Asked,
+    workspace: &mut Workspace,
+    shares: Vec<Vec<(u32, Call)>>,
+    demand: &Demand,
+) -> Result<OpenBatch<K>, AllocError>
+    requires given { ForSome asked.now.service.now.rows (AreBelow (2 ^ 32)) }
+    requires few { length asked.now.calls.now < CALL_LIMIT }
+    requires askable { All (λ call. IsAskable call.1) asked.now.calls.now }
+    requires opens { CanOpen (rules_of asked.now.service.now) asked.now.first.now }
+    requires shares { map (λ share. share.items) shares.items
+        ≡ shares_of asked.now.service.now asked.now.calls.now }
+    requires demand { IsDemandOf asked.now.calls.now (shares_of asked.now.service.now asked.now.calls.now)
+        demand.now }
+    ensures few { IfOk result (λ begun. vec_len begun.workers ≤ 8) }
+    ensures ready { IfOk result (λ begun. All (MayWork K.holds K.room begun.directory) begun.workers.items) }
+    ensures opened { IfOk result (λ begun. IsOpened K.holds K.room asked.now.service.now asked.now.first.now
+        asked.now.calls.now begun.directory begun.workers.items) }
+{
+    let Asked {
+        service,
+        first,
+        calls,
+    } = *asked;
+    let (directory, seats) = opened(alloc, service, workspace, first, calls, demand)?;
+    let workers = workers_of(alloc, &directory, seats, shares)?;
+    Ok(OpenBatch { directory, workers })
+}
+
+/// Closes the table of a batch whose workers have made their calls, and tells what it came to; appends the lines of the
+/// calls and of their one order.
+///
+/// `before` has how many calls each seat had answered before. Where there are several seats, the lines of the calls are
+/// written in a thread of their own while the order is made; where no thread can be made, the caller's does both. The
+/// only error is want of memory, after which the text is what it was. What is left can open the next batch.
+pub fn close_printed<R: Threads>(
+    rt: &R,
+    alloc: Global,
+    asked: &Asked,
+    workspace: &mut Workspace,
+    begun: OpenBatch<Vec<Outcome>>,
+    before: &[u32; MOST_SEATS],
+    out: &mut Vec<u8>,
+) -> Result<Batch, AllocError>
+    requires few { length asked.now.calls.now < CALL_LIMIT }
+    requires texts { All (λ call. HasText (key_in call.1)) asked.now.calls.now }
+    requires worked { IsWorked IsLogOf room_in asked.now.service.now asked.now.first.now asked.now.calls.now
+        begun.directory begun.workers.items }
+    ensures served { IfOk result (λ batch. (served : Served) × (served.first ≡ asked.now.first.now)
+        × (served.calls ≡ asked.now.calls.now) × IsServed asked.now.service.now served
+        × IsToldBy asked.now.service.now served batch × (out.new.items ≡ out.old.items
+        ++ batch_lines asked.now.service.now.settings.seats (lines_of asked.now.service.now before.now served))) }
+    ensures goes_on { IfOk result (CanGoOn asked.now.service.now asked.now.calls.now) }
+    ensures kept { OnErr result (out.new.items ≡ out.old.items) }
+{
+    let (closed, logs, batch) = logged_batch(alloc, asked, begun)?;
+    let service = asked.service;
+    let outcomes = outcomes_of(
+        alloc,
+        service.share,
+        service.settings.seats,
+        asked.calls,
+        &logs,
+    )?;
+    let start = out.len();
+    if let Err(failed) = put_lines(
+        rt,
+        alloc,
+        &mut workspace.tables,
+        &closed,
+        &logs,
+        service.settings.seats,
+        before,
+        &outcomes,
+        out,
+    ) {
+        out.truncate(start);
+        return Err(failed);
+    }
+    workspace.blank.keep(closed);
+    Ok(batch)
+}
+
+/// Serves a batch whose calls are dealt already, and appends its lines: opens its table, lets the seats make their calls,
+/// in threads of their own, and closes it. Before the caller's thread makes calls it does `beside` once; what this gave
+/// comes beside what the batch came to.
 ///
 /// `before` has how many calls each seat had answered before. The gate is passed before each call and told of each
-/// answer. Where there are several seats, the lines of the calls are written in a thread of their own while the order
-/// is made; where no thread can be made, the caller's does both. The only error is want of memory, after which the text
-/// is what it was. What is left can open the next batch.
+/// answer. The only error is want of memory, after which the text is what it was. What is left can open the next batch.
 pub fn print_batch<R: Threads + Sync, G: Gate + Sync, F: FnMut() -> A, A: Drop>(
     rt: &R,
     alloc: Global,
@@ -97,30 +204,28 @@ pub fn print_batch<R: Threads + Sync, G: Gate + Sync, F: FnMut() -> A, A: Drop>(
     ensures beside { IfOk result (λ done. F.step beside.old done.1 beside.new) }
     ensures kept { OnErr result (out.new.items ≡ out.old.items) }
 {
-    let (closed, logs, batch, made) = logged_batch(
-        rt, alloc, service, workspace, first, calls, dealt, gate, beside,
-    )?;
-    let outcomes = outcomes_of(alloc, service.share, service.settings.seats, calls, &logs)?;
-    let start = out.len();
-    if let Err(failed) = put_lines(
+    let Dealt { shares, demand } = dealt;
+    let asked = Asked {
+        service,
+        first,
+        calls,
+    };
+    let mut begun = open_batch(alloc, &asked, workspace, shares, &demand)?;
+    let made = serve_on(
         rt,
-        alloc,
-        &mut workspace.tables,
-        &closed,
-        &logs,
-        service.settings.seats,
-        before,
-        &outcomes,
-        out,
-    ) {
-        out.truncate(start);
-        return Err(failed);
-    }
-    workspace.blank.keep(closed);
+        &begun.directory,
+        begun.workers.as_mut_slice(),
+        gate,
+        beside,
+    );
+    let batch = close_printed(rt, alloc, &asked, workspace, begun, before, out)?;
     Ok((batch, made))
 }
 
-/// The same without lines. What each call came to, and the order, come beside what the batch came to.
+/// Serves a batch without lines: opens its table, lets the seats make the calls that are dealt to them, in threads of
+/// their own, and closes it. What each call came to, and the order, come beside what the batch came to.
+///
+/// The gate is passed before each call and told of each answer. The only error is want of memory.
 pub fn serve_batch<R: Threads + Sync, G: Gate + Sync>(
     rt: &R,
     alloc: Global,
@@ -140,18 +245,21 @@ pub fn serve_batch<R: Threads + Sync, G: Gate + Sync>(
         × IsOrderOf service.now served account.order.items) }
     ensures goes_on { IfOk result (λ account. CanGoOn service.now calls.now account.batch) }
 {
-    let dealt = deal_batch(alloc, service, calls)?;
-    let (closed, logs, batch, ()) = logged_batch(
-        rt,
-        alloc,
+    let asked = Asked {
         service,
-        workspace,
         first,
         calls,
-        dealt,
+    };
+    let Dealt { shares, demand } = deal_batch(alloc, service, calls)?;
+    let mut begun = open_batch::<Vec<Outcome>>(alloc, &asked, workspace, shares, &demand)?;
+    serve_on(
+        rt,
+        &begun.directory,
+        begun.workers.as_mut_slice(),
         gate,
         &mut || {},
-    )?;
+    );
+    let (closed, logs, batch) = logged_batch(alloc, &asked, begun)?;
     let order = order_in(alloc, &mut workspace.tables, &closed, &logs)?;
     workspace.blank.keep(closed);
     Ok(Account { batch, logs, order })
@@ -184,78 +292,71 @@ pub fn try_batch<R: Threads + Sync, G: Gate + Sync, F: FnMut() -> A, A: Drop>(
     ensures goes_on { IfOk result (λ done. CanGoOn service.now calls.now done.0) }
     ensures beside { IfOk result (λ done. F.step beside.old done.1 beside.new) }
 {
-    let (closed, totals, made) = close_batch::<R, Totals, G, F, A>(
-        rt, alloc, service, workspace, first, calls, shares, demand, gate, beside,
-    )?;
+    let asked = Asked {
+        service,
+        first,
+        calls,
+    };
+    let mut begun = open_batch::<Totals>(alloc, &asked, workspace, shares, demand)?;
+    let made = serve_on(
+        rt,
+        &begun.directory,
+        begun.workers.as_mut_slice(),
+        gate,
+        beside,
+    );
+    let (closed, totals) = close_batch::<Totals>(alloc, &asked, begun)?;
     let batch = told(alloc, service, first, calls, &closed, &totals)?;
     workspace.blank.keep(closed);
     Ok((batch, made))
 }
 
-// Serves a batch to its end, and keeps the log of each seat: the closed table, the logs, and what the batch came to;
-// with what was given beside.
-fn logged_batch<R: Threads + Sync, G: Gate + Sync, F: FnMut() -> A, A: Drop>(
-    rt: &R,
+// Closes a batch of which the log of each seat is kept: the closed table, the logs, and what the batch came to.
+fn logged_batch(
     alloc: Global,
-    service: &Service,
-    workspace: &mut Workspace,
-    first: &[Pair],
-    calls: &[(u32, Call)],
-    dealt: Dealt,
-    gate: &G,
-    beside: &mut F,
-) -> Result<(ClosedTable, Vec<Vec<Outcome>>, Batch, A), AllocError>
-    requires given { ForSome service.now.rows (AreBelow (2 ^ 32)) }
-    requires few { length calls.now < CALL_LIMIT }
-    requires askable { All (λ call. IsAskable call.1) calls.now }
-    requires opens { CanOpen (rules_of service.now) first.now }
-    requires dealt { IsDealt service.now calls.now dealt }
-    requires beside { F.pre beside.old }
-    ensures closed { IfOk result (λ done. IsClosedBatch service.now first.now calls.now done.0
-        (map (λ log. log.items) done.1.items)) }
-    ensures told { IfOk result (λ done. HasOutcomes service.now first.now calls.now
+    asked: &Asked,
+    begun: OpenBatch<Vec<Outcome>>,
+) -> Result<(ClosedTable, Vec<Vec<Outcome>>, Batch), AllocError>
+    requires few { length asked.now.calls.now < CALL_LIMIT }
+    requires worked { IsWorked IsLogOf room_in asked.now.service.now asked.now.first.now asked.now.calls.now
+        begun.directory begun.workers.items }
+    ensures closed { IfOk result (λ done. IsClosedBatch asked.now.service.now asked.now.first.now asked.now.calls.now
+        done.0 (map (λ log. log.items) done.1.items)) }
+    ensures told { IfOk result (λ done. HasOutcomes asked.now.service.now asked.now.first.now asked.now.calls.now
         (map (λ log. log.items) done.1.items) done.0 done.2) }
-    ensures beside { IfOk result (λ done. F.step beside.old done.3 beside.new) }
 {
-    let Dealt { shares, demand } = dealt;
-    let (closed, logs, made) = close_batch::<R, Vec<Outcome>, G, F, A>(
-        rt, alloc, service, workspace, first, calls, shares, &demand, gate, beside,
-    )?;
+    let (closed, logs) = close_batch::<Vec<Outcome>>(alloc, asked, begun)?;
     let totals = totals_in(alloc, &logs)?;
-    let batch = told(alloc, service, first, calls, &closed, &totals)?;
-    Ok((closed, logs, batch, made))
+    let batch = told(
+        alloc,
+        asked.service,
+        asked.first,
+        asked.calls,
+        &closed,
+        &totals,
+    )?;
+    Ok((closed, logs, batch))
 }
 
-// Opens the table, lets the seats make their shares of the calls, and closes it; with what was kept of each seat's
-// calls, in the order of the seats, and what this gave, which the caller's thread does before it makes calls.
-fn close_batch<R: Threads + Sync, K: Collector + Send, G: Gate + Sync, F: FnMut() -> A, A>(
-    rt: &R,
+// Closes the table of a batch whose workers have made their calls; with what was kept of each seat's calls, in the order
+// of the seats.
+fn close_batch<K: Collector>(
     alloc: Global,
-    service: &Service,
-    workspace: &mut Workspace,
-    first: &[Pair],
-    calls: &[(u32, Call)],
-    shares: Vec<Vec<(u32, Call)>>,
-    demand: &Demand,
-    gate: &G,
-    beside: &mut F,
-) -> Result<(ClosedTable, Vec<K>, A), AllocError>
-    requires given { ForSome service.now.rows (AreBelow (2 ^ 32)) }
-    requires few { length calls.now < CALL_LIMIT }
-    requires askable { All (λ call. IsAskable call.1) calls.now }
-    requires opens { CanOpen (rules_of service.now) first.now }
-    requires shares { map (λ share. share.items) shares.items ≡ shares_of service.now calls.now }
-    requires demand { IsDemandOf calls.now (shares_of service.now calls.now) demand.now }
-    requires beside { F.pre beside.old }
-    ensures served { IfOk result (λ done. (logs : List (List AnOutcome)) × AllZip K.holds done.1.items logs
-        × IsClosedBatch service.now first.now calls.now done.0 logs) }
-    ensures beside { IfOk result (λ done. F.step beside.old done.2 beside.new) }
+    asked: &Asked,
+    begun: OpenBatch<K>,
+) -> Result<(ClosedTable, Vec<K>), AllocError>
+    requires worked { IsWorked K.holds K.room asked.now.service.now asked.now.first.now asked.now.calls.now
+        begun.directory begun.workers.items }
+    ensures { IfOk result (λ done. (logs : List (List AnOutcome)) × AllZip K.holds done.1.items logs
+        × IsClosedBatch asked.now.service.now asked.now.first.now asked.now.calls.now done.0 logs) }
 {
-    let (directory, seats) = opened(alloc, service, workspace, first, calls, demand)?;
-    let (seats, kept, made) = serve_shares(rt, alloc, &directory, seats, shares, gate, beside)?;
+    let OpenBatch { directory, workers } = begun;
+    let mut kept = Vec::with_capacity(alloc, workers.len())?;
+    let mut seats = Vec::with_capacity(alloc, workers.len())?;
+    take_apart(&directory, workers, &mut seats, &mut kept);
     let closed = directory.close_in_place(seats);
     order_laws();
-    Ok((closed, kept, made))
+    Ok((closed, kept))
 }
 
 // What a batch came to whose table is closed, of which the totals of each seat's calls are told: there are outcomes of

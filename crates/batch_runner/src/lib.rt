@@ -13,12 +13,16 @@ mod totals;
 mod workers;
 mod workspace;
 
-pub use batch::{Account, Batch, print_batch, serve_batch, try_batch};
+pub use batch::{
+    Account, Asked, Batch, OpenBatch, close_printed, open_batch, print_batch, serve_batch,
+    try_batch,
+};
 pub use counts::go_on;
 pub use dealing::{Dealt, deal_batch};
 pub use laws::served_laws;
 pub use service::Service;
 pub use totals::{Replies, Totals};
+pub use workers::SeatWorker;
 pub use workspace::Workspace;
 
 #[cfg(test)]

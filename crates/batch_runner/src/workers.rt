@@ -1,63 +1,64 @@
 //! The seats of a table make the calls that are dealt to them.
 
-ghost use Rattle.std.specs.Prelude.{◌≡◌, ℕ, ◌^◌, ◌<◌, ◌≤◌, [], All, IfOk, List, map, vec_capacity, vec_len};
+ghost use Rattle.std.specs.Prelude.{◌≡◌, ℕ, ◌≤◌, [], All, IfOk, List, map, vec_capacity, vec_len};
 ghost use Rattle.std.specs.List.{AllZip};
 ghost use Rattle.plain_map.specs.declared.calls.Call.{Call as ACall};
-ghost use Rattle.plain_map.specs.Serving.{IsAskable};
 ghost use Rattle.shared_table.specs.Values.{new_seat, new_seats};
 ghost use Rattle.trace_share.specs.declared.outcome.Outcome.{Outcome as AnOutcome};
-ghost use Rattle.batch_runner.specs.Seats.{AreFresh, AreThrough, HaveMade, IsFresh};
+ghost use Rattle.batch_runner.specs.Seats.{AreFresh, AreThrough, HasWorked, HaveMade, IsFresh, MayWork};
 
 use edge_traits::Gate;
 use plain_map::Call;
 use shared_table::{Caller, Directory, Seat};
 use std::alloc::{AllocError, Global};
-use std::thread::Threads;
-use trace_share::{Collector, Worker, serve_beside};
+use std::mem;
+use trace_share::{Collector, Worker, Works, WorksOn};
 
-/// Each seat makes its share of the calls, in a thread of its own; the caller's does this first. Then the seats come
-/// back, in the order of their numbers, with what was kept of what each one's calls came to, and with what this gave.
-pub(crate) fn serve_shares<
-    R: Threads + Sync,
-    K: Collector + Send,
-    G: Gate + Sync,
-    F: FnMut() -> A,
-    A,
->(
-    rt: &R,
-    alloc: Global,
-    directory: &Directory,
-    seats: Vec<Seat>,
-    shares: Vec<Vec<(u32, Call)>>,
-    gate: &G,
-    beside: &mut F,
-) -> Result<(Vec<Seat>, Vec<K>, A), AllocError>
-    requires new { seats.items ≡ new_seats directory.now 0 (vec_len seats) }
-    requires as_many { vec_len seats ≡ vec_len shares }
-    requires few { vec_len seats ≤ 8 }
-    requires askable { All (λ share. All (λ call. IsAskable call.1) share.items) shares.items }
-    requires short { All (λ share. vec_len share < 2 ^ 32) shares.items }
-    requires beside { F.pre beside.old }
-    ensures served { IfOk result (λ done. (logs : List (List AnOutcome))
-        × HaveMade directory.now 0 (map (λ share. share.items) shares.items) done.0.items logs
-        × AllZip K.holds done.1.items logs) }
-    ensures beside { IfOk result (λ done. F.step beside.old done.2 beside.new) }
-{
-    let mut kept = Vec::with_capacity(alloc, seats.len())?;
-    let mut back = Vec::with_capacity(alloc, seats.len())?;
-    let mut workers = workers_of(alloc, directory, seats, shares)?;
-    let made = serve_beside(rt, workers.as_mut_slice(), gate, beside);
-    take_apart(directory, workers, &mut back, &mut kept);
-    Ok((back, kept, made))
+/// A seat of a table, with the calls that it is to make, and what is kept of how they ended.
+#[derive(Drop)]
+pub struct SeatWorker<K> {
+    /// `None` while it makes them.
+    pub seat: Option<Seat>,
+    /// Each with the packet that it came from.
+    pub calls: Vec<(u32, Call)>,
+    /// Takes one outcome for each call that is made, in order.
+    pub kept: K,
 }
 
-// A worker for each seat and its share, in the order of the seats.
-fn workers_of<'a, K: Collector>(
+impl<K: Collector> WorksOn<Directory> for SeatWorker<K> {
+    ghost ready = { MayWork K.holds K.room };
+
+    ghost done = { λ _ was now. HasWorked K.holds was now };
+
+    fn work_on<G: Gate>(&mut self, on: &Directory, seat: u32, gate: &G) {
+        let Some(own) = self.seat.take() else {
+            unreachable!()
+        };
+        let alloc = *self.calls.allocator();
+        let mut worker = Worker {
+            server: Caller::new(own, on),
+            calls: mem::replace(&mut self.calls, Vec::new(alloc)),
+            kept: mem::replace(&mut self.kept, K::empty(alloc)),
+        };
+        worker.work(seat, gate);
+        let Worker {
+            server,
+            calls,
+            kept,
+        } = worker;
+        self.seat = Some(server.into_seat());
+        self.calls = calls;
+        self.kept = kept;
+    }
+}
+
+// A worker for each seat of this directory and its share, in the order of the seats.
+pub(crate) fn workers_of<K: Collector>(
     alloc: Global,
-    directory: &'a Directory,
+    directory: &Directory,
     mut seats: Vec<Seat>,
     mut shares: Vec<Vec<(u32, Call)>>,
-) -> Result<Vec<Worker<Caller<'a>, K>>, AllocError>
+) -> Result<Vec<SeatWorker<K>>, AllocError>
     requires new { seats.items ≡ new_seats directory.now 0 (vec_len seats) }
     requires as_many { vec_len seats ≡ vec_len shares }
     ensures { IfOk result (λ workers.
@@ -75,42 +76,46 @@ fn workers_of<'a, K: Collector>(
     Ok(workers)
 }
 
-// A worker for one seat.
-fn worker_of<'a, K: Collector>(
+// A worker for one seat of this directory.
+fn worker_of<K: Collector>(
     alloc: Global,
-    directory: &'a Directory,
+    directory: &Directory,
     seat: Seat,
     calls: Vec<(u32, Call)>,
-) -> Result<Worker<Caller<'a>, K>, AllocError>
+) -> Result<SeatWorker<K>, AllocError>
     requires new { seat ≡ new_seat directory.now seat.holding.seat }
     ensures { IfOk result (IsFresh K.holds K.room directory.now seat.holding.seat calls.items) }
 {
-    match Worker::new(alloc, Caller::new(seat, directory), calls) {
-        Ok(worker) => Ok(worker),
-        Err((failed, _)) => Err(failed),
-    }
+    let kept = K::with_room(alloc, calls.len())?;
+    Ok(SeatWorker {
+        seat: Some(seat),
+        calls,
+        kept,
+    })
 }
 
 // The seats of workers that are done, and what was kept, in the order of the seats.
-fn take_apart<K: Collector>(
+pub(crate) fn take_apart<K: Collector>(
     directory: &Directory,
-    mut workers: Vec<Worker<Caller<'_>, K>>,
+    mut workers: Vec<SeatWorker<K>>,
     seats: &mut Vec<Seat>,
     kept: &mut Vec<K>,
 )
     requires seats { (seats.old.items ≡ []) × (vec_capacity seats.old ≡ vec_len workers) }
     requires kept { (kept.old.items ≡ []) × (vec_capacity kept.old ≡ vec_len workers) }
-    ensures { (shares : List (List (ℕ × ACall))) → AreThrough K.holds directory.now 0 shares workers.entry.items →
+    requires through { (shares : List (List (ℕ × ACall))) × AreThrough K.holds directory.now 0 shares workers.items }
+    ensures { (shares : List (List (ℕ × ACall))) → AreThrough K.holds directory.now 0 shares workers.items →
         (logs : List (List AnOutcome)) × HaveMade directory.now 0 shares seats.new.items logs
         × AllZip K.holds kept.new.items logs }
 {
     while let Some(worker) = workers.pop() {
-        let Worker {
-            server,
+        let SeatWorker {
+            seat,
             calls: _,
             kept: own,
         } = worker;
-        seats.push_reserved(server.into_seat());
+        let Some(seat) = seat else { unreachable!() };
+        seats.push_reserved(seat);
         kept.push_reserved(own);
     }
     seats.reverse();

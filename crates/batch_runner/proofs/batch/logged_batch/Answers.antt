@@ -4,25 +4,25 @@ use Rattle.batch_runner.proofs.Kept.{items_of, kept_closed, kept_totals}
 use Rattle.batch_runner.proofs.batch.logged_batch.Goals as goal
 
 pub told-requires-clause-closed : goal.told-requires-clause-closed
-told-requires-clause-closed g c =
+told-requires-clause-closed c =
     let logs : List (Vec Outcome Global) = c.in_ok-closed.logs.items in (
       items_of logs,
       kept_totals c.deref.result.now logs c.deref-2.result.now c.in_ok-totals.totals.items c.deref.ensures.value
           c.deref-2.ensures.value c.in_ok-totals.ensures,
-      kept_closed c.args.service.now c.args.first.now c.args.calls.now c.in_ok-closed.closed logs
-          c.in_ok-closed.ensures.served,
+      kept_closed c.args.asked.now.service.now c.args.asked.now.first.now c.args.asked.now.calls.now c.in_ok-closed.closed logs
+          c.in_ok-closed.ensures,
     )
 
 pub returns-clause-closed : goal.returns-clause-closed
-returns-clause-closed g c =
-    kept_closed c.args.service.now c.args.first.now c.args.calls.now c.in_ok-closed.closed c.in_ok-closed.logs.items
-    c.in_ok-closed.ensures.served
+returns-clause-closed c =
+    kept_closed c.args.asked.now.service.now c.args.asked.now.first.now c.args.asked.now.calls.now c.in_ok-closed.closed c.in_ok-closed.logs.items
+    c.in_ok-closed.ensures
 
 pub returns-clause-told : goal.returns-clause-told
-returns-clause-told g c =
+returns-clause-told c =
     let logs : List (Vec Outcome Global) = c.in_ok-closed.logs.items in
     c.in_ok-batch.ensures.told (items_of logs)
     (kept_totals c.deref.result.now logs c.deref-2.result.now c.in_ok-totals.totals.items c.deref.ensures.value
     c.deref-2.ensures.value c.in_ok-totals.ensures)
-    (kept_closed c.args.service.now c.args.first.now c.args.calls.now c.in_ok-closed.closed logs
-    c.in_ok-closed.ensures.served)
+    (kept_closed c.args.asked.now.service.now c.args.asked.now.first.now c.args.asked.now.calls.now c.in_ok-closed.closed logs
+    c.in_ok-closed.ensures)

@@ -1,16 +1,43 @@
-use Rattle.std.proofs.Common.{◌≡◌, List, [], Vec, Global, map, refl, sym, ap, ◌∙◌, subst}
+use Rattle.std.proofs.Common.{◌≡◌, List, [], Vec, Global, length, map, refl, sym, ap, ◌∙◌, subst, arith}
+use Rattle.std.specs.Prelude.{All}
 use Rattle.plain_map.specs.declared.records.Record.{Record}
 use Rattle.plain_map.specs.History.{ids_of}
 use Rattle.core_model.specs.Order.{order_of}
 use Rattle.history_order.specs.Closing.{IsOfARun, closing_with}
 use Rattle.trace_share.specs.declared.outcome.Outcome.{Outcome}
 use Rattle.trace_share.specs.Outcomes.{records_in}
+use Rattle.trace_share.specs.Work.{IsLogOf, room_in}
+use Rattle.batch_runner.specs.Seats.{HasWorked, MayWork}
 use Rattle.batch_runner.proofs.Kept.{items_of}
 use Rattle.batch_runner.proofs.Telling.{told_on}
+use Rattle.batch_runner.proofs.Working.{all_zip_slice}
 use Rattle.batch_runner.proofs.batch.serve_batch.Goals as goal
 
 abbrev records_of : List (Vec Outcome Global) → List (List Record)
 records_of logs = map records_in (items_of logs)
+
+pub serve_on-requires-clause-few : goal.serve_on-requires-clause-few
+serve_on-requires-clause-few g c κs within =
+    omega (
+      arith,
+      ap length c.as_mut_slice.ensures.value,
+      c.in_ok-begun.begun.workers.ok.0,
+      c.in_ok-begun.ensures.few,
+    )
+
+pub serve_on-requires-clause-ready : goal.serve_on-requires-clause-ready
+serve_on-requires-clause-ready g c κs within =
+    subst (All (MayWork IsLogOf room_in c.in_ok-begun.begun.directory)) (sym c.as_mut_slice.ensures.value)
+    c.in_ok-begun.ensures.ready
+
+pub logged_batch-requires-clause-worked : goal.logged_batch-requires-clause-worked
+logged_batch-requires-clause-worked g c = (
+  c.in_ok-begun.begun.workers.items,
+  c.in_ok-begun.ensures.opened,
+  all_zip_slice (HasWorked IsLogOf) c.as_mut_slice.result.now c.in_ok-begun.begun.workers.items
+      c.serve_on.new.workers _ c.as_mut_slice.ensures.value c.in_ok-begun.begun.workers.ok.0
+      c.serve_on.ensures.done,
+)
 
 pub order_in-requires : goal.order_in-requires
 order_in-requires g c =

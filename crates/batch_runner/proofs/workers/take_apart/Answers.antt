@@ -2,8 +2,9 @@ use Rattle.std.proofs.Common.{◌≡◌, ℕ, suc, List, [], ◌∷◌, ◌+◌,
 use Rattle.std.specs.List.{AllZip}
 use Rattle.shared_table.specs.SeatValues.{SeatValue}
 use Rattle.shared_table.specs.Values.{TableValue}
-use Rattle.batch_runner.specs.Seats.{HaveMade, SeatWorker}
-use Rattle.batch_runner.proofs.Working.{MadeFrom, made_end, made_more, made_none}
+use Rattle.batch_runner.specs.declared.workers.SeatWorker.{SeatWorker}
+use Rattle.batch_runner.specs.Seats.{HaveMade}
+use Rattle.batch_runner.proofs.Working.{MadeFrom, made_end, made_more, made_none, seat_there}
 use Rattle.batch_runner.proofs.workers.take_apart.Goals as goal
 
 pub loop-worker-init : goal.loop-worker-init
@@ -26,6 +27,15 @@ loop-worker-init g c =
       kept_room = c.requires.kept.1;
     }
 
+-- each worker that is left has a seat
+pub unreachable-requires : goal.unreachable-requires
+unreachable-requires g c =
+    let through = c.requires.through in
+    let has = seat_there g.K.Collector.holds c.args.directory.now (vec_len c.loop-worker.workers) through.0
+    c.loop-worker.workers.items c.pop.new.self.items c.in-Some.worker c.loop-worker.seats.items
+    c.loop-worker.kept.items (c.loop-worker.invariant.made through.0 through.1) c.in-Some.ensures.items in
+    c.in_default-seat.not-Some has.0 has.1
+
 pub loop-worker-preserved : goal.loop-worker-preserved
 loop-worker-preserved g c =
     let d : TableValue = c.args.directory.now in
@@ -39,10 +49,10 @@ loop-worker-preserved g c =
     record {
       made = λ shares through.
           made_more g.K.Collector.holds d n (vec_len c.loop-worker.workers) shares c.loop-worker.workers.items
-          c.pop.new.self.items w c.loop-worker.seats.items c.push_reserved.new.self.items c.loop-worker.kept.items
-          c.push_reserved-in-Some.new.self.items (was.made shares through) c.in-Some.ensures.items
-          c.pop.new.self.ok.0 m_is
-          (seats.items ∙ ap (λ (s : SeatValue). c.loop-worker.seats.items ++ s ∷ []) c.into_seat.ensures) kept.items;
+          c.pop.new.self.items w c.in-Some-seat.seat c.loop-worker.seats.items c.push_reserved.new.self.items
+          c.loop-worker.kept.items c.push_reserved-in-Some.new.self.items (was.made shares through)
+          c.in-Some.ensures.items c.pop.new.self.ok.0 m_is c.in-Some-seat.is
+          seats.items kept.items;
       seats_len = omega (arith, one, seats.len, was.seats_len);
       kept_len = omega (arith, kept.len, seats.len, was.kept_len);
       seats_room = seats.capacity ∙ was.seats_room;

@@ -3,7 +3,8 @@ use Rattle.std.proofs.lemmas.List.{map-append}
 use Rattle.plain_map.specs.declared.calls.Call.{Call}
 use Rattle.shared_table.specs.SeatValues.{SeatValue}
 use Rattle.shared_table.specs.Values.{TableValue, new_seat, new_seats}
-use Rattle.batch_runner.specs.Seats.{IsFresh, SeatWorker}
+use Rattle.batch_runner.specs.declared.workers.SeatWorker.{SeatWorker}
+use Rattle.batch_runner.specs.Seats.{IsFresh}
 use Rattle.batch_runner.proofs.Working.{fresh_more, new_end}
 use Rattle.batch_runner.proofs.workers.workers_of.Goals as goal
 
