@@ -1,6 +1,6 @@
 -- What calls came to.
 -- Source: this project's own.
-use Rattle.std.specs.Prelude.{◌≡◌, ℕ, ◌+◌, ◌<◌, max, Bool, true, false, List, length, count_by}
+use Rattle.std.specs.Prelude.{◌≡◌, ℕ, ◌+◌, ◌-◌, ◌^◌, ◌<◌, max, Bool, true, false, List, length, count_by}
 use Rattle.plain_map.specs.declared.calls.Reply.{Reply}
 use Rattle.plain_map.specs.declared.calls.Reply.TheVariants.{New, Old, NoRoom, Gone, Found, Absent, Sum}
 use Rattle.plain_map.specs.declared.calls.Call.{Call}
@@ -58,6 +58,10 @@ totals_of outcomes = record {
 -- these outcomes came to this
 abbrev pub IsTotalOf : Totals → List Outcome → Type 0
 IsTotalOf totals log = totals ≡ totals_of log
+
+-- how many more it can count
+abbrev pub room_of : Totals → ℕ
+room_of totals = 2 ^ 64 - 1 - totals.calls
 
 -- each is below this
 pub record AreFewer (limit : ℕ) (replies : Replies) : Type 0 where

@@ -17,17 +17,16 @@ ghost use Rattle.batch_rows.specs.Depths.{IsTableFor};
 ghost use Rattle.batch_rows.specs.declared.rows.TheConstants.{CALL_LIMIT};
 ghost use Rattle.batch_runner.specs.Served.{CanOpen, IsServed, Served, rules_of, setup_in, shares_of};
 ghost use Rattle.batch_runner.specs.Printed.{lines_of};
-ghost use Rattle.batch_runner.specs.Dealt.{IsDealt};
 ghost use Rattle.batch_runner.specs.Opened.{IsOpened, IsWorked};
 ghost use Rattle.batch_runner.specs.Seats.{MayWork};
 ghost use Rattle.batch_runner.specs.Told.{CanGoOn, HasOutcomes, IsClosedBatch, IsOrderOf, IsToldBy};
-ghost use Rattle.batch_runner.specs.Totals.{IsTotalOf};
+ghost use Rattle.batch_runner.specs.Totals.{IsTotalOf, room_of};
 
 use crate::dealing::{Dealt, deal_batch};
 use crate::ordering::order_in;
 use crate::outcomes::{counts_of, outcomes_of};
 use crate::service::Service;
-use crate::text::put_lines;
+use crate::text::{Printed, put_lines};
 use crate::totals::{Totals, totals_in};
 use crate::workers::{SeatWorker, take_apart, workers_of};
 use crate::workspace::Workspace;
@@ -152,17 +151,14 @@ pub fn close_printed<R: Threads>(
         &logs,
     )?;
     let start = out.len();
-    if let Err(failed) = put_lines(
-        rt,
-        alloc,
-        &mut workspace.tables,
-        &closed,
-        &logs,
-        service.settings.seats,
+    let printed = Printed {
+        closed: &closed,
+        logs: &logs,
+        seats: service.settings.seats,
         before,
-        &outcomes,
-        out,
-    ) {
+        outcomes: &outcomes,
+    };
+    if let Err(failed) = put_lines(rt, alloc, &mut workspace.tables, &printed, out) {
         out.truncate(start);
         return Err(failed);
     }
@@ -170,56 +166,33 @@ pub fn close_printed<R: Threads>(
     Ok(batch)
 }
 
-/// Serves a batch whose calls are dealt already, and appends its lines: opens its table, lets the seats make their calls,
-/// in threads of their own, and closes it. Before the caller's thread makes calls it does `beside` once; what this gave
-/// comes beside what the batch came to.
-///
-/// `before` has how many calls each seat had answered before. The gate is passed before each call and told of each
-/// answer. The only error is want of memory, after which the text is what it was. What is left can open the next batch.
-pub fn print_batch<R: Threads + Sync, G: Gate + Sync, F: FnMut() -> A, A: Drop>(
-    rt: &R,
+/// Closes the table of a batch whose workers have made their calls and kept no more than what these came to, and tells
+/// what the batch came to. The only error is want of memory. What is left can open the next batch.
+pub fn close_counted(
     alloc: Global,
-    service: &Service,
+    asked: &Asked,
     workspace: &mut Workspace,
-    first: &[Pair],
-    calls: &[(u32, Call)],
-    dealt: Dealt,
-    gate: &G,
-    before: &[u32; MOST_SEATS],
-    out: &mut Vec<u8>,
-    beside: &mut F,
-) -> Result<(Batch, A), AllocError>
-    requires given { ForSome service.now.rows (AreBelow (2 ^ 32)) }
-    requires few { length calls.now < CALL_LIMIT }
-    requires askable { All (λ call. IsAskable call.1) calls.now }
-    requires texts { All (λ call. HasText (key_in call.1)) calls.now }
-    requires opens { CanOpen (rules_of service.now) first.now }
-    requires dealt { IsDealt service.now calls.now dealt }
-    requires beside { F.pre beside.old }
-    ensures served { IfOk result (λ done. (served : Served) × (served.first ≡ first.now)
-        × (served.calls ≡ calls.now) × IsServed service.now served × IsToldBy service.now served done.0
-        × (out.new.items ≡ out.old.items
-        ++ batch_lines service.now.settings.seats (lines_of service.now before.now served))) }
-    ensures goes_on { IfOk result (λ done. CanGoOn service.now calls.now done.0) }
-    ensures beside { IfOk result (λ done. F.step beside.old done.1 beside.new) }
-    ensures kept { OnErr result (out.new.items ≡ out.old.items) }
+    begun: OpenBatch<Totals>,
+) -> Result<Batch, AllocError>
+    requires few { length asked.now.calls.now < CALL_LIMIT }
+    requires worked { IsWorked IsTotalOf room_of asked.now.service.now asked.now.first.now asked.now.calls.now
+        begun.directory begun.workers.items }
+    ensures served { IfOk result (λ batch. (served : Served) × (served.first ≡ asked.now.first.now)
+        × (served.calls ≡ asked.now.calls.now) × IsServed asked.now.service.now served
+        × IsToldBy asked.now.service.now served batch) }
+    ensures goes_on { IfOk result (CanGoOn asked.now.service.now asked.now.calls.now) }
 {
-    let Dealt { shares, demand } = dealt;
-    let asked = Asked {
-        service,
-        first,
-        calls,
-    };
-    let mut begun = open_batch(alloc, &asked, workspace, shares, &demand)?;
-    let made = serve_on(
-        rt,
-        &begun.directory,
-        begun.workers.as_mut_slice(),
-        gate,
-        beside,
-    );
-    let batch = close_printed(rt, alloc, &asked, workspace, begun, before, out)?;
-    Ok((batch, made))
+    let (closed, totals) = close_batch::<Totals>(alloc, asked, begun)?;
+    let batch = told(
+        alloc,
+        asked.service,
+        asked.first,
+        asked.calls,
+        &closed,
+        &totals,
+    )?;
+    workspace.blank.keep(closed);
+    Ok(batch)
 }
 
 /// Serves a batch without lines: opens its table, lets the seats make the calls that are dealt to them, in threads of
@@ -263,52 +236,6 @@ pub fn serve_batch<R: Threads + Sync, G: Gate + Sync>(
     let order = order_in(alloc, &mut workspace.tables, &closed, &logs)?;
     workspace.blank.keep(closed);
     Ok(Account { batch, logs, order })
-}
-
-/// The same without lines and order, where the calls are dealt already and it is told what they ask of the table. The
-/// shares are those of the seats, seat 0 first. Before the caller's thread makes calls it does this once; what this
-/// gave comes beside what the batch came to.
-pub fn try_batch<R: Threads + Sync, G: Gate + Sync, F: FnMut() -> A, A: Drop>(
-    rt: &R,
-    alloc: Global,
-    service: &Service,
-    workspace: &mut Workspace,
-    first: &[Pair],
-    calls: &[(u32, Call)],
-    shares: Vec<Vec<(u32, Call)>>,
-    demand: &Demand,
-    gate: &G,
-    beside: &mut F,
-) -> Result<(Batch, A), AllocError>
-    requires given { ForSome service.now.rows (AreBelow (2 ^ 32)) }
-    requires few { length calls.now < CALL_LIMIT }
-    requires askable { All (λ call. IsAskable call.1) calls.now }
-    requires opens { CanOpen (rules_of service.now) first.now }
-    requires shares { map (λ share. share.items) shares.items ≡ shares_of service.now calls.now }
-    requires demand { IsDemandOf calls.now (shares_of service.now calls.now) demand.now }
-    requires beside { F.pre beside.old }
-    ensures served { IfOk result (λ done. (served : Served) × (served.first ≡ first.now)
-        × (served.calls ≡ calls.now) × IsServed service.now served × IsToldBy service.now served done.0) }
-    ensures goes_on { IfOk result (λ done. CanGoOn service.now calls.now done.0) }
-    ensures beside { IfOk result (λ done. F.step beside.old done.1 beside.new) }
-{
-    let asked = Asked {
-        service,
-        first,
-        calls,
-    };
-    let mut begun = open_batch::<Totals>(alloc, &asked, workspace, shares, demand)?;
-    let made = serve_on(
-        rt,
-        &begun.directory,
-        begun.workers.as_mut_slice(),
-        gate,
-        beside,
-    );
-    let (closed, totals) = close_batch::<Totals>(alloc, &asked, begun)?;
-    let batch = told(alloc, service, first, calls, &closed, &totals)?;
-    workspace.blank.keep(closed);
-    Ok((batch, made))
 }
 
 // Closes a batch of which the log of each seat is kept: the closed table, the logs, and what the batch came to.

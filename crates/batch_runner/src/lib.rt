@@ -14,8 +14,7 @@ mod workers;
 mod workspace;
 
 pub use batch::{
-    Account, Asked, Batch, OpenBatch, close_printed, open_batch, print_batch, serve_batch,
-    try_batch,
+    Account, Asked, Batch, OpenBatch, close_counted, close_printed, open_batch, serve_batch,
 };
 pub use counts::go_on;
 pub use dealing::{Dealt, deal_batch};

@@ -15,14 +15,16 @@ mod crowds;
 mod meetings;
 mod rows;
 
-use crate::{Batch, Service, Workspace, deal_batch, go_on, print_batch};
+use crate::{
+    Asked, Batch, Dealt, Service, Workspace, close_printed, deal_batch, go_on, open_batch,
+};
 use edge_traits::OpenGate;
 use hash_bits::Hashing;
 use plain_map::{Call, Key, MOST_SEATS, Pair};
 use std::alloc::{AllocError, Global};
 use std::thread::Threads;
 use step_counts::Settings;
-use trace_share::Share;
+use trace_share::{Share, serve_on};
 
 // The flow between 10.0.0.1 at a port and 10.0.0.2 at port 80, over TCP. Its hash by ports begins with the port.
 pub(crate) fn key(port: u16) -> Key
@@ -120,21 +122,22 @@ pub(crate) fn put_batch<R: Threads + Sync>(
     ensures most { OnOk result (All (λ count. count ≤ most + 2 ^ 16) before.new) }
 {
     let calls = calls_of(alloc, frames)?;
-    let dealt = deal_batch(alloc, service, &calls)?;
+    let Dealt { shares, demand } = deal_batch(alloc, service, &calls)?;
     let mut workspace = Workspace::new(alloc);
-    let (batch, ()) = print_batch(
-        rt,
-        alloc,
+    let asked = Asked {
         service,
-        &mut workspace,
         first,
-        &calls,
-        dealt,
+        calls: &calls,
+    };
+    let mut begun = open_batch(alloc, &asked, &mut workspace, shares, &demand)?;
+    serve_on(
+        rt,
+        &begun.directory,
+        begun.workers.as_mut_slice(),
         &OpenGate,
-        before,
-        out,
         &mut || {},
-    )?;
+    );
+    let batch = close_printed(rt, alloc, &asked, &mut workspace, begun, before, out)?;
     go_on(before, &batch);
     Ok(batch)
 }

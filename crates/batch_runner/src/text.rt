@@ -19,8 +19,21 @@ use std::alloc::{AllocError, Global};
 use std::thread::{Threads, join_mut};
 use trace_share::Outcome;
 
-/// Appends the lines of the calls, before which the seats had answered so many calls, and of the order of these logs.
-/// After want of memory some may stand there.
+/// What the lines of a batch are written from.
+#[derive(Clone, Copy)]
+pub(crate) struct Printed<'a> {
+    pub closed: &'a ClosedTable,
+    /// What each seat's calls came to, seat 0 first.
+    pub logs: &'a [Vec<Outcome>],
+    /// How many seats there are.
+    pub seats: u32,
+    /// How many calls each seat had answered before.
+    pub before: &'a [u32; MOST_SEATS],
+    /// In the order of the packets, each with its seat.
+    pub outcomes: &'a [(u32, &'a Outcome)],
+}
+
+/// Appends the lines of the calls, and of the order of the logs. After want of memory some may stand there.
 ///
 /// Where there are several seats, a thread of its own writes the lines of the calls while this one makes the order. It
 /// asks for memory only where the text has no room left. For one seat a second thread costs more than it saves.
@@ -28,22 +41,28 @@ pub(crate) fn put_lines<R: Threads>(
     rt: &R,
     alloc: Global,
     tables: &mut Tables,
-    closed: &ClosedTable,
-    logs: &[Vec<Outcome>],
-    seats: u32,
-    before: &[u32; MOST_SEATS],
-    outcomes: &[(u32, &Outcome)],
+    printed: &Printed,
     out: &mut Vec<u8>,
 ) -> Result<(), AllocError>
-    requires run { IsOfARun closed.now.shape closed.now.words (map records_in (map (λ log. log.items) logs.now)) [] }
-    requires seats { seats ≤ 8 }
-    requires texts { All (λ o. HasText (key_in (call_in o.1.now))) outcomes.now }
+    requires run { IsOfARun printed.now.closed.now.shape printed.now.closed.now.words
+        (map records_in (map (λ log. log.items) printed.now.logs.now)) [] }
+    requires seats { printed.now.seats ≤ 8 }
+    requires texts { All (λ o. HasText (key_in (call_in o.1.now))) printed.now.outcomes.now }
     ensures appended { OnOk result (out.new.items ≡ out.old.items
-        ++ (flat_map (λ o. outcome_line seats o.0 (outcome_on before.now o.1.now)) outcomes.now
-        ++ order_lines (ids_of (order_of closed.now.shape
-        (closing_with closed.now.words (map records_in (map (λ log. log.items) logs.now)) []))))) }
+        ++ (flat_map (λ o. outcome_line printed.now.seats o.0 (outcome_on printed.now.before.now o.1.now))
+        printed.now.outcomes.now
+        ++ order_lines (ids_of (order_of printed.now.closed.now.shape
+        (closing_with printed.now.closed.now.words
+        (map records_in (map (λ log. log.items) printed.now.logs.now)) []))))) }
     ensures begun { OnErr result ((lines : List ℕ) × (out.new.items ≡ out.old.items ++ lines)) }
 {
+    let Printed {
+        closed,
+        logs,
+        seats,
+        before,
+        outcomes,
+    } = *printed;
     let (written, ordered) = if seats == 1 {
         (
             outcomes_text(out, seats, before, outcomes),

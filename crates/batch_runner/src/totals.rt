@@ -3,7 +3,7 @@
 ghost use Rattle.std.specs.Prelude.{◌≡◌, ◌+◌, ◌-◌, ◌^◌, ◌<◌, [], All, IfOk, List, ◌++◌, flat_map, length, map, vec_len};
 ghost use Rattle.std.specs.List.{AllZip};
 ghost use Rattle.trace_share.specs.declared.outcome.Outcome.{Outcome as AnOutcome};
-ghost use Rattle.batch_runner.specs.Totals.{AreFewer, IsTotalOf, totals_of, with_outcome, with_replies, with_reply};
+ghost use Rattle.batch_runner.specs.Totals.{AreFewer, IsTotalOf, room_of, totals_of, with_outcome, with_replies, with_reply};
 
 use plain_map::{Call, Reply};
 use std::alloc::{AllocError, Global};
@@ -110,7 +110,7 @@ impl Totals {
 impl Collector for Totals {
     ghost holds = { IsTotalOf };
 
-    ghost room = { λ kept. 2 ^ 64 - 1 - kept.calls };
+    ghost room = { room_of };
 
     fn empty(_alloc: Global) -> Totals {
         Totals::new()

@@ -3,10 +3,14 @@ use Rattle.std.proofs.Common.{◌≡◌, ◌≤◌, ℕ, ◌+◌, List, [], ◌�
 use Rattle.std.specs.List.{flat_map}
 use Rattle.std.specs.Prelude.{false}
 use Rattle.std.specs.Option.{ForSome}
+use Rattle.std.proofs.lemmas.List.Elements.{All-weaker}
+use Rattle.flow_keys.specs.FlowText.{HasText}
+use Rattle.plain_map.specs.Calls.{key_in}
 use Rattle.std.specs.Result.{OnOk}
 use Rattle.trace_share.specs.declared.deals.Share.{Share}
 use Rattle.trace_share.specs.Deal.{dealt}
 use Rattle.batch_rows.specs.Demands.{IsDemandOf}
+use Rattle.shared_table.specs.Values.{TableValue}
 use Rattle.batch_runner.specs.declared.dealing.Dealt.{Dealt}
 use Rattle.batch_runner.specs.Dealt.{IsDealt}
 use Rattle.plain_map.specs.declared.calls.Call.{Call}
@@ -19,10 +23,10 @@ use Rattle.command_line.specs.declared.plan.Plan.{Plan}
 use Rattle.trace_runner.specs.declared.pile.CallPile.{CallPile}
 use Rattle.trace_runner.specs.declared.serving.Serving.{Serving}
 use Rattle.trace_runner.specs.PacketCalls.{MakeCalls}
-use Rattle.trace_runner.specs.Progress.{HasServed}
-use Rattle.trace_runner.specs.Reading.{AreBetween, TakesCall}
+use Rattle.trace_runner.specs.Progress.{HasServed, HasTexts}
+use Rattle.trace_runner.specs.Reading.{AreBetween, IsBetween, TakesCall}
 use Rattle.trace_runner.specs.Served.{IsServiceOf, head_of, lines_so_far, run_report, tail_with}
-use Rattle.trace_runner.specs.Serving.{AreServedOf, HasDone, HoldsCalls, IsWholeReport, joined}
+use Rattle.trace_runner.specs.Serving.{AreServedOf, CallWorker, HasDone, HasOpened, HoldsCalls, IsWholeReport, joined}
 use Rattle.trace_runner.proofs.CallLemmas.{MakeCalls-more}
 use Rattle.trace_runner.proofs.PrintLemmas.{last_text, no_lines, section_of}
 
@@ -58,19 +62,26 @@ served_more (first ∷ batches) before served batch one many are is make between
       (omega (arith, is, length-append first (joined batches))) make between,
 )
 
+-- the keys of calls between two numbers have texts
+pub texts_between : (first last : ℕ) (calls : List (ℕ × Call)) → AreBetween first last calls → HasTexts calls
+texts_between first last calls between =
+    All-weaker (IsBetween first last) (λ (call : ℕ × Call). HasText (key_in call.1)) (λ (call : ℕ × Call) is. is.text)
+    calls between.each
+
 -- ---- the job
 
 -- so does a job's record of them
 pub done_more : (plan : Plan) (old new : Serving) (batches : List (List (List ℕ))) (put : List ℕ) (before : ℕ)
-    (packets : List (List ℕ)) (pile : CallPile) (one : Served) (text text_then : List ℕ) →
-    (done : HasDone old plan batches put) → old.packets ≡ before → HoldsCalls pile before packets →
-    one.calls ≡ pile.calls.items → new.service ≡ old.service → new.packets ≡ old.packets + pile.packets →
-    HasServed old.service new.progress (done.served ++ one ∷ []) →
+    (packets : List (List ℕ)) (t : TableValue) (workers : List CallWorker) (many : ℕ) (one : Served)
+    (text text_then : List ℕ) → (done : HasDone old plan batches put) → old.packets ≡ before →
+    HasOpened old t workers many before packets → one.calls ≡ old.calls.items → new.service ≡ old.service →
+    new.packets ≡ old.packets + many → HasServed old.service new.progress (done.served ++ one ∷ []) →
     text_then ≡ text ++ batch_lines old.service.settings.seats (lines_of old.service old.progress.before one) →
     (lines : List ℕ) × (text_then ≡ text ++ lines) × HasDone new plan (batches ++ packets ∷ []) (put ++ lines)
-done_more plan old new batches put before packets pile one text text_then done at holds calls service count has is =
+done_more plan old new batches put before packets t workers many one text text_then done at opened calls
+    service count has is =
     let lines : List ℕ = batch_lines old.service.settings.seats (lines_of old.service old.progress.before one) in
-    let many : before ≡ 0 + length (joined batches) = omega (arith, at, done.count) in
+    let behind : before ≡ 0 + length (joined batches) = omega (arith, at, done.count) in
     let same : (s : Service) → s ≡ old.service → put ++ lines ≡ lines_so_far plan s (done.served ++ one ∷ []) = λ s here.
     section_of plan old.service old.progress done.served one put [] lines done.asks done.has
     (append-nil put ∙ done.text) refl
@@ -81,14 +92,14 @@ done_more plan old new batches put before packets pile one text text_then done a
         served = done.served ++ one ∷ [];
         asks = subst (IsServiceOf plan) (sym service) done.asks;
         has = subst (λ (s : Service). HasServed s new.progress (done.served ++ one ∷ [])) (sym service) has;
-        of = served_more batches 0 done.served packets one before done.of many
-            (subst (MakeCalls (before + 1) packets) (sym calls) holds.make)
-            (subst (AreBetween before (before + length packets)) (sym calls) holds.between);
+        of = served_more batches 0 done.served packets one before done.of behind
+            (subst (MakeCalls (before + 1) packets) (sym calls) opened.make)
+            (subst (AreBetween before (before + length packets)) (sym calls) opened.between);
         count = omega (
           arith,
           count,
           done.count,
-          holds.count,
+          opened.count,
           ap length (joined-more batches packets),
           length-append (joined batches) packets,
         );

@@ -1,11 +1,17 @@
 -- `serve` as a job of the loop over batches: what a pile has, what was served, and what is printed of it.
-use Rattle.std.specs.Prelude.{◌≡◌, ◌≤◌, ℕ, ◌+◌, ◌^◌, List, [], ◌∷◌, length, flat_map}
+use Rattle.std.specs.Prelude.{◌≡◌, ◌≤◌, ℕ, ◌+◌, ◌^◌, List, [], ◌∷◌, Vec, length, flat_map}
 use Rattle.std.specs.Option.{ForSome}
+use Rattle.std.specs.declared.alloc.Global.{Global}
 use Rattle.word_rows.specs.Shape.{AreBelow}
 use Rattle.report_text.specs.declared.parts.Ending.{Ending}
 use Rattle.report_text.specs.Report.{report_of}
+use Rattle.shared_table.specs.Values.{TableValue}
+use Rattle.trace_share.specs.declared.outcome.Outcome.{Outcome}
+use Rattle.trace_share.specs.Work.{IsLogOf, room_in}
 use Rattle.batch_runner.specs.declared.service.Service.{Service}
+use Rattle.batch_runner.specs.declared.workers.SeatWorker.{SeatWorker}
 use Rattle.batch_runner.specs.Dealt.{IsDealt}
+use Rattle.batch_runner.specs.Opened.{IsOpened}
 use Rattle.batch_runner.specs.Served.{AreServed, Served}
 use Rattle.command_line.specs.declared.plan.Plan.{Plan}
 use Rattle.trace_runner.specs.declared.pile.CallPile.{CallPile}
@@ -73,3 +79,16 @@ pub record HasDone (job : Serving) (plan : Plan) (batches : List (List (List ℕ
   pub of : AreServedOf batches 0 served
   pub count : job.packets ≡ length (joined batches)
   pub text : put ≡ lines_so_far plan job.service served
+
+-- a worker that keeps what its calls came to, call by call
+abbrev pub CallWorker : Type 0
+CallWorker = SeatWorker (Vec Outcome Global)
+
+-- a table is open for the batch of these packets, so many, which stand behind so many others: their calls are the job's
+pub record HasOpened (job : Serving) (t : TableValue) (workers : List CallWorker) (many before : ℕ)
+    (packets : List (List ℕ)) : Type 0 where
+  pub count : many ≡ length packets
+  pub few : length packets ≤ 2048
+  pub make : MakeCalls (before + 1) packets job.calls.items
+  pub between : AreBetween before (before + length packets) job.calls.items
+  pub opens : IsOpened IsLogOf room_in job.service job.progress.pairs.items job.calls.items t workers

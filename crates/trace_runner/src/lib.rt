@@ -4,7 +4,6 @@
 mod checking;
 mod intake;
 mod laws;
-mod looping;
 mod making;
 mod pile;
 mod playing;

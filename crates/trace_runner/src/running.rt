@@ -19,6 +19,7 @@ use crate::serving::serve;
 use crate::status::Status;
 use crate::totals::count;
 use crate::trying::try_plan;
+use capture_loop::Means;
 use command_line::{Mode, Plan, WordsFault, read_words};
 use edge_traits::{Gate, Sink, Source};
 use pcapng_reader::one_input;
@@ -31,8 +32,9 @@ use std::thread::Threads;
 /// a time. The calls of these are served by seats in threads of their own, and their lines are put into the sink before
 /// more is read of the source. `play` reads a capture of up to `PLAY_LIMIT` packets, whose calls are made step by step,
 /// by one schedule, and puts the report at once. `make` puts a made capture, and `trial` serves it and puts how many
-/// calls had each reply. `totals` goes through a capture as `serve` does, and counts its packets by adders in threads. `check` reads a report, and puts the line of its verdict. The
-/// gate is passed before each call that is served and each add, and told of each answer.
+/// calls had each reply. `totals` goes through a capture as `serve` does, and counts its packets by adders in threads.
+/// `check` reads a report, and puts the line of its verdict. The gate is passed before each call that is served and each
+/// add, and told of each answer.
 pub fn run<R: Threads + Sync, S: Source, K: Sink, G: Gate + Sync>(
     rt: &R,
     alloc: Global,
@@ -119,7 +121,7 @@ pub fn run<R: Threads + Sync, S: Source, K: Sink, G: Gate + Sync>(
 {
     one_input();
     match read_words(alloc, words) {
-        Ok(plan) => run_plan(rt, alloc, &plan, source, sink, gate),
+        Ok(plan) => run_plan(&Means { rt, alloc, gate }, &plan, source, sink),
         Err(WordsFault::Usage) => Status::Usage,
         Err(WordsFault::Memory) => Status::Memory,
     }
@@ -127,12 +129,10 @@ pub fn run<R: Threads + Sync, S: Source, K: Sink, G: Gate + Sync>(
 
 /// Does what the plan says.
 fn run_plan<R: Threads + Sync, S: Source, K: Sink, G: Gate + Sync>(
-    rt: &R,
-    alloc: Global,
+    means: &Means<R, G>,
     plan: &Plan,
     source: &mut S,
     sink: &mut K,
-    gate: &G,
 ) -> Status
     requires { IsInRange plan.now }
     ensures headline { plan.now.mode ≡ Serve →
@@ -158,11 +158,11 @@ fn run_plan<R: Threads + Sync, S: Source, K: Sink, G: Gate + Sync>(
     ensures counted { (S.faults source.old ≤ S.faults source.new) × (K.faults sink.old ≤ K.faults sink.new) }
 {
     match plan.mode {
-        Mode::Serve => serve(rt, alloc, plan, source, sink, gate),
-        Mode::Play => play(alloc, plan, source, sink),
-        Mode::Make => make(alloc, plan, sink),
-        Mode::Trial => try_plan(rt, alloc, plan, sink, gate),
-        Mode::Check => check(alloc, source, sink),
-        Mode::Totals => count(rt, alloc, plan, source, sink, gate),
+        Mode::Serve => serve(means, plan, source, sink),
+        Mode::Play => play(means.alloc, plan, source, sink),
+        Mode::Make => make(means.alloc, plan, sink),
+        Mode::Trial => try_plan(means, plan, sink),
+        Mode::Check => check(means.alloc, source, sink),
+        Mode::Totals => count(means, plan, source, sink),
     }
 }

@@ -1,36 +1,44 @@
 //! Mode `serve`: a capture is read, served and printed batch by batch.
 
 ghost use Rattle.std.specs.Prelude.{◌≡◌, ◌≤◌, ◌<◌, ◌^◌, ◌+◌, ℕ, List, [], ◌∷◌, ◌++◌, All, Option, Ok, Some, false, true, length, map, IfOk, OnOk};
+ghost use Rattle.std.specs.List.{AllZip};
 ghost use Rattle.std.specs.Option.{ForSome};
 ghost use Rattle.edge_traits.specs.Edge.{Rose};
 ghost use Rattle.word_rows.specs.Shape.{AreBelow};
 ghost use Rattle.report_text.specs.Report.{IsEnding, head_line};
+ghost use Rattle.trace_share.specs.Work.{IsLogOf};
 ghost use Rattle.batch_runner.specs.Dealt.{IsDealt};
+ghost use Rattle.batch_runner.specs.Seats.{HasWorked};
+ghost use Rattle.capture_loop.specs.declared.job.TheConstants.{BATCH, PACKET_LIMIT};
 ghost use Rattle.capture_loop.specs.Leaves.{ReadsFailed as RunReads, WritesFailed as RunWrites};
 ghost use Rattle.capture_loop.specs.Looping.{OnNotPut};
 ghost use Rattle.command_line.specs.declared.plan.Plan.{Plan as APlan};
 ghost use Rattle.command_line.specs.Words.{IsInRange};
+ghost use Rattle.trace_runner.specs.Progress.{HasServed};
 ghost use Rattle.trace_runner.specs.Headline.{LeavesAll, ReadsFailed, WritesFailed, status_by};
 ghost use Rattle.trace_runner.specs.Served.{IsServiceOf, head_of};
-ghost use Rattle.trace_runner.specs.Serving.{HasDone, HoldsCalls, IsServing, IsWholeReport};
+ghost use Rattle.trace_runner.specs.Serving.{CallWorker, HasDone, HasOpened, IsLines, IsServing, IsWholeReport};
 
 use crate::laws::serving_laws;
-use crate::looping::run;
 use crate::pile::CallPile;
 use crate::printing::{head_of, put_sessions, tail_with};
 use crate::progress::Progress;
 use crate::status::Status;
-use batch_runner::{Dealt, Service, Workspace, deal_batch, served_laws};
-use capture_loop::{BATCH, Means, PACKET_LIMIT, Piles, Stop};
+use batch_runner::{
+    Asked, Dealt, OpenBatch, SeatWorker, Service, Workspace, close_printed, deal_batch, open_batch,
+    served_laws,
+};
+use capture_loop::{BATCH, Job, Means, Opened, PACKET_LIMIT, Piles, Stop, run_job};
 use command_line::Plan;
 use edge_traits::{Gate, Sink, Source};
-use plain_map::session_laws;
+use plain_map::{Call, session_laws};
 use report_text::{Ending, head_text, tail_text};
+use shared_table::Directory;
 use std::alloc::{AllocError, Global};
 use std::mem;
 use std::thread::Threads;
 use step_counts::Settings;
-use trace_share::Share;
+use trace_share::{Outcome, Share};
 
 /// Room for the lines of a batch: 2,048 of calls, of up to about 200 bytes each, and those of its order.
 const TEXT_ROOM: usize = 450_000;
@@ -43,22 +51,29 @@ pub(crate) struct Serving {
     pub progress: Progress,
     /// How many packets were served.
     pub packets: u32,
+    /// The calls of the batch that is served.
+    pub calls: Vec<(u32, Call)>,
 }
 
 impl Serving {
     /// None yet.
-    pub fn new(alloc: Global, service: Service) -> Serving
+    pub fn new(alloc: Global, service: Service) -> Result<Serving, AllocError>
         requires given { ForSome service.rows (AreBelow (2 ^ 32)) }
-        ensures going { IsServing result 0 }
-        ensures done { (plan : APlan) (text : List ℕ) → IsServiceOf plan service → text ≡ head_line (head_of false plan)
-            → HasDone result plan [] text }
+        ensures going { IfOk result (λ serving. IsServing serving 0) }
+        ensures done { IfOk result (λ serving. (plan : APlan) (text : List ℕ) → IsServiceOf plan service →
+            text ≡ head_line (head_of false plan) → HasDone serving plan [] text) }
+        ensures served { IfOk result (λ serving. HasServed service serving.progress []) }
+        ensures service { IfOk result (λ serving. serving.service ≡ service) }
+        ensures none { IfOk result (λ serving. serving.calls.items ≡ []) }
     {
-        Serving {
+        let calls = Vec::with_capacity(alloc, BATCH as usize)?;
+        Ok(Serving {
             service,
             workspace: Workspace::new(alloc),
             progress: Progress::new(alloc),
             packets: 0,
-        }
+            calls,
+        })
     }
 
     /// The pile's calls as they were dealt before, or else dealt now. The only error is want of memory.
@@ -77,63 +92,106 @@ impl Serving {
         }
         deal_batch(pile.alloc, &self.service, &pile.calls)
     }
+}
 
-    /// Serves the packets of one batch more, and appends their lines. Before the caller's thread serves it does this
-    /// once, and answers what this gave. The only error is want of memory.
-    pub fn serve<R: Threads + Sync, G: Gate + Sync, F: FnMut() -> A, A: Drop>(
+impl Job<Plan> for Serving {
+    ghost use Rattle.trace_runner.specs.ServingLaws.{done_begins, done_told};
+
+    type Pile = CallPile;
+
+    type Shared = Directory;
+
+    type Worker = SeatWorker<Vec<Outcome>>;
+
+    // How many packets the batch has.
+    type Kept = u32;
+
+    ghost lines = { IsLines };
+
+    ghost report = { IsWholeReport };
+
+    ghost going = { IsServing };
+
+    ghost done = { HasDone };
+
+    ghost opened = { HasOpened };
+
+    // The pile has the calls of the last batch then, which are no longer wanted.
+    fn open(
         &mut self,
-        means: &Means<R, G>,
+        alloc: Global,
         pile: &mut CallPile,
-        text: &mut Vec<u8>,
-        beside: &mut F,
-    ) -> Result<A, AllocError>
-        requires going { (before : ℕ) × (packets : List (List ℕ)) × IsServing self.old before
-            × HoldsCalls pile.old before packets × (length packets ≤ BATCH)
-            × (before + length packets ≤ PACKET_LIMIT) }
-        requires beside { F.pre beside.old }
-        ensures going { OnOk result ((before : ℕ) (packets : List (List ℕ)) → IsServing self.old before →
-            HoldsCalls pile.old before packets → IsServing self.new (before + length packets)) }
-        ensures served { OnOk result ((plan : APlan) (batches : List (List (List ℕ))) (put : List ℕ) (before : ℕ)
-            (packets : List (List ℕ)) → HasDone self.old plan batches put → IsServing self.old before →
-            HoldsCalls pile.old before packets → (lines : List ℕ) × (text.new.items ≡ text.old.items ++ lines)
-            × HasDone self.new plan (batches ++ packets ∷ []) (put ++ lines)) }
-        ensures beside { IfOk result (λ made. F.step beside.old made beside.new) }
-    {
-        let dealt = self.dealt_of(pile)?;
-        let made = self.progress.serve(
-            means.rt,
-            means.alloc,
-            &self.service,
-            &mut self.workspace,
-            &pile.calls,
-            dealt,
-            means.gate,
-            text,
-            beside,
-        )?;
-        self.packets += pile.packets;
-        Ok(made)
+    ) -> Result<Opened<Directory, SeatWorker<Vec<Outcome>>, u32>, AllocError> {
+        let Dealt { shares, demand } = self.dealt_of(pile)?;
+        mem::swap(&mut self.calls, &mut pile.calls);
+        let asked = Asked {
+            service: &self.service,
+            first: &self.progress.pairs,
+            calls: &self.calls,
+        };
+        let begun = open_batch(alloc, &asked, &mut self.workspace, shares, &demand)?;
+        Ok(Opened {
+            shared: begun.directory,
+            workers: begun.workers,
+            kept: pile.packets,
+        })
     }
 
-    /// Appends the last lines. The only error is want of memory.
-    pub fn finish(
-        &self,
-        packets: u32,
-        ending: &Ending,
+    fn close<R: Threads>(
+        &mut self,
+        rt: &R,
+        alloc: Global,
+        made: Opened<Directory, SeatWorker<Vec<Outcome>>, u32>,
         text: &mut Vec<u8>,
     ) -> Result<(), AllocError>
-        requires going { IsServing self.now packets }
-        requires ending { IsEnding ending.now }
-        ensures { OnOk result ((plan : APlan) (batches : List (List (List ℕ))) (put : List ℕ) →
-            HasDone self.now plan batches put → (rest : List ℕ) × (text.new.items ≡ text.old.items ++ rest)
-            × IsWholeReport plan batches ending.now (put ++ rest)) }
+        requires going { (started : List CallWorker) × (before : ℕ) × (packets : List (List ℕ))
+            × IsServing self.old before × HasOpened self.old made.shared started made.kept before packets
+            × AllZip (HasWorked IsLogOf) started made.workers.items × (length packets ≤ BATCH)
+            × (before + length packets ≤ PACKET_LIMIT) }
+        ensures going { OnOk result ((started : List CallWorker) (before : ℕ) (packets : List (List ℕ)) →
+            IsServing self.old before → HasOpened self.old made.shared started made.kept before packets →
+            AllZip (HasWorked IsLogOf) started made.workers.items → IsServing self.new (before + length packets)) }
+        ensures served { OnOk result ((plan : APlan) (batches : List (List (List ℕ))) (put : List ℕ)
+            (started : List CallWorker) (before : ℕ) (packets : List (List ℕ)) → HasDone self.old plan batches put →
+            IsServing self.old before → HasOpened self.old made.shared started made.kept before packets →
+            AllZip (HasWorked IsLogOf) started made.workers.items →
+            (lines : List ℕ) × (text.new.items ≡ text.old.items ++ lines)
+            × HasDone self.new plan (batches ++ packets ∷ []) (put ++ lines)) }
     {
+        let asked = Asked {
+            service: &self.service,
+            first: &self.progress.pairs,
+            calls: &self.calls,
+        };
+        let begun = OpenBatch {
+            directory: made.shared,
+            workers: made.workers,
+        };
+        let batch = close_printed(
+            rt,
+            alloc,
+            &asked,
+            &mut self.workspace,
+            begun,
+            &self.progress.before,
+            text,
+        )?;
+        self.progress.keep(&self.service, &self.calls, batch);
+        self.packets += made.kept;
+        Ok(())
+    }
+
+    fn finish(&self, packets: u32, ending: &Ending, text: &mut Vec<u8>) -> Result<(), AllocError> {
         served_laws();
         session_laws();
         put_sessions(text, &self.progress.pairs)?;
         let tail = tail_with(&self.service, &self.progress, packets, ending);
         tail_text(text, &tail)
     }
+
+    ghost told = { done_told };
+
+    ghost begins = { done_begins };
 }
 
 /// Whether both deal the same calls to the same seats.
@@ -157,12 +215,10 @@ fn is_same_share(one: Share, other: Share) -> bool
 
 /// Serves the source's packets as the plan says, and puts the report into the sink.
 pub(crate) fn serve<R: Threads + Sync, S: Source, K: Sink, G: Gate + Sync>(
-    rt: &R,
-    alloc: Global,
+    means: &Means<R, G>,
     plan: &Plan,
     source: &mut S,
     sink: &mut K,
-    gate: &G,
 ) -> Status
     requires { IsInRange plan.now }
     ensures leaves { LeavesAll plan.now (Rose (S.faults source.old) (S.faults source.new)) (S.left source.old)
@@ -174,7 +230,7 @@ pub(crate) fn serve<R: Threads + Sync, S: Source, K: Sink, G: Gate + Sync>(
     ensures no_usage { result ≡ Status.Usage → ⊥ }
     ensures counted { (S.faults source.old ≤ S.faults source.new) × (K.faults sink.old ≤ K.faults sink.new) }
 {
-    match serve_input(rt, alloc, plan, source, sink, gate) {
+    match serve_input(means, plan, source, sink) {
         Ok(ending) => Status::of_ending(&ending),
         Err(Stop::Memory) => Status::Memory,
         Err(Stop::NotPut) => Status::WriteFault,
@@ -183,12 +239,10 @@ pub(crate) fn serve<R: Threads + Sync, S: Source, K: Sink, G: Gate + Sync>(
 
 /// The same, up to the ending of the input. The text and the piles, which all batches use, are made before it is opened.
 fn serve_input<R: Threads + Sync, S: Source, K: Sink, G: Gate + Sync>(
-    rt: &R,
-    alloc: Global,
+    means: &Means<R, G>,
     plan: &Plan,
     source: &mut S,
     sink: &mut K,
-    gate: &G,
 ) -> Result<Ending, Stop>
     requires { IsInRange plan.now }
     ensures leaves { LeavesAll plan.now (Rose (S.faults source.old) (S.faults source.new)) (S.left source.old)
@@ -201,15 +255,15 @@ fn serve_input<R: Threads + Sync, S: Source, K: Sink, G: Gate + Sync>(
 {
     serving_laws();
     let service = service_of(plan);
+    let alloc = means.alloc;
     let mut text = Vec::with_capacity(alloc, TEXT_ROOM)?;
     head_text(&mut text, &head_of(false, plan))?;
     let mut piles = Piles {
         now: CallPile::new(alloc, service)?,
         next: CallPile::new(alloc, service)?,
     };
-    let mut serving = Serving::new(alloc, service);
-    let means = Means { rt, alloc, gate };
-    run(&means, &mut serving, &mut piles, source, &mut text, sink)
+    let mut serving = Serving::new(alloc, service)?;
+    run_job::<R, S, K, G, Plan, Serving>(means, &mut serving, &mut piles, source, &mut text, sink)
 }
 
 /// How the plan's calls are served.

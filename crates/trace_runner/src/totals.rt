@@ -10,18 +10,15 @@ use crate::status::Status;
 use capture_loop::{Means, Stop};
 use command_line::Plan;
 use edge_traits::{Gate, Sink, Source};
-use std::alloc::Global;
 use std::thread::Threads;
 use totals_runner::count_input;
 
 /// Counts the source's packets by as many adders as the plan has seats, and puts the report into the sink.
 pub(crate) fn count<R: Threads + Sync, S: Source, K: Sink, G: Gate + Sync>(
-    rt: &R,
-    alloc: Global,
+    means: &Means<R, G>,
     plan: &Plan,
     source: &mut S,
     sink: &mut K,
-    gate: &G,
 ) -> Status
     requires { IsInRange plan.now }
     ensures leaves { LeavesTotals plan.now (Rose (S.faults source.old) (S.faults source.new)) (S.left source.old)
@@ -33,8 +30,7 @@ pub(crate) fn count<R: Threads + Sync, S: Source, K: Sink, G: Gate + Sync>(
     ensures no_usage { result ≡ Status.Usage → ⊥ }
     ensures counted { (S.faults source.old ≤ S.faults source.new) × (K.faults sink.old ≤ K.faults sink.new) }
 {
-    let means = Means { rt, alloc, gate };
-    match count_input(&means, plan.seats, source, sink) {
+    match count_input(means, plan.seats, source, sink) {
         Ok(ending) => Status::of_ending(&ending),
         Err(Stop::Memory) => Status::Memory,
         Err(Stop::NotPut) => Status::WriteFault,

@@ -8,11 +8,11 @@ use Rattle.trace_runner.proofs.serving.serve_input.Goals as goal
 
 pub returns-clause-leaves : goal.returns-clause-leaves
 returns-clause-leaves g c =
-    leaves_all c.serving_laws.ensures c.args.plan.now (Rose (g.S.Source.faults c.args.source.now) (g.S.Source.faults c.run.new.source))
-    (g.S.Source.left c.args.source.now) (g.S.Source.left c.run.new.source) (g.K.Sink.put c.args.sink.now)
-    (g.K.Sink.put c.run.new.sink) c.run.result
-    (c.run.ensures.leaves c.args.plan.now
-    (c.new-serving.ensures.done c.args.plan.now c.head_text.new.out.items c.service_of-service.ensures.asks
+    leaves_all c.serving_laws.ensures c.args.plan.now (Rose (g.S.Source.faults c.args.source.now) (g.S.Source.faults c.run_job.new.source))
+    (g.S.Source.left c.args.source.now) (g.S.Source.left c.run_job.new.source) (g.K.Sink.put c.args.sink.now)
+    (g.K.Sink.put c.run_job.new.sink) c.run_job.result
+    (c.run_job.ensures.leaves c.args.plan.now
+    (c.in_ok-serving.ensures.done c.args.plan.now c.head_text.new.out.items c.service_of-service.ensures.asks
     (c.in_ok-head_text.ensures.appended
     ∙ ap (λ t. t ++ head_line c.head_of.result) c.in_ok-text.ensures.items ∙ ap head_line c.head_of.ensures)))
 
@@ -39,3 +39,9 @@ returns-in_err-new-2-clause-leaves g c =
     leaves_none c.args.plan.now (Rose (g.S.Source.faults c.args.source.now) (g.S.Source.faults c.args.source.now))
     (g.S.Source.left c.args.source.now) (g.S.Source.left c.args.source.now) (g.K.Sink.put c.args.sink.now)
     (g.K.Sink.put c.args.sink.now) c.from_residual-in_err-new-2.result c.from_residual-in_err-new-2.ensures (Keeps-same (g.K.Sink.put c.args.sink.now))
+
+pub returns-in_err-serving-clause-leaves : goal.returns-in_err-serving-clause-leaves
+returns-in_err-serving-clause-leaves g c =
+    leaves_none c.args.plan.now (Rose (g.S.Source.faults c.args.source.now) (g.S.Source.faults c.args.source.now))
+    (g.S.Source.left c.args.source.now) (g.S.Source.left c.args.source.now) (g.K.Sink.put c.args.sink.now)
+    (g.K.Sink.put c.args.sink.now) c.from_residual-in_err-serving.result c.from_residual-in_err-serving.ensures (Keeps-same (g.K.Sink.put c.args.sink.now))

@@ -6,7 +6,7 @@ use Rattle.report_text.specs.Report.{session_line, tail_lines}
 use Rattle.trace_runner.specs.Served.{tail_with}
 use Rattle.trace_runner.proofs.JobLemmas.{OnOk-weaker, done_whole}
 use Rattle.trace_runner.proofs.TextLemmas.{texts-left}
-use Rattle.trace_runner.proofs.serving.Serving.finish.Goals as goal
+use Rattle.trace_runner.proofs.serving.ServingJobPlan.finish.Goals as goal
 
 pub put_sessions-requires : goal.put_sessions-requires
 put_sessions-requires c =
