@@ -49,7 +49,8 @@ pub record IsWhole (text : List ℕ) (before after : Option (List ℕ)) : Type 0
 -- what was read of a source
 abbrev pub IsRead : Reading → (before after : Option (List ℕ)) → Type 0
 IsRead (Whole text) before after = IsWhole text.items before after
-IsRead reading.TooLong before after = Takes before after (λ taken. (TEXT_LIMIT < length taken) × (length taken ≤ TEXT_LIMIT + 1))
+IsRead reading.TooLong before after =
+    Takes before after (λ taken. (TEXT_LIMIT < length taken) × (length taken ≤ TEXT_LIMIT + 1))
 IsRead Failed before after = Unit {0}
 
 -- one fact where a read failed, and another where none did
@@ -68,8 +69,8 @@ pub record HasFound (found : Checked) (before after : Option (List ℕ)) : Type 
 
 -- ---- what a check leaves
 
--- Of a source with these bytes: the line of what was found is put; where a write failed a front of it; and nothing where
--- a read failed or memory ran out.
+-- Of a source with these bytes: the line of what was found is put; where a write failed a front of it; and nothing
+-- where a read failed or memory ran out.
 abbrev pub Leaves : List ℕ → (before after : Option (List ℕ)) → Result Checked Stop → Type 0
 Leaves bytes before after (Ok found) = IsChecked bytes found × Appends before after (line_of found)
 Leaves bytes before after (Err NotPut) =

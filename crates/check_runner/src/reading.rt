@@ -27,10 +27,11 @@ pub(crate) enum Reading {
 pub(crate) fn read_text<S: Source>(alloc: Global, source: &mut S) -> Result<Reading, AllocError>
     ensures read { IfOk result (λ reading. IsRead reading (S.left source.old) (S.left source.new)) }
     ensures few { Takes (S.left source.old) (S.left source.new) (λ taken. length taken ≤ TEXT_LIMIT + 1) }
-    ensures faults { IfOk result (λ reading.
-        (IfFailed reading (Rose (S.faults source.old) (S.faults source.new)) (S.faults source.old ≤ S.faults source.new))) }
+    ensures faults { IfOk result (λ reading. IfFailed reading (Rose (S.faults source.old) (S.faults source.new))
+        (S.faults source.old ≤ S.faults source.new)) }
     ensures counted { S.faults source.old ≤ S.faults source.new }
-    ensures failed { IfOk result (λ reading. IfFailed reading (S.failed source.new ≡ count_after (S.failed source.old) 1)
+    ensures failed { IfOk result (λ reading.
+        IfFailed reading (S.failed source.new ≡ count_after (S.failed source.old) 1)
         (S.failed source.new ≡ S.failed source.old)) }
     ensures none_failed { OnErr result (S.failed source.new ≡ S.failed source.old) }
 {

@@ -9,6 +9,7 @@ use Rattle.std.proofs.lemmas.List.Elements.{All-from_recursion, recursion_from_A
 use Rattle.std.proofs.lemmas.List.Sorted.{All-permutation}
 use Rattle.plain_map.specs.declared.records.Record.{Record}
 use Rattle.plain_map.specs.declared.records.Pending.{Pending}
+use Rattle.plain_map.specs.Places.{IsInKeyOrder}
 use Rattle.plain_map.specs.PlainObject.{InRange}
 use Rattle.report_text.specs.declared.parts.Head.{Head}
 use Rattle.report_told.specs.declared.told.Ended.{Ended}
@@ -248,6 +249,7 @@ has_facts kept sorted told is in_grammar same rises = record {
   head_is = is.head;
   bound_is = is.bound;
   pairs_are = is.pairs;
+  pairs_ordered = subst IsInKeyOrder (sym is.pairs) in_grammar.sessions.ordered;
   facts = facts_are kept told sorted.items is in_grammar same rises;
 }
 

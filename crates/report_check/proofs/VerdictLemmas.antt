@@ -1,10 +1,12 @@
 -- The verdict of a report.
-use Rattle.std.proofs.Common.{◌≡◌, ℕ, Result, Ok, Err, List, sym, ap, ◌∙◌, subst}
+use Rattle.std.proofs.Common.{◌≡◌, ℕ, Result, Ok, Err, List, sym, ◌∙◌, subst}
 use Rattle.std.specs.Prelude.{All, IfOk, ◌↔◌}
 use Rattle.std.specs.declared.alloc.AllocError.{AllocError}
 use Rattle.std.specs.FinMap.{empty}
+use Rattle.plain_map.specs.declared.rules.Rules.{Rules}
 use Rattle.plain_map.specs.PlainObject.{Sessions, pairs_of}
 use Rattle.plain_map.specs.History.{After, sessions_after}
+use Rattle.class_map.specs.Rows.{Holds}
 use Rattle.report_told.specs.Told.{Told}
 use Rattle.report_told.specs.declared.verdict.Verdict.{Verdict}
 use Rattle.report_told.specs.declared.verdict.Verdict.TheVariants as v
@@ -16,32 +18,31 @@ use Rattle.report_reading.specs.Kept.{IsKept}
 use Rattle.report_check.specs.Facts.{HasFacts}
 use Rattle.report_check.specs.Judged.{IsLongAt, Judges, LegalSo}
 
--- the sessions that the order leaves are those that the map holds
-sessions_are : (told : Told) (held : Sessions) → LegalSo told held →
-    pairs_of held ≡ pairs_of (sessions_after (rules_told told.head) empty (placed_told told))
-sessions_are told held legal = ap pairs_of legal.held_is
+-- the sessions that the order of a report leaves
+abbrev pub left_told : Told → Sessions
+left_told told = sessions_after (rules_told told.head) empty (placed_told told)
+
+-- the map holds just what the order leaves
+pub holds_left : (told : Told) (rules : Rules) (rows : List Sessions) → rules ≡ rules_told told.head →
+    LegalSo told rows → Holds rows rules (left_told told)
+holds_left told rules rows are legal = subst (λ (rs : Rules). Holds rows rs (left_told told)) (sym are) legal.holds
 
 -- other sessions than those of the report
-pub other_sessions : (kept : Kept) (told : Told) (held : Sessions) → HasFacts kept told → IsWhole told →
-    After (placed_told told) → LegalSo told held → (kept.pairs.items ≡ pairs_of held → ⊥) → Judges told v.Sessions
-other_sessions kept told held has whole after legal other =
-    (whole, after, legal.legal, λ same. other (has.pairs_are ∙ same ∙ sym (sessions_are told held legal)))
-
--- the same sessions as those of the report
-same_sessions : (kept : Kept) (told : Told) (held : Sessions) → HasFacts kept told → LegalSo told held →
-    kept.pairs.items ≡ pairs_of held →
-    told.pairs ≡ pairs_of (sessions_after (rules_told told.head) empty (placed_told told))
-same_sessions kept told held has legal same = sym has.pairs_are ∙ same ∙ sessions_are told held legal
+pub other_sessions : (kept : Kept) (told : Told) (rows : List Sessions) → HasFacts kept told → IsWhole told →
+    After (placed_told told) → LegalSo told rows → (kept.pairs.items ≡ pairs_of (left_told told) → ⊥) →
+    Judges told v.Sessions
+other_sessions kept told rows has whole after legal other =
+    (whole, after, legal.legal, λ same. other (has.pairs_are ∙ same))
 
 -- an update with too many steps
-pub too_long : (kept : Kept) (told : Told) (held : Sessions) (packet : ℕ) → HasFacts kept told → IsWhole told →
-    After (placed_told told) → LegalSo told held → kept.pairs.items ≡ pairs_of held →
+pub too_long : (kept : Kept) (told : Told) (rows : List Sessions) (packet : ℕ) → HasFacts kept told → IsWhole told →
+    After (placed_told told) → LegalSo told rows → kept.pairs.items ≡ pairs_of (left_told told) →
     IsLongAt kept.bound kept.calls.items packet → Judges told (v.Steps packet)
-too_long kept told held packet has whole after legal same long = (
+too_long kept told rows packet has whole after legal same long = (
   whole,
   after,
   legal.legal,
-  same_sessions kept told held has legal same,
+  sym has.pairs_are ∙ same,
   record {
     front = long.front;
     long = long.long;
@@ -54,14 +55,14 @@ too_long kept told held packet has whole after legal same long = (
 )
 
 -- a report without a fault
-pub is_right : (kept : Kept) (told : Told) (held : Sessions) → HasFacts kept told → IsWhole told →
-    After (placed_told told) → LegalSo told held → kept.pairs.items ≡ pairs_of held →
+pub is_right : (kept : Kept) (told : Told) (rows : List Sessions) → HasFacts kept told → IsWhole told →
+    After (placed_told told) → LegalSo told rows → kept.pairs.items ≡ pairs_of (left_told told) →
     All (IsShortEnough kept.bound) kept.calls.items → IsRight told
-is_right kept told held has whole after legal same short = record {
+is_right kept told rows has whole after legal same short = record {
   whole = whole;
   after = after;
   legal = legal.legal;
-  sessions = same_sessions kept told held has legal same;
+  sessions = sym has.pairs_are ∙ same;
   steps = subst (λ (n : ℕ). All (IsShortEnough n) (records_told told)) has.bound_is
       (subst (All (IsShortEnough kept.bound)) has.facts.calls_are short);
 }

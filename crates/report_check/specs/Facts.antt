@@ -4,6 +4,7 @@ use Rattle.std.specs.Ordering.{nat_cmp}
 use Rattle.plain_map.specs.declared.records.Record.{Record}
 use Rattle.plain_map.specs.declared.records.Pending.{Pending}
 use Rattle.plain_map.specs.History.{Placed, packet_of}
+use Rattle.plain_map.specs.Places.{IsInKeyOrder}
 use Rattle.report_told.specs.Told.{Told}
 use Rattle.report_told.specs.Rules.{times}
 use Rattle.report_reading.specs.declared.kept.Kept.{Kept}
@@ -21,11 +22,12 @@ pub record Facts (told : Told) (calls : List Record) (pending : List Pending) (o
   pub call_seats : All (λ r. r.seat < 8) calls
   pub pending_seats : All (λ u. u.seat < 8) pending
 
--- what was read of a report, with its pending calls in the order of their packets
+-- what was read of a report, with its pending calls in the order of their packets, and its pairs in that of their keys
 pub record HasFacts (kept : Kept) (told : Told) : Type 0 where
   pub head_is : kept.head ≡ told.head
   pub bound_is : kept.bound ≡ told.tail.bound
   pub pairs_are : kept.pairs.items ≡ told.pairs
+  pub pairs_ordered : IsInKeyOrder kept.pairs.items
   pub facts : Facts told kept.calls.items kept.pending.items kept.order.items
 
 -- the calls of a packet

@@ -5,6 +5,7 @@ use Rattle.plain_map.specs.declared.records.Record.{Record}
 use Rattle.plain_map.specs.declared.rules.Rules.{Rules}
 use Rattle.plain_map.specs.PlainObject.{Sessions, map_after, pairs_of}
 use Rattle.plain_map.specs.History.{Placed, After, HasReply, IsAfter, Legal, call_in, packet_of, sessions_after}
+use Rattle.class_map.specs.Rows.{Holds}
 use Rattle.report_told.specs.Told.{Told}
 use Rattle.report_told.specs.declared.verdict.Verdict.{Verdict}
 use Rattle.report_told.specs.declared.verdict.Verdict.TheVariants as v
@@ -64,19 +65,19 @@ TriedAt told packet front before after good =
     × MatchBool good (StandSo (front ++ placed ∷ []) after) (IsAfter front placed → ⊥))
     ⊎ (placed_at told packet ≡ [])
 
--- the call of the packet was asked, and has the map's reply or not; or there is none
-abbrev pub AnsweredAt : Told → Rules → (packet : ℕ) → (before after : Sessions) → Bool → Type 0
+-- the call of the packet was asked of a map that held this, and has its reply or not; or there is none
+abbrev pub AnsweredAt : Told → Rules → (packet : ℕ) → (before : Sessions) → (after : List Sessions) → Bool → Type 0
 AnsweredAt told rules packet before after good =
     ((placed : Placed) × (placed_at told packet ≡ placed ∷ []) × (packet_of placed ≡ packet)
-    × MatchBool good (HasReply rules before placed × (after ≡ map_after rules before (call_in placed)))
+    × MatchBool good (HasReply rules before placed × Holds after rules (map_after rules before (call_in placed)))
     (HasReply rules before placed → ⊥))
     ⊎ (placed_at told packet ≡ [])
 
--- these calls, asked one after the other, have the map's replies, and it holds this now
-pub record AreLegal (rules : Rules) (front : List Placed) (held : Sessions) : Type 0 where
+-- these calls, asked one after the other, have the map's replies, and its classes hold now what they leave
+pub record AreLegal (rules : Rules) (front : List Placed) (rows : List Sessions) : Type 0 where
   pub legal : Legal rules empty front
-  pub held_is : held ≡ sessions_after rules empty front
+  pub holds : Holds rows rules (sessions_after rules empty front)
 
--- all calls of the order have the map's replies, and it holds this in the end
-abbrev pub LegalSo : Told → Sessions → Type 0
-LegalSo told held = AreLegal (rules_told told.head) (placed_told told) held
+-- all calls of the order have the map's replies, and its classes hold in the end what they leave
+abbrev pub LegalSo : Told → List Sessions → Type 0
+LegalSo told rows = AreLegal (rules_told told.head) (placed_told told) rows

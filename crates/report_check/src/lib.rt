@@ -5,7 +5,6 @@ mod early;
 mod legal;
 mod long;
 mod places;
-mod sessions;
 mod verdicts;
 mod whole;
 

@@ -4,6 +4,7 @@ ghost use Rattle.std.specs.Prelude.{◌≡◌, ◌≤◌, ◌↔◌, IfOk, IsPer
 ghost use Rattle.std.specs.Ordering.{nat_cmp};
 ghost use Rattle.plain_map.specs.PlainObject.{InRange};
 ghost use Rattle.plain_map.specs.History.{After};
+ghost use Rattle.class_map.specs.Rows.{HasEachClass};
 ghost use Rattle.report_told.specs.Told.{Told};
 ghost use Rattle.report_told.specs.Rules.{IsInGrammar};
 ghost use Rattle.report_told.specs.declared.verdict.Verdict.TheVariants.{Yes};
@@ -16,9 +17,9 @@ ghost use Rattle.report_check.specs.Judged.{Judges, LegalSo};
 use crate::early::first_early;
 use crate::legal::first_illegal;
 use crate::long::first_long;
-use crate::sessions::are_held;
 use crate::whole::least_fault;
-use plain_map::{Pending, PlainMap, Rules};
+use class_map::ClassMap;
+use plain_map::{Pending, Rules};
 use report_lines::one_verdict;
 use report_reading::{Kept, Reading, TEXT_LIMIT, read};
 use report_text::Head;
@@ -79,10 +80,10 @@ fn replies_verdict(alloc: Global, kept: &Kept) -> Result<Verdict, AllocError>
         After (placed_told told) → Judges told verdict) }
 {
     let rules = rules_of(&kept.head);
-    let mut map = PlainMap::new(alloc);
+    let mut map = ClassMap::new(alloc, &rules)?;
     match first_illegal(&mut map, &rules, &kept.calls, &kept.pending, &kept.order)? {
         Some(packet) => Ok(Verdict::Legal { packet }),
-        None => Ok(end_verdict(kept, &map)),
+        None => Ok(end_verdict(kept, &rules, &map)),
     }
 }
 
@@ -98,11 +99,13 @@ fn rules_of(head: &Head) -> Rules
 }
 
 // The same, where the replies are the plain map's too, which holds this in the end.
-fn end_verdict(kept: &Kept, map: &PlainMap) -> Verdict
+fn end_verdict(kept: &Kept, rules: &Rules, map: &ClassMap) -> Verdict
+    requires range { InRange rules.now }
+    requires rows { HasEachClass map.now rules.now }
     ensures { (told : Told) → HasFacts kept.now told → IsWhole told → After (placed_told told) →
-        LegalSo told map.now → Judges told result }
+        rules.now ≡ rules_told told.head → LegalSo told map.now → Judges told result }
 {
-    if !are_held(map, &kept.pairs) {
+    if !map.holds_just(rules, &kept.pairs) {
         return Verdict::Sessions;
     }
     match first_long(&kept.calls, kept.bound) {
