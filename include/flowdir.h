@@ -5,7 +5,8 @@
  * keys, and fewer by chance, since a class of keys that is full answers FLOWDIR_NOROOM. A seat makes at most
  * 4,294,967,294 calls, lookups among them; then it answers FLOWDIR_BAD. Peeks are not counted. An exporter that closes
  * its books every interval closes one table and opens the next with the pairs that it left: flowdir_close,
- * flowdir_count, flowdir_reopen.
+ * flowdir_count, flowdir_reopen, and flowdir_free for the closed one. From the second time on the next table is opened
+ * in memory that was kept; examples/c/intervals.c does so.
  *
  * A table is opened with a number of seats. A thread takes a seat and makes its calls by it, one at a time. No call by
  * a seat or a reader waits for another thread, takes memory or enters the kernel: an update takes at most
@@ -151,12 +152,17 @@ uint32_t flowdir_count(struct flowdir_table *table, size_t *count);
 uint32_t flowdir_pair_at(struct flowdir_table *table, size_t at, struct flowdir_pair *pair);
 
 /* Opens the next table with the pairs that were listed of a closed one, which stays as it is. As flowdir_open; with the
- * same items, depth and seed NO_ROOM never comes. One thread at a time for each of the two. */
+ * same items, depth and seed NO_ROOM never comes. One thread at a time for each of the two.
+ *
+ * The words of a table are copied from others, which are all 0 before and after. The table that a reopening opens keeps
+ * these, and its own reopening finds them: it makes and clears none, or under other options as many as are wanted more.
+ * So such a table takes the memory of its words twice, and the closed one that of its own, until flowdir_free gives back
+ * what each has. After any answer but FLOWDIR_OK the closed one still keeps them. flowdir_open keeps none. */
 uint32_t flowdir_reopen(const struct flowdir_options *options, struct flowdir_table *closed,
                         struct flowdir_table *table);
 
-/* Gives a table up, closed or not; its handle leads to nothing then. Seats and readers that are out stay usable, and
- * have to be given up too: a seat by flowdir_drop. One thread at a time for a table. */
+/* Gives a table up, closed or not, with the words that it keeps; its handle leads to nothing then. Seats and readers
+ * that are out stay usable, and have to be given up too: a seat by flowdir_drop. One thread at a time for a table. */
 void flowdir_free(struct flowdir_table *table);
 
 /* Gives a seat up without its table: the table can never be closed then. As flowdir_leave. */

@@ -120,7 +120,7 @@ private:
     flowdir_reader reader_{};
 };
 
-/* A table. sit, read and close are for one thread at a time. */
+/* A table. sit, read, close and reopen are for one thread at a time. */
 class Table {
 public:
     explicit Table(const Options &options, const std::vector<Pair> &first = {}) {
@@ -143,6 +143,15 @@ public:
         std::vector<Pair> pairs(count);
         for (std::size_t at = 0; at < count; at++) check(flowdir_pair_at(&table_, at, &pairs[at]));
         return pairs;
+    }
+
+    /* Opens the table anew after close, with the pairs that it left, in the words that it keeps. If that fails, it stays
+     * closed. */
+    void reopen(const Options &options) {
+        flowdir_table next{};
+        check(flowdir_reopen(&options, &table_, &next));
+        flowdir_free(&table_);
+        table_ = next;
     }
 
 private:

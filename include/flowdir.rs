@@ -71,6 +71,7 @@ extern "C" {
     fn flowdir_close(table: *mut Handle) -> u32;
     fn flowdir_count(table: *mut Handle, count: *mut usize) -> u32;
     fn flowdir_pair_at(table: *mut Handle, at: usize, pair: *mut Pair) -> u32;
+    fn flowdir_reopen(options: *const Options, closed: *mut Handle, table: *mut Handle) -> u32;
     fn flowdir_free(table: *mut Handle);
 }
 
@@ -185,6 +186,18 @@ impl Table {
 
     /// Ends the table, and gives its pairs in the order of their keys. `Busy` where a seat was never taken.
     pub fn close(self) -> Result<Vec<Pair>, Refused> {
+        self.end()
+    }
+
+    /// The same, and opens the next table with these pairs, in the words that this one keeps.
+    pub fn reopen(self, options: &Options) -> Result<(Vec<Pair>, Table), Refused> {
+        let pairs = self.end()?;
+        let mut handle = Handle(std::ptr::null_mut());
+        done(unsafe { flowdir_reopen(options, &mut *self.turn(), &mut handle) })?;
+        Ok((pairs, Table { handle: Mutex::new(handle) }))
+    }
+
+    fn end(&self) -> Result<Vec<Pair>, Refused> {
         let mut handle = self.turn();
         done(unsafe { flowdir_close(&mut *handle) })?;
         let mut count = 0;

@@ -5,7 +5,6 @@
 //   bench worst   [turns]  the longest calls of 1 to 4 threads
 //   bench grow    [turns]  keys that are all new, from an empty table: ns a call, and the longest call
 //   bench stop    [stops]  one thread is stopped at a moment of a call by a signal whose handler sleeps; do the others go on?
-//   bench reopen           what opening a table costs by its room, and one with pairs
 #include <fcntl.h>
 #include <malloc.h>
 #include <pthread.h>
@@ -446,31 +445,6 @@ template <class T> static void stop(int stops, int percent, uint64_t flows) {
            T::name == Lfht::name ? (std::string("\tremoved and not given back at the end of a stop, at most ") + std::to_string((long)most_unfreed)).c_str() : "");
     fflush(stdout);
 }
-static void reopen() {
-    for (uint32_t seats : {1u, 4u})
-        for (uint32_t updates : {512u, 2048u, 10000u, 50000u}) {
-            flowdir_options o = {};
-            o.seats = seats, o.items = 8, o.depth = 10, o.seed = 1;
-            flowdir_rows_for(&o, updates, &o.rows);
-            for (bool few : {false, true}) {
-                if (few) o.rows.directory_rows = std::min<uint64_t>(o.rows.directory_rows, 64);
-                uint64_t best = ~0ull;
-                std::vector<struct flowdir_pair> first(256);
-                for (int f = 0; f < 256; f++) first[f] = {{flow(f).a, flow(f).b, 0, 0, 0}, 1, 0};
-                for (int k = 0; k < turns; k++) {
-                    flowdir_table t = {};
-                    uint64_t a = now();
-                    if (flowdir_open(&o, first.data(), first.size(), &t)) abort();
-                    best = std::min(best, now() - a);
-                    flowdir_free(&t);
-                }
-                uint64_t row = 5 + 7 * o.items + 2 * seats, places = 1u << o.depth;
-                uint64_t words = 3 + seats * (8 * o.rows.op_rows + row * o.rows.bucket_rows + o.rows.bucket_words + (2 + places) * o.rows.directory_rows);
-                printf("reopen\t%u seats\t%u updates each\t%lu directory rows each\tabout %.1f MB\topened with 256 pairs in %.3f ms\t%.0f ns an update\n", seats, updates, o.rows.directory_rows, words * 8 / 1e6, best / 1e6, (double)best / (seats * updates));
-                fflush(stdout);
-            }
-        }
-}
 // So many calls by one thread, and no more: for callgrind.
 template <class T> static void count(int percent, size_t n) {
     std::vector<std::vector<Op>> all{calls(1, n, percent, 256)};
@@ -498,7 +472,6 @@ int main(int argc, char **argv) {
     s.sa_flags = SA_RESTART;
     sigaction(SIGUSR1, &s, nullptr);
     mallopt(M_MMAP_THRESHOLD, 1 << 30), mallopt(M_TRIM_THRESHOLD, 1 << 30);
-    if (what == "reopen") { reopen(); _exit(0); }
     const char *arg = argc > 2 ? argv[2] : nullptr;
     std::string only = argc > 3 ? argv[3] : "";
     rcu_thread_offline();

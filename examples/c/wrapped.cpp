@@ -1,4 +1,4 @@
-// The table from C++: four threads insert, one peeks, and what is left is what was inserted.
+// The table from C++: four threads insert, one peeks, and what is left is what was inserted; with that it is opened anew.
 #include "flowdir.hpp"
 
 #include <cstdio>
@@ -25,6 +25,8 @@ int main() {
     }
     const auto left = table.close();
     wrong |= left.size() != 401 || left[0].bytes != 6000;
+    table.reopen(options);
+    wrong |= table.read().find({9, 0, 7, 0, 0}) != 7u || table.sit().find({9, 3, 99, 0, 0}) != 99u;
     try {
         flowdir::Table none({9, 8, 10, 0, 7, {}});
         wrong = true;

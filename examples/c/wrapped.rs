@@ -1,4 +1,4 @@
-//! The table from Rust: four threads insert, one peeks, and what is left is what was inserted.
+//! The table from Rust: four threads insert, one peeks, and what is left is what was inserted; with that the next one opens.
 
 #[path = "../../include/flowdir.rs"]
 #[allow(dead_code)]
@@ -28,8 +28,13 @@ fn main() -> Result<(), Refused> {
         }
         Ok::<(), Refused>(())
     })?;
-    let left = table.close()?;
+    let (left, table) = table.reopen(&options)?;
     assert_eq!((left.len(), left[0].bytes), (401, 6000));
+    assert_eq!(table.read()?.peek(&Key([9, 3, 99, 0, 0])), Some(99));
+    for _ in 0..4 {
+        table.sit()?.lookup(&first.key)?;
+    }
+    assert_eq!(table.close()?, left);
     assert_eq!(Options { seats: 9, ..options }.with_rows_for(1).err(), Some(Refused::Bad));
     Ok(())
 }

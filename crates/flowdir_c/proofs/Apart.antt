@@ -1,5 +1,6 @@
 -- Pairs in the order of their keys have distinct keys where no two neighbours have one key.
-use Rattle.std.proofs.Common.{◌≡◌, ℕ, zero, suc, ◌+◌, ◌<◌, Bool, true, false, List, [], ◌∷◌, length, get_or, refl, sym, ap, ◌∙◌, subst, arith}
+use Rattle.std.proofs.Common.{◌≡◌, ℕ, zero, suc, ◌+◌, ◌<◌, Bool, true, false, List, [], ◌∷◌, length, get_or}
+use Rattle.std.proofs.Common.{refl, sym, ap, ◌∙◌, subst, arith}
 use Rattle.std.proofs.lemmas.List.Sorted.{ranks_by, sorted_far}
 use Rattle.std.specs.List.{AllByRecursion, IsDistinct}
 use Rattle.std.specs.List.Sorted.{IsSortedByKey}
@@ -76,8 +77,10 @@ apart_rest p ps apart k d h =
 pub distinct_in_order : (ps : List Pair) → IsSorted ps → AreApart ps → HasDistinctKeys ps
 unfolding IsDistinct
 distinct_in_order [] sorted apart = tt
-distinct_in_order (p ∷ ps) sorted apart =
-    (all_apart p.key ps p (first_apart p ps sorted apart), distinct_in_order ps (sorted_rest p ps sorted) (apart_rest p ps apart))
+distinct_in_order (p ∷ ps) sorted apart = (
+  all_apart p.key ps p (first_apart p ps sorted apart),
+  distinct_in_order ps (sorted_rest p ps sorted) (apart_rest p ps apart),
+)
 
 -- and pairs of distinct keys are apart
 pub apart_of_distinct : (ps : List Pair) → HasDistinctKeys ps → AreApart ps

@@ -1,5 +1,6 @@
 -- What the calls from C promise, of the holders that the handles lead to before and after.
-use Rattle.std.specs.Prelude.{◌≡◌, ℕ, ◌+◌, ◌≤◌, ◌⊎◌, List, [], ◌∷◌, ◌++◌, length, map, Option, Some, None, IsSomeAnd, IsPermutation, slice_get}
+use Rattle.std.specs.Prelude.{◌≡◌, ℕ, ◌+◌, ◌≤◌, ◌⊎◌, List, [], ◌∷◌, ◌++◌, length, map, IsPermutation, slice_get}
+use Rattle.std.specs.Prelude.{Option, Some, None, IsSomeAnd}
 use Rattle.std.specs.Arc.{arc_value}
 use Rattle.step_counts.specs.declared.settings.Settings.{Settings}
 use Rattle.step_counts.specs.StepCounts.{automatic_rows_of, step_bound}
@@ -153,8 +154,8 @@ abbrev pub IsPairAt : List ShelfValue → (at : ℕ) → FlowPair → Type 0
 IsPairAt holders at pair =
     (shelf : ShelfValue) × (holders ≡ shelf ∷ []) × (slice_get shelf.pairs at ≡ Some (pair_of pair))
 
--- a table runs that was opened so, with the pairs that a closed one had listed, and nobody has had any of its seats; the
--- options fit
+-- a table runs that was opened so, with the pairs that a closed one had listed, and nobody has had any of its seats;
+-- the options fit
 pub record Reopens (options : Options) (closed opened : List ShelfValue) : Type 0 where
   pub shelf : ShelfValue
   pub next : ShelfValue

@@ -2,7 +2,15 @@
 
 ghost use Rattle.std.specs.Prelude.{◌≡◌, ◌≢◌, ◌⊎◌, ◌∷◌, []};
 ghost use Rattle.flowdir_c.specs.Shelves.{ShelfValue};
-ghost use Rattle.flowdir_c.specs.Exports.{HasNoPairAt, IsClosed, IsCounted, IsPairAt, IsUnclosed, StaysListed, StaysTable};
+ghost use Rattle.flowdir_c.specs.Exports.{
+  HasNoPairAt,
+  IsClosed,
+  IsCounted,
+  IsPairAt,
+  IsUnclosed,
+  StaysListed,
+  StaysTable,
+};
 
 use crate::answer::FlowPair;
 use crate::loose::Loose;

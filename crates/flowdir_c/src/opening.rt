@@ -1,6 +1,22 @@
 //! What a table is opened with.
 
-ghost use Rattle.std.specs.Prelude.{◌≡◌, ◌≢◌, ◌^◌, ◌<◌, All, Err, IfOk, IfSome, IsPermutation, IsTrue, None, false, length, map, replicate};
+ghost use Rattle.std.specs.Prelude.{
+  ◌≡◌,
+  ◌≢◌,
+  ◌^◌,
+  ◌<◌,
+  All,
+  Err,
+  IfOk,
+  IfSome,
+  IsPermutation,
+  IsTrue,
+  None,
+  false,
+  length,
+  map,
+  replicate,
+};
 ghost use Rattle.std.specs.List.Sorted.{IsSortedByKey};
 ghost use Rattle.plain_map.specs.Keys.{key_cmp};
 ghost use Rattle.plain_map.specs.Updates.{IsSmallPair};

@@ -1,6 +1,31 @@
 //! A table, with the seats that nobody has, or what it left.
 
-ghost use Rattle.std.specs.Prelude.{◌≡◌, ◌+◌, ◌^◌, ◌<◌, ◌≤◌, ◌⊎◌, ◌++◌, ◌∷◌, [], All, Err, IfErr, IfOk, IfSome, IsSomeAnd, IsTrue, None, Ok, Some, false, length, slice_get, vec_capacity, vec_len};
+ghost use Rattle.std.specs.Prelude.{
+  ◌≡◌,
+  ◌+◌,
+  ◌^◌,
+  ◌<◌,
+  ◌≤◌,
+  ◌⊎◌,
+  ◌++◌,
+  ◌∷◌,
+  [],
+  All,
+  Err,
+  IfErr,
+  IfOk,
+  IfSome,
+  IsSomeAnd,
+  IsTrue,
+  None,
+  Ok,
+  Some,
+  false,
+  length,
+  slice_get,
+  vec_capacity,
+  vec_len,
+};
 ghost use Rattle.std.specs.Option.{option_map};
 ghost use Rattle.flowdir_c.specs.Told.{pair_of};
 ghost use Rattle.std.specs.Arc.{arc_value};
@@ -21,7 +46,7 @@ use crate::peeker::{Peeker, peeker_of};
 use core_orders::reopen_laws;
 use hash_bits::Hashing;
 use plain_map::{OpenFault, Pair};
-use shared_table::{ClosedTable, Directory, Seat};
+use shared_table::{Blank, ClosedTable, Directory, Seat};
 use std::alloc::{AllocError, Global};
 use std::marker::Model;
 use std::mem;
@@ -36,7 +61,7 @@ pub(crate) enum NotTaken {
 }
 
 /// A directory, until it is closed; the seats that nobody has had yet, and those that were given back; what a closed
-/// directory left, and once they were listed its pairs.
+/// directory left, and once they were listed its pairs; and words that are kept for the next opening.
 #[derive(Drop)]
 pub struct Shelf {
     directory: Option<Arc<Directory, Global>>,
@@ -45,6 +70,8 @@ pub struct Shelf {
     count: u32,
     left: Option<ClosedTable>,
     pairs: Vec<Pair>,
+    // Nothing, until a table was opened after a closed one.
+    blank: Blank,
 }
 
 impl Model for Shelf {
@@ -59,9 +86,10 @@ impl Model for Shelf {
     ghost invariant = { ShelfStands };
 }
 
-/// A table with these pairs, and all its seats.
+/// A table with these pairs, and all its seats. It is opened in these words, which are all 0 again then.
 pub(crate) fn shelf_of(
     alloc: Global,
+    blank: &mut Blank,
     settings: &Settings,
     seed: u64,
     rows: SeatRows,
@@ -85,7 +113,8 @@ pub(crate) fn shelf_of(
     let Ok(back) = Vec::with_capacity(alloc, settings.seats as usize) else {
         return Err(NotOpened::Memory);
     };
-    match Directory::open(alloc, settings, Hashing::Mix(seed), &rows, first) {
+    let hashing = Hashing::Mix(seed);
+    match Directory::open_in(alloc, blank, settings, hashing, &rows, first) {
         Ok((directory, fresh)) => {
             are_new(&fresh, &directory, settings.seats);
             let Ok(directory) = Arc::new(alloc, directory) else {
@@ -98,6 +127,7 @@ pub(crate) fn shelf_of(
                 count: settings.seats,
                 left: None,
                 pairs: Vec::new(alloc),
+                blank: Blank::new(alloc),
             })
         }
         Err(OpenFault::Memory) => Err(NotOpened::Memory),
@@ -268,21 +298,35 @@ impl Shelf {
         }
     }
 
-    /// The next table, with the pairs that are listed.
+    /// The next table, with the pairs that are listed. It is opened in the words that are kept here, and keeps them.
+    /// If none is opened, they stay here.
     pub(crate) fn reopened(
-        &self,
+        &mut self,
         alloc: Global,
         settings: &Settings,
         seed: u64,
         rows: SeatRows,
-    ) -> Result<Shelf, NotOpened>
-        ensures opened { IfOk result (λ shelf. IsSomeAnd shelf.table (λ t.
-            IsOpened settings.now seed rows self.now.pairs t.setup)) }
-        ensures seats { IfOk result (λ shelf. shelf.free ≡ settings.now.seats) }
+    ) -> Result<Box<Shelf, Global>, NotOpened>
+        ensures same { self.new ≡ self.old }
+        ensures opened { IfOk result (λ shelf. IsSomeAnd shelf.value.table (λ t.
+            IsOpened settings.now seed rows self.old.pairs t.setup)) }
+        ensures seats { IfOk result (λ shelf. shelf.value.free ≡ settings.now.seats) }
         ensures small { IfOk result (λ _. AreBelow (2 ^ 32) rows) }
         ensures bad { result ≡ Err Bad → AreBelow (2 ^ 32) rows → ⊥ }
-        ensures no_room { result ≡ Err NoRoom → LackRoom (rules_with settings.now seed) self.now.pairs }
+        ensures no_room { result ≡ Err NoRoom → LackRoom (rules_with settings.now seed) self.old.pairs }
     {
-        shelf_of(alloc, settings, seed, rows, &self.pairs)
+        let opened = shelf_of(alloc, &mut self.blank, settings, seed, rows, &self.pairs)?;
+        let Ok(mut next) = Box::new(alloc, opened) else {
+            return Err(NotOpened::Memory);
+        };
+        self.hand_on(&mut next);
+        Ok(next)
+    }
+
+    // Gives the words that are kept here to another shelf, and keeps that one's.
+    fn hand_on(&mut self, next: &mut Shelf)
+        ensures { (self.new ≡ self.old) × (next.new ≡ next.old) }
+    {
+        mem::swap(&mut self.blank, &mut next.blank);
     }
 }

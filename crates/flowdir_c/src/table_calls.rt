@@ -7,7 +7,21 @@ ghost use Rattle.flowdir_c.specs.Shelves.{ShelfValue};
 ghost use Rattle.flowdir_c.specs.Asked.{AreOptions};
 ghost use Rattle.flowdir_c.specs.Fit.{AreFit, LackRoom, rules_in};
 ghost use Rattle.flowdir_c.specs.Told.{pair_of};
-ghost use Rattle.flowdir_c.specs.Exports.{AreRowsBy, AreRowsFor, HasNoPlace, HasNoSeat, IsBoundOf, IsUnfit, LacksRoom, Opens, Reopens, StaysListed, StaysTable, TakesBack, TakesSeat};
+ghost use Rattle.flowdir_c.specs.Exports.{
+  AreRowsBy,
+  AreRowsFor,
+  HasNoPlace,
+  HasNoSeat,
+  IsBoundOf,
+  IsUnfit,
+  LacksRoom,
+  Opens,
+  Reopens,
+  StaysListed,
+  StaysTable,
+  TakesBack,
+  TakesSeat,
+};
 ghost use Rattle.batch_rows.specs.declared.rows.TheConstants.{CALL_LIMIT};
 ghost use Rattle.flowdir_c.specs.declared.opening.NotOpened.TheVariants.{Bad, NoRoom};
 ghost use Rattle.flowdir_c.specs.declared.shelf.NotTaken.TheVariants.{Busy, Memory};
@@ -22,6 +36,7 @@ use crate::shelf::{NotTaken, shelf_of};
 use crate::status::{BAD, BUSY, MEMORY, NO_ROOM, OK};
 use crate::tables::TableHandle;
 use batch_rows::{CALL_LIMIT, batch_rows};
+use shared_table::Blank;
 use std::alloc::Global;
 use std::mem;
 use step_counts::{automatic_rows, bound};
@@ -118,6 +133,7 @@ pub extern "C" fn flowdir_open(
     };
     match shelf_of(
         alloc,
+        &mut Blank::new(alloc),
         &settings,
         options.seed,
         options.rows.to_rows(),
@@ -193,7 +209,8 @@ pub extern "C" fn flowdir_rise(alloc: Global, table: &mut TableHandle, seat: &mu
     OK
 }
 
-/// Opens the next table with the pairs that a closed one left, once they are listed.
+/// Opens the next table with the pairs that a closed one left, once they are listed. It is opened in the words that the
+/// closed one kept, and keeps them.
 #[unsafe(no_mangle)]
 pub extern "C" fn flowdir_reopen(
     alloc: Global,
@@ -212,17 +229,14 @@ pub extern "C" fn flowdir_reopen(
     let Some(settings) = options.settings() else {
         return BAD;
     };
-    let shelf = mem::replace(closed, TableHandle::blank())
+    let mut shelf = mem::replace(closed, TableHandle::blank())
         .into_loose(alloc)
         .into_box();
     let opened = shelf.reopened(alloc, &settings, options.seed, options.rows.to_rows());
     *closed = TableHandle::of_loose(Loose::of(shelf));
     match opened {
-        Ok(shelf) => {
-            let Ok(shelf) = Box::new(alloc, shelf) else {
-                return MEMORY;
-            };
-            *table = TableHandle::of_loose(Loose::of(shelf));
+        Ok(next) => {
+            *table = TableHandle::of_loose(Loose::of(next));
             OK
         }
         Err(failed) => status_of(failed),

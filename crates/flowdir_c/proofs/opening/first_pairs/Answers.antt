@@ -5,7 +5,8 @@ use Rattle.plain_map.specs.Updates.{IsSmallPair}
 use Rattle.bucket_states.specs.Parts.{HasDistinctKeys}
 use Rattle.flowdir_c.specs.Fit.{AreFitPairs}
 use Rattle.flowdir_c.proofs.FitLemmas.{fit_moved}
-use Rattle.flowdir_c.proofs.opening.first_pairs.Goals.{then-not-can_be_kept-via-then-not-can_be_kept, then-not-can_be_kept-via-else-not-can_be_kept+then-not-are_apart}
+use Rattle.flowdir_c.proofs.opening.first_pairs.Goals.{then-not-can_be_kept-via-then-not-can_be_kept}
+use Rattle.flowdir_c.proofs.opening.first_pairs.Goals.{then-not-can_be_kept-via-else-not-can_be_kept+then-not-are_apart}
 use Rattle.flowdir_c.proofs.opening.first_pairs.Goals as goal
 
 -- in the order of their keys the pairs would fit too

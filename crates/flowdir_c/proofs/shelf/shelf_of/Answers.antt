@@ -21,36 +21,37 @@ pub invariant_of-result : goal.invariant_of-result
 unfolding IsDistinct
 invariant_of-result c =
     let t : TableValue = arc_value c.in-Ok-new.directory in
-    let same : t ≡ c.in-Ok-open.directory = c.in-Ok-new.ensures.ok in
+    let same : t ≡ c.in-Ok-open_in.directory = c.in-Ok-new.ensures.ok in
     record {
-      new = subst (λ (u : TableValue). All (IsNew u) c.in-Ok-open.fresh.items) (sym same)
-          (subst (All (IsNew c.in-Ok-open.directory)) c.deref-in-Ok-open.ensures.value c.are_new.ensures.new);
+      new = subst (λ (u : TableValue). All (IsNew u) c.in-Ok-open_in.fresh.items) (sym same)
+          (subst (All (IsNew c.in-Ok-open_in.directory)) c.deref-in-Ok-open_in.ensures.value c.are_new.ensures.new);
       of = subst (All (IsOf t)) (sym c.in-Ok-with_capacity.ensures.items) (All-nil (IsOf t));
-      all = sym (ap (λ (u : TableValue). seats_of u.setup) same ∙ ap seats_of c.in-Ok-open.ensures.setup);
+      all = sym (ap (λ (u : TableValue). seats_of u.setup) same ∙ ap seats_of c.in-Ok-open_in.ensures.setup);
       ran = tt;
-      kept = subst (All IsPair) (sym c.new-in-Ok-open.ensures.items) (All-nil IsPair);
-      distinct = subst HasDistinctKeys (sym c.new-in-Ok-open.ensures.items) tt;
+      kept = subst (All IsPair) (sym c.new-in-Ok-open_in.ensures.items) (All-nil IsPair);
+      distinct = subst HasDistinctKeys (sym c.new-in-Ok-open_in.ensures.items) tt;
     }
 
 -- and it is what was asked for
-pub returns-in-Ok-open-clause-opened : goal.returns-in-Ok-open-clause-opened
-returns-in-Ok-open-clause-opened c =
-    ap (λ (u : TableValue). u.setup) c.in-Ok-new.ensures.ok ∙ c.in-Ok-open.ensures.setup
+pub returns-in-Ok-open_in-clause-opened : goal.returns-in-Ok-open_in-clause-opened
+returns-in-Ok-open_in-clause-opened c =
+    ap (λ (u : TableValue). u.setup) c.in-Ok-new.ensures.ok ∙ c.in-Ok-open_in.ensures.setup
     ∙ ap (λ (rows : List SeatRows). setup_of c.args.settings.now (Mix c.args.seed) rows c.args.first.now)
     (c.deref.ensures.value ∙ c.in-Ok.ensures.same
     ∙ ap (replicate c.args.settings.now.seats) c.in-Some.ensures.same)
 
 -- with as many seats
-pub returns-in-Ok-open-clause-seats : goal.returns-in-Ok-open-clause-seats
-returns-in-Ok-open-clause-seats c =
-    sym (ap (λ (seats : List SeatValue). length seats) c.deref-in-Ok-open.ensures.value) ∙ c.are_new.ensures.many
+pub returns-in-Ok-open_in-clause-seats : goal.returns-in-Ok-open_in-clause-seats
+returns-in-Ok-open_in-clause-seats c =
+    sym (ap (λ (seats : List SeatValue). length seats) c.deref-in-Ok-open_in.ensures.value) ∙ c.are_new.ensures.many
 
 -- and rows below 2^32
-pub returns-in-Ok-open-clause-small : goal.returns-in-Ok-open-clause-small
-returns-in-Ok-open-clause-small c = subst (AreBelow (2 ^ 32)) c.in-Some.ensures.same c.in-Some.ensures.small
+pub returns-in-Ok-open_in-clause-small : goal.returns-in-Ok-open_in-clause-small
+returns-in-Ok-open_in-clause-small c = subst (AreBelow (2 ^ 32)) c.in-Some.ensures.same c.in-Some.ensures.small
 
 -- and one class lacks room where none is opened for want of it
 pub returns-clause-no_room : goal.returns-clause-no_room
 returns-clause-no_room c = λ is.
     lack_at (rules_with c.args.settings.now c.args.seed) c.args.first.now c.in-Err-NoRoom.field-0-0
-    (c.in-Err-NoRoom.ensures.no_room c.in-Err-NoRoom.field-0-0 (ap (λ (fault : OpenFault). Err fault) c.in-Err-NoRoom.field-0-is))
+    (c.in-Err-NoRoom.ensures.no_room c.in-Err-NoRoom.field-0-0
+    (ap (λ (fault : OpenFault). Err fault) c.in-Err-NoRoom.field-0-is))

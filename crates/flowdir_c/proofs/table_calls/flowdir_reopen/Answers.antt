@@ -1,4 +1,4 @@
-use Rattle.std.proofs.Common.{◌^◌, List, [], ◌∷◌, ap, ◌∙◌, subst}
+use Rattle.std.proofs.Common.{◌^◌, List, [], ◌∷◌, sym, ap, ◌∙◌, subst}
 use Rattle.std.specs.Prelude.{IsSomeAnd}
 use Rattle.step_counts.specs.declared.rows.SeatRows.{SeatRows}
 use Rattle.plain_map.specs.declared.keys.Pair.{Pair}
@@ -13,12 +13,12 @@ pub into_loose-requires : goal.into_loose-requires
 into_loose-requires c = (c.requires.0, ap (λ h. h.holders) c.replace.ensures.value ∙ c.requires.1)
 
 -- the next table is what was asked for, with the pairs that were listed
-pub returns-in-Ok-new-clause-opened : goal.returns-in-Ok-new-clause-opened
-returns-in-Ok-new-clause-opened c = λ done. record {
-  shelf = c.into_box-shelf.result.value;
-  next = c.in-Ok.shelf;
+pub returns-in-Ok-clause-opened : goal.returns-in-Ok-clause-opened
+returns-in-Ok-clause-opened c = λ done. record {
+  shelf = c.reopened-opened.new.self;
+  next = c.in-Ok.next.value;
   closed_is = c.of_loose.ensures ∙ ap (λ v. v ∷ []) c.of.ensures;
-  opened_is = c.of_loose-in-Ok.ensures ∙ ap (λ v. v ∷ []) (c.of-in-Ok.ensures ∙ c.in-Ok-new.ensures.ok);
+  opened_is = c.of_loose-in-Ok.ensures ∙ ap (λ v. v ∷ []) c.of-in-Ok.ensures;
   free = c.in-Ok.ensures.seats ∙ c.in-Some.ensures.seats_are;
   fit = record {
     numbers = made_in_range c.in-Some.settings _ _ _ _ c.in-Some.ensures;
@@ -26,7 +26,7 @@ returns-in-Ok-new-clause-opened c = λ done. record {
   };
   settings = c.in-Some.settings;
   asked = c.in-Some.ensures;
-  runs = subst (λ (u : SeatRows × List Pair). IsSomeAnd c.in-Ok.shelf.table (λ (t : TableValue).
+  runs = subst (λ (u : SeatRows × List Pair). IsSomeAnd c.in-Ok.next.value.table (λ (t : TableValue).
       IsOpened c.in-Some.settings c.args.options.now.seed u.0 u.1 t.setup))
-      (λ i. (c.to_rows.ensures i, (c.deref.ensures i).pairs)) c.in-Ok.ensures.opened;
+      (λ i. (c.to_rows.ensures i, (sym c.reopened-opened.ensures.same i).pairs)) c.in-Ok.ensures.opened;
 }

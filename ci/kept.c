@@ -1,0 +1,115 @@
+/* What memory an opening and its reopenings ask for, and what stands after each request that is refused. Linked with
+ * --wrap=malloc,--wrap=realloc, over the library. For ci/try-c. */
+#include "flowdir.h"
+#include <stdio.h>
+#include <stdlib.h>
+
+void *__real_malloc(size_t), *__real_realloc(void *, size_t);
+void *__wrap_malloc(size_t), *__wrap_realloc(void *, size_t);
+
+static size_t asked;
+static long requests, refused;
+static int failures;
+
+static int is_refused(size_t size) {
+    asked += size;
+    return ++requests == refused;
+}
+
+void *__wrap_malloc(size_t size) { return is_refused(size) ? NULL : __real_malloc(size); }
+void *__wrap_realloc(void *old, size_t size) { return is_refused(size) ? NULL : __real_realloc(old, size); }
+
+static void expect(const char *what, uint64_t told, uint64_t wanted) {
+    if (told == wanted) return;
+    printf("%s: %llu, wanted %llu\n", what, (unsigned long long)told, (unsigned long long)wanted);
+    failures++;
+}
+
+/* Lists the pairs of a closed table, with no request refused. */
+static void list(struct flowdir_table *closed) {
+    size_t count = 0;
+    refused = 0;
+    expect("count", flowdir_count(closed, &count), FLOWDIR_OK);
+    expect("three pairs", count, 3);
+}
+
+/* Closes a table whose seats nobody has had, and lists its pairs. */
+static void end(struct flowdir_table *table, uint32_t seats) {
+    struct flowdir_seat seat = {0};
+    refused = 0;
+    for (uint32_t i = 0; i < seats; i++) {
+        expect("sit", flowdir_sit(table, &seat), FLOWDIR_OK);
+        expect("rise", flowdir_rise(table, &seat), FLOWDIR_OK);
+    }
+    expect("close", flowdir_close(table), FLOWDIR_OK);
+    list(table);
+}
+
+/* A closed table, after so many reopenings. */
+static struct flowdir_table closed_after(const struct flowdir_options *options, int reopenings) {
+    struct flowdir_pair pairs[3] = {{{1, 0, 0, 0, 0}, 1, 0}, {{2, 0, 0, 0, 0}, 2, 0}, {{3, 0, 0, 0, 0}, 3, 0}};
+    struct flowdir_table table = {0};
+    refused = 0;
+    expect("open", flowdir_open(options, pairs, 3, &table), FLOWDIR_OK);
+    end(&table, options->seats);
+    for (int i = 0; i < reopenings; i++) {
+        struct flowdir_table next = {0};
+        expect("reopen", flowdir_reopen(options, &table, &next), FLOWDIR_OK);
+        flowdir_free(&table);
+        table = next;
+        end(&table, options->seats);
+    }
+    return table;
+}
+
+/* How many bytes a reopening of a closed table asks for. The closed one and the next are given up, if there is one. */
+static size_t bytes_of(const struct flowdir_options *options, struct flowdir_table *closed) {
+    struct flowdir_table next = {0};
+    asked = 0;
+    expect("reopen", flowdir_reopen(options, closed, &next), FLOWDIR_OK);
+    size_t bytes = asked;
+    flowdir_free(&next);
+    flowdir_free(closed);
+    return bytes;
+}
+
+/* The words are made twice by the first reopening, and once by each further one, also after one that failed. */
+static void words_are_kept(const struct flowdir_options *options) {
+    struct flowdir_options narrow = *options;
+    narrow.items = 1, narrow.depth = 0;
+    struct flowdir_table first = closed_after(options, 0), second = closed_after(options, 1);
+    struct flowdir_table third = closed_after(options, 2), failed = closed_after(options, 2), none = {0};
+    size_t bytes = bytes_of(options, &first);
+    expect("half at the second", bytes_of(options, &second) < bytes * 6 / 10, 1);
+    expect("half at the third", bytes_of(options, &third) < bytes * 6 / 10, 1);
+    expect("three keys for one", flowdir_reopen(&narrow, &failed, &none), FLOWDIR_NO_ROOM);
+    expect("no table", none.at != NULL, 0);
+    expect("half after a failure", bytes_of(options, &failed) < bytes * 6 / 10, 1);
+}
+
+/* Each request of a reopening that is refused is told, and the next try finds all as it was. */
+static void refusals_are_told(const struct flowdir_options *options, int reopenings) {
+    uint32_t told = FLOWDIR_MEMORY;
+    for (long which = 1; told == FLOWDIR_MEMORY; which++) {
+        struct flowdir_table table = closed_after(options, reopenings), next = {0};
+        requests = 0, refused = which;
+        told = flowdir_reopen(options, &table, &next);
+        expect("a refusal is told", told == FLOWDIR_MEMORY, requests >= which);
+        expect("no table", next.at != NULL, told == FLOWDIR_OK);
+        list(&table);
+        if (told != FLOWDIR_OK) expect("reopen then", flowdir_reopen(options, &table, &next), FLOWDIR_OK);
+        flowdir_free(&next);
+        flowdir_free(&table);
+    }
+    expect("reopened at last", told, FLOWDIR_OK);
+}
+
+int main(void) {
+    struct flowdir_options options = {.seats = 2, .items = 8, .depth = 10, .start = 0, .seed = 1};
+    expect("rows", flowdir_rows_by(&options, 200, 64, &options.rows), FLOWDIR_OK);
+    words_are_kept(&options);
+    refusals_are_told(&options, 0);
+    refusals_are_told(&options, 2);
+    printf("%s\n", failures ? "WRONG" : "words are kept, and each refusal is told");
+    return failures != 0;
+}
