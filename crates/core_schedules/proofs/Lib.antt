@@ -1,3 +1,4 @@
 pub mod Slots
 pub mod Ends
 pub mod Skipped
+pub mod PlayedBySlots
