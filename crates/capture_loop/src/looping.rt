@@ -44,6 +44,7 @@ pub fn run_job<R: Threads + Sync, S: Source, K: Sink, G: Gate + Sync, P, J: Job<
         (S.left source.old) (S.left source.new) (K.put sink.old) (K.put sink.new) result }
 
     // A device failed, and each that did is answered.
+    ensures ending { IfOk result IsEnding }
     ensures read_fault { result ≡ Ok Ending.ReadFault → Rose (S.faults source.old) (S.faults source.new) }
     ensures write_fault { OnNotPut result (Rose (K.faults sink.old) (K.faults sink.new)) }
     ensures reads { ReadsFailed result (S.failed source.old) (S.failed source.new) }
@@ -88,6 +89,7 @@ fn go_through<R: Threads + Sync, S: Source, K: Sink, G: Gate + Sync, P, J: Job<P
         HaveCome first (S.left source.old) reader.old [] →
         LeavesAll (J.lines plan) (J.report plan) (Rose faults (S.faults source.new)) first (S.left source.new)
         before (K.put sink.new) result }
+    ensures ending { IfOk result IsEnding }
     ensures read_fault { result ≡ Ok Ending.ReadFault → Rose (S.faults source.old) (S.faults source.new) }
     ensures write_fault { OnNotPut result (Rose (K.faults sink.old) (K.faults sink.new)) }
     ensures reads { ReadsFailed result (S.failed source.old) (S.failed source.new) }

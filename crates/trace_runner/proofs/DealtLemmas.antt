@@ -26,7 +26,7 @@ use Rattle.core_model.specs.Schedules.{Hand, Play, Segment, empty_hand, events_o
 use Rattle.core_bounds.specs.Moments.{asked_of}
 use Rattle.core_world.specs.Values.{new_record, refused_at, stepped_of, told_of}
 use Rattle.play_runner.specs.Played.{outcome_in, outcomes_from, outcomes_of, refused_with}
-use Rattle.trace_runner.proofs.PlayedBySlots.{play_keeps}
+use Rattle.core_schedules.proofs.PlayedBySlots.{play_keeps}
 
 -- a list of one element that is right
 one_right : {A : Type 0} (Q : A → Type 0) (x : A) → Q x → All Q (x ∷ [])

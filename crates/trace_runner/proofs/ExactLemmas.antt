@@ -48,15 +48,15 @@ pub Leaves-exact :
     (answer ≡ status.WriteFault → ⊥) →
     Leaves plan read_failed bytes left before after answer → (answer ≡ status_for packets ending) ⊎ (answer ≡ status.Memory)
 Leaves-exact plan read_failed bytes left before after status.Done packets ending one input no_read no_write leaves =
-    let held = leaves.1.1.1.holds.0 in
-    inl (few_packets packet_limit leaves.1.1.0 (Ok leaves.0) held.1
-    ∙ same_status packet_limit bytes leaves.1.1.0 packets (Ok leaves.0) ending one held.0 input)
+    let held = leaves.1.1.0.1.holds.0 in
+    inl (few_packets packet_limit leaves.1.1.0.0 (Ok leaves.0) held.1
+    ∙ same_status packet_limit bytes leaves.1.1.0.0 packets (Ok leaves.0) ending one held.0 input)
 Leaves-exact plan read_failed bytes left before after status.BadCapture packets ending one input no_read no_write leaves =
-    let held = leaves.1.1.1.holds in
-    inl (few_packets packet_limit leaves.1.1.0 (Err leaves.0) held.1
-    ∙ same_status packet_limit bytes leaves.1.1.0 packets (Err leaves.0) ending one held.0 input)
+    let held = leaves.1.1.0.1.holds in
+    inl (few_packets packet_limit leaves.1.1.0.0 (Err leaves.0) held.1
+    ∙ same_status packet_limit bytes leaves.1.1.0.0 packets (Err leaves.0) ending one held.0 input)
 Leaves-exact plan read_failed bytes left before after status.Limit packets ending one input no_read no_write leaves =
-    let held = leaves.1.1.1.holds.0 in
+    let held = leaves.1.1.0.1.holds.0 in
     inl (many_packets packet_limit held.0 held.1 held.3
     ∙ same_status packet_limit bytes held.0 packets held.1 ending one held.2 input)
 Leaves-exact plan read_failed bytes left before after status.ReadFault packets ending one input no_read no_write leaves =

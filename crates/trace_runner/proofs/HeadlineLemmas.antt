@@ -1,11 +1,11 @@
 -- What the loop over batches of packets leaves is what `serve` leaves.
-use Rattle.std.proofs.Common.{◌≡◌, ◌≤◌, ◌<◌, ℕ, ◌+◌, ◌*◌, suc, zero, List, [], ◌∷◌, ◌++◌, length, map, Option, Some, Result, Ok, Err, sym, ◌∙◌, ap, subst, refl, inl, inr, append_assoc, length-append, arith}
+use Rattle.std.proofs.Common.{◌≡◌, ◌≤◌, ◌<◌, ◌^◌, ℕ, ◌+◌, ◌*◌, suc, zero, List, [], ◌∷◌, ◌++◌, length, map, Option, Some, Result, Ok, Err, sym, ◌∙◌, ap, subst, refl, inl, inr, append_assoc, length-append, arith}
 use Rattle.std.specs.Prelude.{slice_index_or}
 use Rattle.std.specs.Io.KnownBytes.{Keeps}
-use Rattle.std.specs.Result.{IsErr, IsErrAnd}
+use Rattle.std.specs.Result.{IfOk, IsErr, IsErrAnd}
 use Rattle.std.proofs.KnownBytes.{Consumes-nil}
 use Rattle.std.specs.List.{All, AllByRecursion, flat_map}
-use Rattle.std.proofs.lemmas.List.{length-map}
+use Rattle.std.proofs.lemmas.List.{length-map, length-take-le}
 use Rattle.plain_map.specs.declared.calls.Call.{Call}
 use Rattle.report_text.specs.declared.parts.Ending.{Ending}
 use Rattle.report_text.specs.declared.parts.Ending.TheVariants.{Done, ReadFault, Limit, Fault}
@@ -15,16 +15,22 @@ use Rattle.batch_runner.specs.Served.{Served}
 use Rattle.capture_loop.specs.declared.stop.Stop.{Stop}
 use Rattle.capture_loop.specs.declared.stop.Stop.TheVariants.{Memory, NotPut}
 use Rattle.capture_loop.specs.Batches.{AreBatches, IsWhole}
-use Rattle.capture_loop.specs.Leaves.{IsFront as IsLoopFront, IsReport as IsLoopReport, IsTold as IsLoopTold, Leaves as LoopLeaves, LeavesAll as LoopLeavesAll, ReportsInput, ReadsFailed as RunReads, WritesFailed as RunWrites}
+use Rattle.capture_loop.specs.Leaves.{IsFront as IsLoopFront, IsReport as IsLoopReport, IsTold as IsLoopTold, Leaves as LoopLeaves, LeavesAll as LoopLeavesAll, PutsReport as PutsInput, ReportsInput, ReadsFailed as RunReads, WritesFailed as RunWrites}
+use Rattle.capture_loop.specs.Input.{Serves, packet_limit}
 use Rattle.command_line.specs.declared.plan.Plan.{Plan}
+use Rattle.report_told.specs.Rules.{IsEndingTold, seed_in}
+use Rattle.report_told.specs.Verdicts.{Certified}
+use Rattle.report_promises.specs.Good.{GoodIsCertified}
 use Rattle.trace_runner.specs.declared.status.Status.TheVariants as status
 use Rattle.trace_runner.specs.Batches.{AreOfBatches, IsOfBatch, batch_count, batch_length}
 use Rattle.trace_runner.specs.PacketCalls.{MakeCalls, numbered}
 use Rattle.trace_runner.specs.Reading.{AreBetween}
 use Rattle.trace_runner.specs.Served.{AreDone, ServedArePromised, run_report}
 use Rattle.trace_runner.specs.Serving.{AreServedOf, IsLines, IsServedSo, IsWholeReport, joined}
-use Rattle.trace_runner.specs.Headline.{IsFront, IsReport, IsTold, Leaves, LeavesAll, ReadsFailed, Reports, WritesFailed, status_by, status_of}
+use Rattle.trace_runner.specs.Headline.{IsFront, IsReport, IsTold, Leaves, LeavesAll, PutsReport, ReadsFailed, Reports, WritesFailed, status_by, status_of}
 use Rattle.trace_runner.proofs.EndLemmas.{between_is_batch, last_count}
+use Rattle.trace_runner.proofs.FittingCalls.{calls_fit}
+use Rattle.trace_runner.proofs.GoodServes.{serve_is_certified}
 
 -- ---- calls of batches
 
@@ -247,17 +253,45 @@ module _ (law : ServedArePromised) (plan : Plan) where
       ReportsInput (IsWholeReport plan) bytes left ending text → Reports plan bytes left ending text
   reports_at bytes left ending text reports = (reports.0, reports.1, report_at reports.0 ending text reports.2)
 
+  -- how many packets are served at most
+  few_served : (bytes : List ℕ) (left : Option (List ℕ)) (packets : List (List ℕ)) (ending : Ending) →
+      Serves bytes left packets ending → length packets ≤ packet_limit
+  few_served bytes left packets (Done rest) serves = serves.holds.0.1
+  few_served bytes left packets (Fault found) serves = serves.holds.1
+  few_served bytes left packets ReadFault serves = serves.holds.6.1
+  few_served bytes left packets (Limit limit) serves =
+      let all : List (List ℕ) = serves.holds.0.0 in
+      let long : packet_limit ≤ length all = omega (arith, serves.holds.0.3) in
+      omega (arith, ap length serves.holds.0.4, length-take-le packet_limit all long)
+
+  module _ (good : GoodIsCertified) (seed : seed_in plan.hashing < 2 ^ 64) where
+    -- the report of an input is certified, where its ending can be told
+    certified_at : (bytes : List ℕ) (left : Option (List ℕ)) (ending : Ending) (text : List ℕ) →
+        IsEndingTold ending → Reports plan bytes left ending text → Certified text
+    certified_at bytes left ending text told reports =
+        let packets : List (List ℕ) = reports.0 in
+        let calls : List (ℕ × Call) = reports.2.0 in
+        let makes : MakeCalls 1 packets calls = reports.2.1 in
+        let report = reports.2.2 in
+        subst Certified (sym report.4)
+        (serve_is_certified good plan report.0 packets calls report.1 ending makes report.2
+        (few_served bytes left packets ending reports.1) (calls_fit 1 packets calls makes) seed told)
+
   module _ (read_failed : Type 0) (bytes : List ℕ) (left before after : Option (List ℕ)) where
-    of_ok : (ending : Ending) →
+    put_whole : GoodIsCertified → seed_in plan.hashing < 2 ^ 64 → (ending : Ending) → IsEndingTold ending →
+        PutsInput (IsWholeReport plan) bytes left before after ending →
+        PutsReport plan bytes left before after ending
+    put_whole good seed ending told puts =
+        let reports : Reports plan bytes left ending puts.0 = reports_at bytes left ending puts.0 puts.1 in
+        (puts.0, (reports, certified_at good seed bytes left ending puts.0 told reports), puts.2)
+
+    of_ok : GoodIsCertified → seed_in plan.hashing < 2 ^ 64 → (ending : Ending) → IsEndingTold ending →
         LoopLeaves (IsLines plan) (IsWholeReport plan) read_failed bytes left before after (Ok ending) →
         Leaves plan read_failed bytes left before after (status_of ending)
-    of_ok (Done rest) leaves =
-        (rest, (leaves.1.0, reports_at bytes left (Done rest) leaves.1.0 leaves.1.1, leaves.1.2))
-    of_ok ReadFault leaves = (leaves.1.0, reports_at bytes left ReadFault leaves.1.0 leaves.1.1, leaves.1.2)
-    of_ok (Limit limit) leaves =
-        (limit, (leaves.1.0, reports_at bytes left (Limit limit) leaves.1.0 leaves.1.1, leaves.1.2))
-    of_ok (Fault found) leaves =
-        (found, (leaves.1.0, reports_at bytes left (Fault found) leaves.1.0 leaves.1.1, leaves.1.2))
+    of_ok good seed (Done rest) told leaves = (rest, put_whole good seed (Done rest) told leaves.1)
+    of_ok good seed ReadFault told leaves = put_whole good seed ReadFault told leaves.1
+    of_ok good seed (Limit limit) told leaves = (limit, put_whole good seed (Limit limit) told leaves.1)
+    of_ok good seed (Fault found) told leaves = (found, put_whole good seed (Fault found) told leaves.1)
 
     of_not_put : LoopLeaves (IsLines plan) (IsWholeReport plan) read_failed bytes left before after (Err NotPut) →
         Leaves plan read_failed bytes left before after status.WriteFault
@@ -283,51 +317,58 @@ module _ (law : ServedArePromised) (plan : Plan) where
         inr (inr (begun.0, begun.1, (begun.2.0, front_of begun.0 begun.2.0 begun.2.1, begun.2.2)))
 
   module _ (read_failed : Type 0) (first left before after : Option (List ℕ)) where
-    ok_all : (ending : Ending) →
+    ok_at : GoodIsCertified → seed_in plan.hashing < 2 ^ 64 → (ending : Ending) → IsEndingTold ending →
+        LoopLeavesAll (IsLines plan) (IsWholeReport plan) read_failed first left before after (Ok ending) →
+        (bytes : List ℕ) → first ≡ Some bytes → Leaves plan read_failed bytes left before after (status_of ending)
+    ok_at good seed ending told leaves bytes is =
+        of_ok read_failed bytes left before after good seed ending told (leaves.told bytes is)
+
+    ok_all : GoodIsCertified → seed_in plan.hashing < 2 ^ 64 → (ending : Ending) → IsEndingTold ending →
         LoopLeavesAll (IsLines plan) (IsWholeReport plan) read_failed first left before after (Ok ending) →
         LeavesAll plan read_failed first left before after (status_of ending)
-    ok_all (Done rest) leaves =
+    ok_all good seed (Done rest) told leaves =
         record {
-          told = λ bytes is. of_ok read_failed bytes left before after (Done rest) (leaves.told bytes is);
+          told = ok_at good seed (Done rest) told leaves;
           took = (
             leaves.took.0,
             leaves.took.1,
-            of_ok read_failed leaves.took.0 (Some []) before after (Done rest) leaves.took.2,
+            of_ok read_failed leaves.took.0 (Some []) before after good seed (Done rest) told leaves.took.2,
           );
         }
-    ok_all ReadFault leaves =
+    ok_all good seed ReadFault told leaves =
         record {
-          told = λ bytes is. of_ok read_failed bytes left before after ReadFault (leaves.told bytes is);
+          told = ok_at good seed ReadFault told leaves;
           took = (
             leaves.took.0,
             leaves.took.1,
-            of_ok read_failed leaves.took.0 (Some []) before after ReadFault leaves.took.2,
+            of_ok read_failed leaves.took.0 (Some []) before after good seed ReadFault told leaves.took.2,
           );
         }
-    ok_all (Limit limit) leaves =
+    ok_all good seed (Limit limit) told leaves =
         record {
-          told = λ bytes is. of_ok read_failed bytes left before after (Limit limit) (leaves.told bytes is);
+          told = ok_at good seed (Limit limit) told leaves;
           took = (
             leaves.took.0,
             leaves.took.1,
-            of_ok read_failed leaves.took.0 (Some []) before after (Limit limit) leaves.took.2,
+            of_ok read_failed leaves.took.0 (Some []) before after good seed (Limit limit) told leaves.took.2,
           );
         }
-    ok_all (Fault found) leaves =
+    ok_all good seed (Fault found) told leaves =
         record {
-          told = λ bytes is. of_ok read_failed bytes left before after (Fault found) (leaves.told bytes is);
+          told = ok_at good seed (Fault found) told leaves;
           took = (
             leaves.took.0,
             leaves.took.1,
-            of_ok read_failed leaves.took.0 (Some []) before after (Fault found) leaves.took.2,
+            of_ok read_failed leaves.took.0 (Some []) before after good seed (Fault found) told leaves.took.2,
           );
         }
 
-    pub leaves_all : (result : Result Ending Stop) →
+    pub leaves_all : GoodIsCertified → seed_in plan.hashing < 2 ^ 64 → (result : Result Ending Stop) →
+        IfOk result IsEndingTold →
         LoopLeavesAll (IsLines plan) (IsWholeReport plan) read_failed first left before after result →
         LeavesAll plan read_failed first left before after (status_by result)
-    leaves_all (Ok ending) leaves = ok_all ending leaves
-    leaves_all (Err NotPut) leaves =
+    leaves_all good seed (Ok ending) told leaves = ok_all good seed ending told leaves
+    leaves_all good seed (Err NotPut) told leaves =
         record {
           told = λ bytes is. of_not_put read_failed bytes left before after (leaves.told bytes is);
           took = (
@@ -336,7 +377,7 @@ module _ (law : ServedArePromised) (plan : Plan) where
             of_not_put read_failed leaves.took.0 (Some []) before after leaves.took.2,
           );
         }
-    leaves_all (Err Memory) leaves =
+    leaves_all good seed (Err Memory) told leaves =
         record {
           told = λ bytes is. of_memory read_failed bytes left before after (leaves.told bytes is);
           took = (

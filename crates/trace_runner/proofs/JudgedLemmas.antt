@@ -1,5 +1,5 @@
 -- Which answer `check` gives where nothing fails, and what it leaves where it does nothing.
-use Rattle.std.proofs.Common.{◌≡◌, ◌≤◌, ◌<◌, ℕ, Bool, true, false, cond, List, [], Option, Result, Ok, Err, length, nat_lt, sym, ◌∙◌, ap, refl, inl, inr, ◌⊎◌, arith}
+use Rattle.std.proofs.Common.{◌≡◌, ℕ, Bool, cond, List, [], Option, Result, Ok, Err, length, sym, ◌∙◌, ap, refl, inl, inr, ◌⊎◌, arith}
 use Rattle.std.proofs.KnownBytes.{Consumes-nil}
 use Rattle.std.specs.Io.KnownBytes.{Keeps}
 use Rattle.report_reading.specs.declared.reading.TheConstants.{TEXT_LIMIT}

@@ -16,7 +16,6 @@ pub mod ExactLemmas
 pub mod TrialCounts
 pub mod TrialWords
 pub mod TrialLemmas
-pub mod PlayedBySlots
 pub mod DealtLemmas
 pub mod PlayTexts
 pub mod PlayLemmas
@@ -27,3 +26,14 @@ pub mod PlayLines
 pub mod PlayReports
 mod JudgedLemmas
 mod TotalsLemmas
+pub mod GoodSettings
+pub mod GoodCalls
+pub mod FittingCalls
+pub mod GoodSteps
+pub mod GoodLines
+pub mod GoodEndings
+pub mod GoodTails
+pub mod GoodServes
+pub mod PlayPackets
+pub mod PlayEnds
+pub mod GoodPlays

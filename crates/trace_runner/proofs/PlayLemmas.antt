@@ -33,7 +33,15 @@ use Rattle.trace_runner.specs.declared.status.Status.TheVariants as status
 use Rattle.trace_runner.specs.Reading.{AreBetween, EndsCalls, HaveEndedUpTo, IsBetween}
 use Rattle.capture_loop.specs.Leaves.{IsMet}
 use Rattle.trace_runner.specs.Headline.{TookFor, status_of, status_up_to}
-use Rattle.trace_runner.specs.Playing.{IsPlayOf, LeavesPlay, LeavesPlayed, PlayReports, play_limit, play_setup, ranges_for}
+use Rattle.trace_runner.specs.Playing.{IsPlayOf, LeavesPlay, LeavesPlayed, PlayReports, PutsPlay, play_in, play_limit, play_report, play_setup, ranges_for}
+use Rattle.core_model.specs.Order.{order_of}
+use Rattle.core_model.specs.Closed.{closing_of}
+use Rattle.capture_loop.specs.Input.{ServesUpTo}
+use Rattle.report_told.specs.Verdicts.{Certified}
+use Rattle.report_promises.specs.Good.{GoodIsCertified}
+use Rattle.std.proofs.lemmas.List.{length-take-le}
+use Rattle.trace_runner.proofs.FittingCalls.{calls_fit}
+use Rattle.trace_runner.proofs.GoodPlays.{play_is_good}
 use Rattle.trace_runner.proofs.ExactLemmas.{few_packets, many_packets, same_status}
 
 -- what was played of a whole input is its report
@@ -50,15 +58,41 @@ PlayReports-ended plan bytes left many calls ending text ends is = (
   subst (λ (n : ℕ). IsPlayOf plan n calls ending text) (sym ends.3) is,
 )
 
+-- how many packets are played at most
+few_played : (bytes : List ℕ) (left : Option (List ℕ)) (packets : List (List ℕ)) (ending : Ending) →
+    ServesUpTo play_limit bytes left packets ending → length packets ≤ play_limit
+few_played bytes left packets (Done rest) serves = serves.holds.0.1
+few_played bytes left packets (Fault found) serves = serves.holds.1
+few_played bytes left packets ReadFault serves = serves.holds.6.1
+few_played bytes left packets (Limit limit) serves =
+    let all : List (List ℕ) = serves.holds.0.0 in
+    let long : play_limit ≤ length all = omega (arith, serves.holds.0.3) in
+    omega (arith, ap length serves.holds.0.4, length-take-le play_limit all long)
+
+-- the report of a play is certified
+play_certified : GoodIsCertified → (plan : Plan) (bytes : List ℕ) (left : Option (List ℕ)) (ending : Ending)
+    (text : List ℕ) → PlayReports plan bytes left ending text → Certified text
+play_certified good plan bytes left ending text (packets, calls, serves, makes, is) =
+    subst Certified (sym is.text_is)
+    (good (play_report plan is.service (length packets) (length calls) is.played ending)
+    (order_of (play_setup is.service calls).shape (closing_of (play_in plan is.service calls).world))
+    (play_is_good plan packets calls ending text is makes (few_played bytes left packets ending serves)
+    (calls_fit 1 packets calls makes) is.head is.tail))
+
 -- a report that was put whole leaves what its ending's status says
 LeavesPlay-whole :
-    (plan : Plan) (read_failed : Type 0) (bytes : List ℕ) (left before after : Option (List ℕ)) (ending : Ending) (text : List ℕ) →
-    PlayReports plan bytes left ending text → Appends before after text →
+    GoodIsCertified → (plan : Plan) (read_failed : Type 0) (bytes : List ℕ) (left before after : Option (List ℕ))
+    (ending : Ending) (text : List ℕ) → PlayReports plan bytes left ending text → Appends before after text →
     LeavesPlay plan read_failed bytes left before after (status_of ending)
-LeavesPlay-whole plan read_failed bytes left before after (Done rest) text reports put = (rest, (text, reports, put))
-LeavesPlay-whole plan read_failed bytes left before after ReadFault text reports put = (text, reports, put)
-LeavesPlay-whole plan read_failed bytes left before after (Limit limit) text reports put = (limit, (text, reports, put))
-LeavesPlay-whole plan read_failed bytes left before after (Fault fault) text reports put = (fault, (text, reports, put))
+LeavesPlay-whole good plan read_failed bytes left before after ending text reports put =
+    by ending (text, reports, play_certified good plan bytes left ending text reports, put)
+  where
+    by : (e : Ending) → PutsPlay plan bytes left before after e →
+        LeavesPlay plan read_failed bytes left before after (status_of e)
+    by (Done rest) puts = (rest, puts)
+    by ReadFault puts = puts
+    by (Limit limit) puts = (limit, puts)
+    by (Fault fault) puts = (fault, puts)
 
 took_whole : (ending : Ending) (first left : Option (List ℕ)) (P : List ℕ → Type 0) → Took first left P →
     TookFor (status_of ending) first left P
@@ -71,17 +105,17 @@ module _ (plan : Plan) (read_failed : Type 0) (first left before after : Option 
     (calls : List (ℕ × Call)) (ending : Ending) (ended : HaveEndedUpTo play_limit first left many calls ending) (text : List ℕ)
     (is : IsPlayOf plan many calls ending text) where
   -- the report was put whole
-  pub LeavesPlayed-whole : Appends before after text →
+  pub LeavesPlayed-whole : GoodIsCertified → Appends before after text →
       LeavesPlayed plan read_failed first left before after (status_of ending)
-  LeavesPlayed-whole put =
+  LeavesPlayed-whole good put =
       record {
         told = λ bytes told.
-            LeavesPlay-whole plan read_failed bytes left before after ending text
+            LeavesPlay-whole good plan read_failed bytes left before after ending text
             (PlayReports-ended plan bytes left many calls ending text (ended.told bytes told) is) put;
         took = took_whole ending first left _ (
           ended.took.0,
           ended.took.1,
-          LeavesPlay-whole plan read_failed ended.took.0 (Some []) before after ending text
+          LeavesPlay-whole good plan read_failed ended.took.0 (Some []) before after ending text
               (PlayReports-ended plan ended.took.0 (Some []) many calls ending text ended.took.2 is) put,
         );
       }

@@ -14,6 +14,7 @@ use Rattle.flow_keys.specs.FlowText.{HasText}
 use Rattle.trace_share.specs.declared.outcome.Outcome.{Outcome}
 use Rattle.report_text.specs.declared.parts.Ending.{Ending}
 use Rattle.report_text.specs.Report.{batch_lines, call_in as call_of, head_line, order_lines, outcome_line, pending_line, report_of, session_line, tail_lines}
+use Rattle.report_told.specs.Rules.{IsHead, IsTail}
 use Rattle.core_model.specs.Setup.{Setup}
 use Rattle.core_model.specs.Worlds.{World}
 use Rattle.core_model.specs.Closed.{closed_depth}
@@ -113,10 +114,11 @@ module _ (plan : Plan) (service : Service) (calls : List (ℕ × Call)) (played 
   -- the text is the report
   pub IsPlayOf-done :
       (packets : ℕ) (ending : Ending) (text : List ℕ) → PlaysAreRight → PlaysAreAnswered → IsServiceOf plan service →
-      CanPlay setup (shares_of service calls) → Ascending calls →
+      CanPlay setup (shares_of service calls) → Ascending calls → IsHead (head_of true plan) →
+      IsTail (head_of true plan) (play_tail service packets (length calls) played ending) →
       text ≡ report_of (play_report plan service packets (length calls) played ending) →
       IsPlayOf plan packets calls ending text
-  IsPlayOf-done packets ending text right answered asks can ascend is =
+  IsPlayOf-done packets ending text right answered asks can ascend head tail is =
       let shares : List (List (ℕ × Call)) = shares_of service calls in
       let play_right : IsRightPlay setup play = right setup shares plan.stops (schedule_in plan) can in
       record {
@@ -133,5 +135,7 @@ module _ (plan : Plan) (service : Service) (calls : List (ℕ × Call)) (played 
             (answered setup (shares_of service calls) plan.stops (schedule_in plan) can
             (ap (λ (rows : Option SeatRows). ranges_for service.settings rows (shares_of service calls))
             (asks.rows ∙ none)));
+        head = head;
+        tail = tail;
         text_is = is;
       }

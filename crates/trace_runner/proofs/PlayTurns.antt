@@ -26,7 +26,7 @@ use Rattle.core_schedules.specs.Good.{IsGood}
 use Rattle.core_orders.proofs.Calls.{at_in}
 use Rattle.trace_runner.specs.Reading.{Ascending}
 use Rattle.trace_runner.proofs.PacketOrder.{Rises, rises-front, rises-without}
-use Rattle.trace_runner.proofs.PlayedBySlots.{play_keeps}
+use Rattle.core_schedules.proofs.PlayedBySlots.{play_keeps}
 use Rattle.trace_runner.proofs.UnrefusedPlays.{asked_step}
 
 -- calls in the order of their packets

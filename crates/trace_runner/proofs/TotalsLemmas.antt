@@ -1,5 +1,5 @@
 -- Which answer `totals` gives where nothing fails, and what it leaves where it does nothing.
-use Rattle.std.proofs.Common.{◌≡◌, ℕ, List, Option, Result, Ok, Err, sym, ◌∙◌, refl, inl, inr, ◌⊎◌}
+use Rattle.std.proofs.Common.{◌≡◌, ℕ, List, Option, Result, Ok, Err, ◌∙◌, refl, inl, inr, ◌⊎◌}
 use Rattle.std.specs.Io.KnownBytes.{Keeps}
 use Rattle.pcapng_reader.specs.declared.fault.AnyFault.{AnyFault}
 use Rattle.pcapng_reader.specs.Input.{Input}

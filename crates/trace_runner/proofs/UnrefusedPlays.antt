@@ -31,7 +31,7 @@ use Rattle.core_schedules.specs.Good.{IsGood}
 use Rattle.core_world.specs.Values.{new_record, refused_at, stepped_of, told_of}
 use Rattle.batch_rows.specs.BatchRows.{updates_in_calls}
 use Rattle.play_runner.specs.Played.{outcome_in, outcomes_from, outcomes_of}
-use Rattle.trace_runner.proofs.PlayedBySlots.{play_keeps}
+use Rattle.core_schedules.proofs.PlayedBySlots.{play_keeps}
 
 -- the call was not refused
 abbrev pub NotRefused : ℕ × Outcome → Type 0

@@ -11,6 +11,7 @@ use Rattle.pcap_reader.specs.Reading.{Took}
 use Rattle.report_text.specs.declared.parts.Ending.{Ending}
 use Rattle.report_text.specs.declared.parts.Ending.TheVariants.{Done, ReadFault, Limit, Fault}
 use Rattle.report_text.specs.Report.{report_of}
+use Rattle.report_told.specs.Verdicts.{Certified}
 use Rattle.report_text.specs.declared.trial.Trial.{Trial}
 use Rattle.report_text.specs.Trials.{trial_lines}
 use Rattle.batch_runner.specs.declared.service.Service.{Service}
@@ -109,9 +110,10 @@ status_for packets ending = status_up_to packet_limit packets ending
 
 -- ---- what a run leaves
 
--- The whole report was put, with this ending.
+-- The whole report was put, with this ending. It is certified: `check` says yes of it.
 abbrev pub PutsReport : Plan → List ℕ → Option (List ℕ) → Option (List ℕ) → Option (List ℕ) → Ending → Type 0
-PutsReport plan bytes left before after ending = PutsWhole before after (Reports plan bytes left ending)
+PutsReport plan bytes left before after ending =
+    PutsWhole before after (λ text. Reports plan bytes left ending text × Certified text)
 
 -- A front of the report was put, where the ending is known, and otherwise of the lines of the batches so far. That a read
 -- failed is told only where one did.

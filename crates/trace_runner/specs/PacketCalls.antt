@@ -4,10 +4,12 @@ use Rattle.packet_heads.specs.declared.packet.Heads.{Heads}
 use Rattle.packet_heads.specs.Heads.{HasHeads}
 use Rattle.plain_map.specs.declared.calls.Call.{Call}
 use Rattle.flow_keys.specs.Flow.{flow_call}
+use Rattle.report_promises.specs.Good.{IsFitting}
 
--- the packet with this number makes this call, or none where it has no heads of a known flow
+-- the packet with this number makes this call, which can be told, or none where it has no heads of a known flow
 abbrev pub MakesCall : ℕ → List ℕ → Option Call → Type 0
-MakesCall number packet (Some call) = (heads : Heads) × HasHeads packet heads × (call ≡ flow_call heads number)
+MakesCall number packet (Some call) =
+    (heads : Heads) × HasHeads packet heads × (call ≡ flow_call heads number) × IsFitting (number, call)
 MakesCall number packet None = (heads : Heads) → HasHeads packet heads → ⊥
 
 -- the call with its packet's number, where there is one

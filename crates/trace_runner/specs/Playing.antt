@@ -14,6 +14,8 @@ use Rattle.report_text.specs.declared.parts.Ending.{Ending}
 use Rattle.report_text.specs.declared.parts.Ending.TheVariants.{Done, ReadFault, Limit, Fault}
 use Rattle.report_text.specs.declared.parts.Tail.{Tail}
 use Rattle.report_text.specs.Report.{Batch, Report, report_of}
+use Rattle.report_told.specs.Rules.{IsHead, IsTail}
+use Rattle.report_told.specs.Verdicts.{Certified}
 use Rattle.core_model.specs.Setup.{Setup, rules_of, seats_of, settings_of}
 use Rattle.core_model.specs.Worlds.{World, IsRun, world_after, seat_in}
 use Rattle.core_model.specs.Order.{effects_of, order_of, took_effect}
@@ -179,6 +181,9 @@ pub record IsPlayOf (plan : Plan) (packets : ℕ) (calls : List (ℕ × Call)) (
   pub lines : HasRightLines (play_setup service calls) (play_in plan service calls) played
   -- where no rows are given each call that ended was answered
   pub answered : plan.rows ≡ None → AreAnswered played.outcomes.items
+  -- what the first and the last lines tell has the sizes of its places
+  pub head : IsHead (head_of true plan)
+  pub tail : IsTail (head_of true plan) (play_tail service packets (length calls) played ending)
   pub text_is : text ≡ report_of (play_report plan service packets (length calls) played ending)
 
 -- of an input with these bytes, of which these are left, the text is the report, with this ending
@@ -189,10 +194,10 @@ PlayReports plan bytes left ending text =
 
 -- ---- what a run leaves
 
--- the whole report was put, with this ending
+-- The whole report was put, with this ending. It is certified: `check` says yes of it.
 abbrev pub PutsPlay : Plan → List ℕ → Option (List ℕ) → Option (List ℕ) → Option (List ℕ) → Ending → Type 0
 PutsPlay plan bytes left before after ending =
-    (text : List ℕ) × PlayReports plan bytes left ending text × Appends before after text
+    (text : List ℕ) × PlayReports plan bytes left ending text × Certified text × Appends before after text
 
 -- What `play` leaves that ended so: of the input's bytes these are left, and the sink had taken `before` and has taken
 -- `after`. Where a write failed, a front of the report was put; that a

@@ -33,6 +33,7 @@ use core_world::CoreWorld;
 use edge_traits::{Failed, Sink, Source, write_all};
 use plain_map::{Call, OpenFault, Pending, session_laws};
 use play_runner::{Played, Segment, most_steps};
+use report_promises::{head_fits, promise_laws, tail_fits};
 use report_text::{
     Ending, Line, Tail, head_text, order_text, outcome_text, pending_text, tail_text,
 };
@@ -57,6 +58,7 @@ pub(crate) fn play<S: Source, K: Sink>(
     ensures no_usage { result ≡ Status.Usage → ⊥ }
     ensures counted { (S.faults source.old ≤ S.faults source.new) × (K.faults sink.old ≤ K.faults sink.new) }
 {
+    promise_laws();
     let Ok(input) = read_input(alloc, source) else {
         return Status::Memory;
     };
@@ -128,10 +130,14 @@ fn report_of(alloc: Global, plan: &Plan, input: &Input) -> Result<Vec<u8>, Alloc
     let service = service_of(plan);
     let played = play_calls(alloc, plan, &service, &input.calls)?;
     let mut text = Vec::new(alloc);
-    head_text(&mut text, &head_of(true, plan))?;
+    let head = head_of(true, plan);
+    head_fits(&head, &service.settings);
+    head_text(&mut text, &head)?;
     put_played(&mut text, plan.seats, &played)?;
     put_sessions(&mut text, &played.pairs)?;
-    tail_text(&mut text, &play_tail(&service, input, &played))?;
+    let tail = play_tail(&service, input, &played);
+    tail_fits(&head, &tail, &service.settings);
+    tail_text(&mut text, &tail)?;
     Ok(text)
 }
 

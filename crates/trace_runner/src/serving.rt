@@ -6,6 +6,7 @@ ghost use Rattle.std.specs.Option.{ForSome};
 ghost use Rattle.edge_traits.specs.Edge.{Rose};
 ghost use Rattle.word_rows.specs.Shape.{AreBelow};
 ghost use Rattle.report_text.specs.Report.{IsEnding, head_line};
+ghost use Rattle.report_told.specs.Rules.{IsEndingTold};
 ghost use Rattle.trace_share.specs.Work.{IsLogOf};
 ghost use Rattle.batch_runner.specs.Dealt.{IsDealt};
 ghost use Rattle.batch_runner.specs.Seats.{HasWorked};
@@ -32,6 +33,7 @@ use capture_loop::{BATCH, Job, Means, Opened, PACKET_LIMIT, Piles, Stop, run_job
 use command_line::Plan;
 use edge_traits::{Gate, Sink, Source};
 use plain_map::{Call, session_laws};
+use report_promises::{ending_fits, head_fits, promise_laws};
 use report_text::{Ending, head_text, tail_text};
 use shared_table::Directory;
 use std::alloc::{AllocError, Global};
@@ -254,16 +256,38 @@ fn serve_input<R: Threads + Sync, S: Source, K: Sink, G: Gate + Sync>(
     ensures counted { (S.faults source.old ≤ S.faults source.new) × (K.faults sink.old ≤ K.faults sink.new) }
 {
     serving_laws();
+    promise_laws();
     let service = service_of(plan);
     let alloc = means.alloc;
     let mut text = Vec::with_capacity(alloc, TEXT_ROOM)?;
-    head_text(&mut text, &head_of(false, plan))?;
+    let head = head_of(false, plan);
+    head_fits(&head, &service.settings);
+    head_text(&mut text, &head)?;
     let mut piles = Piles {
         now: CallPile::new(alloc, service)?,
         next: CallPile::new(alloc, service)?,
     };
     let mut serving = Serving::new(alloc, service)?;
-    run_job::<R, S, K, G, Plan, Serving>(means, &mut serving, &mut piles, source, &mut text, sink)
+    let answer = run_job::<R, S, K, G, Plan, Serving>(
+        means,
+        &mut serving,
+        &mut piles,
+        source,
+        &mut text,
+        sink,
+    );
+    answer_fits(&answer);
+    answer
+}
+
+/// The ending that a run answers can be told.
+fn answer_fits(answer: &Result<Ending, Stop>)
+    requires { IfOk answer.now IsEnding }
+    ensures { IfOk answer.now IsEndingTold }
+{
+    if let Ok(ending) = answer {
+        ending_fits(*ending);
+    }
 }
 
 /// How the plan's calls are served.

@@ -11,6 +11,7 @@ ghost use Rattle.trace_runner.specs.Reading.{AreBetween, TakesCall};
 use flow_keys::call_of;
 use packet_heads::heads;
 use plain_map::Call;
+use report_promises::call_laws;
 use std::alloc::AllocError;
 
 /// The call of the packet with this number, or `None` where it makes none.
@@ -18,6 +19,7 @@ fn call_in(packet: &[u8], number: u32) -> Option<Call>
     ensures made { MakesCall number packet.now result }
     ensures fits { IfSome result (λ call. IsAskable call × HasText (key_in call) × IsKey (key_in call)) }
 {
+    call_laws();
     match heads(packet) {
         Some(heads) => {
             let call = call_of(&heads, number);

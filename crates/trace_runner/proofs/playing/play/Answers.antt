@@ -23,7 +23,7 @@ returns-in-Ok-write_all-clause-leaves g c =
     subst (LeavesPlayed c.args.plan.now failed first left before after) (sym c.of_ending.ensures)
     (LeavesPlayed-whole c.args.plan.now failed first left before after c.in-Ok.input.packets c.in-Ok.input.calls.items
     c.in-Ok.input.ending c.in-Ok.ensures.ended c.in-Ok-report_of.text.items c.in-Ok-report_of.ensures
-    (subst (Appends before after) c.deref.ensures.value c.in-Ok-write_all.ensures.ok))
+    c.promise_laws.ensures (subst (Appends before after) c.deref.ensures.value c.in-Ok-write_all.ensures.ok))
 
 pub returns-in-Ok-report_of-clause-leaves : goal.returns-in-Ok-report_of-clause-leaves
 returns-in-Ok-report_of-clause-leaves g c =

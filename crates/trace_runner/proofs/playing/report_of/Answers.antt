@@ -1,15 +1,18 @@
 -- What is told of the play can be printed, and the text is its report.
-use Rattle.std.proofs.Common.{◌++◌, ℕ, List, length, All, subst, sym, ap, ◌∙◌}
+use Rattle.std.proofs.Common.{◌++◌, ℕ, List, true, length, All, subst, sym, ap, ◌∙◌}
 use Rattle.std.specs.List.{flat_map}
 use Rattle.plain_map.specs.declared.calls.Call.{Call}
 use Rattle.plain_map.specs.declared.keys.Pair.{Pair}
 use Rattle.flow_keys.specs.FlowText.{HasText}
+use Rattle.report_text.specs.declared.parts.Head.{Head}
+use Rattle.report_told.specs.Rules.{IsHead, IsTail}
 use Rattle.report_text.specs.Report.{head_line, session_line, tail_lines}
 use Rattle.core_model.specs.Schedules.{CanPlay}
 use Rattle.play_runner.specs.declared.values.Played.{Played}
 use Rattle.play_runner.specs.Played.{IsPlayed}
 use Rattle.batch_runner.specs.declared.service.Service.{Service}
 use Rattle.batch_runner.specs.Served.{shares_of}
+use Rattle.trace_runner.specs.Served.{head_of}
 use Rattle.trace_runner.specs.Playing.{IsRightPlay, play_in, play_setup, schedule_in}
 use Rattle.trace_runner.proofs.PlayReports.{IsPlayOf-done, call-texts, depth-fits, ended-texts, pairs-texts, report-played, under-way-texts}
 use Rattle.trace_runner.proofs.playing.report_of.Goals as goal
@@ -54,8 +57,8 @@ put_sessions-requires c =
     (pairs-texts c.args.plan.now service calls played comes
     (call-texts 0 c.args.input.now.packets calls c.requires.between) right c.session_laws.ensures)
 
-pub play_tail-requires-clause-depth : goal.play_tail-requires-clause-depth
-play_tail-requires-clause-depth c =
+pub play_tail-tail-requires-clause-depth : goal.play_tail-tail-requires-clause-depth
+play_tail-tail-requires-clause-depth c =
     let service : Service = c.service_of-service.result in
     let calls : List (ℕ × Call) = c.args.input.now.calls.items in
     let played : Played = c.in_ok-played.played in
@@ -84,12 +87,15 @@ returns c =
     IsPlayOf-done c.args.plan.now service calls played comes c.args.input.now.packets c.args.input.now.ending
     c.tail_text.new.out.items c.playing_laws.ensures.right c.playing_laws.ensures.answered
     c.service_of-service.ensures.asks can c.requires.between.ascend
+    (subst IsHead c.head_of-head.ensures c.head_fits.ensures)
+    (subst (IsTail (head_of true c.args.plan.now)) c.play_tail-tail.ensures
+    (subst (λ (head : Head). IsTail head c.play_tail-tail.result) c.head_of-head.ensures c.tail_fits.ensures))
     (report-played c.args.plan.now service c.args.input.now.packets (length calls) played c.args.input.now.ending
     c.new-text.result.items c.head_text.new.out.items c.put_played.new.text.items c.put_sessions.new.text.items
     c.tail_text.new.out.items c.new-text.ensures.items
-    (c.in_ok-head_text.ensures.appended ∙ ap (λ head. c.new-text.result.items ++ head_line head) c.head_of.ensures)
+    (c.in_ok-head_text.ensures.appended ∙ ap (λ head. c.new-text.result.items ++ head_line head) c.head_of-head.ensures)
     c.in_ok-put_played.ensures
     (c.in_ok-put_sessions.ensures
     ∙ ap (λ pairs. c.put_played.new.text.items ++ flat_map session_line pairs) c.deref-2.ensures.value)
     (c.in_ok-tail_text.ensures.appended
-    ∙ ap (λ tail. c.put_sessions.new.text.items ++ tail_lines tail) c.play_tail.ensures))
+    ∙ ap (λ tail. c.put_sessions.new.text.items ++ tail_lines tail) c.play_tail-tail.ensures))

@@ -1,5 +1,7 @@
 -- The head line is held, and nothing was put.
-use Rattle.std.proofs.Common.{◌++◌, ap, ◌∙◌}
+use Rattle.std.proofs.Common.{◌++◌, ◌<◌, ◌^◌, ap, subst, ◌∙◌}
+use Rattle.report_text.specs.declared.parts.Head.{Head}
+use Rattle.report_told.specs.Rules.{seed_in}
 use Rattle.report_text.specs.Report.{head_line}
 use Rattle.edge_traits.specs.Edge.{Rose}
 use Rattle.trace_runner.proofs.EndLemmas.{Keeps-same}
@@ -8,13 +10,14 @@ use Rattle.trace_runner.proofs.serving.serve_input.Goals as goal
 
 pub returns-clause-leaves : goal.returns-clause-leaves
 returns-clause-leaves g c =
-    leaves_all c.serving_laws.ensures c.args.plan.now (Rose (g.S.Source.faults c.args.source.now) (g.S.Source.faults c.run_job.new.source))
-    (g.S.Source.left c.args.source.now) (g.S.Source.left c.run_job.new.source) (g.K.Sink.put c.args.sink.now)
-    (g.K.Sink.put c.run_job.new.sink) c.run_job.result
-    (c.run_job.ensures.leaves c.args.plan.now
+    leaves_all c.serving_laws.ensures c.args.plan.now (Rose (g.S.Source.faults c.args.source.now) (g.S.Source.faults c.run_job-answer.new.source))
+    (g.S.Source.left c.args.source.now) (g.S.Source.left c.run_job-answer.new.source) (g.K.Sink.put c.args.sink.now)
+    (g.K.Sink.put c.run_job-answer.new.sink) c.promise_laws.ensures (subst (λ (head : Head). seed_in head.hashing < 2 ^ 64) c.head_of-head.ensures c.head_fits.ensures.seed) c.run_job-answer.result
+    c.answer_fits.ensures
+    (c.run_job-answer.ensures.leaves c.args.plan.now
     (c.in_ok-serving.ensures.done c.args.plan.now c.head_text.new.out.items c.service_of-service.ensures.asks
     (c.in_ok-head_text.ensures.appended
-    ∙ ap (λ t. t ++ head_line c.head_of.result) c.in_ok-text.ensures.items ∙ ap head_line c.head_of.ensures)))
+    ∙ ap (λ t. t ++ head_line c.head_of-head.result) c.in_ok-text.ensures.items ∙ ap head_line c.head_of-head.ensures)))
 
 pub returns-in_err-text-clause-leaves : goal.returns-in_err-text-clause-leaves
 returns-in_err-text-clause-leaves g c =
