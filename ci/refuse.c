@@ -1,5 +1,5 @@
-// Loaded before the C library: counts the requests for memory, refuses the one whose number stands in REFUSE, and then writes a
-// byte to file 9. For ci/try-memory.
+// Loaded before the C library: counts the requests for memory, refuses the one whose number stands in REFUSE, and then
+// writes a byte to file 9. For ci/try-memory.
 #include <errno.h>
 #include <stdatomic.h>
 #include <stddef.h>

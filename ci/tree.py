@@ -52,7 +52,8 @@ class Function:
     """A function: its owner (a type, a trait, or nothing), its name, its clauses, and whether it is public."""
 
     def __init__(self, path, line, owner, name, public, clauses):
-        self.path, self.line, self.owner, self.name, self.public, self.clauses = path, line, owner, name, public, clauses
+        self.path, self.line, self.owner, self.name = path, line, owner, name
+        self.public, self.clauses = public, clauses
 
     def labels(self):
         return {label for kind, label, _ in self.clauses if kind == "ensures"}
@@ -75,7 +76,7 @@ BEHIND = re.compile(r"\s+(?:requires|ensures|where)\b|\s*//|[{;]")
 
 
 def contract_at(text, place):
-    """Where the contract of a function begins whose name ends at this place: behind its arguments and its answer's type."""
+    """Where a function's contract begins, whose name ends at this place: behind its arguments and its answer's type."""
     angles, arguments = 0, False
     while place < len(text):
         if text.startswith("->", place):
@@ -222,12 +223,14 @@ def cited(known):
             if not named:
                 continue
             for it in functions(path):
-                seen = it.public and (it.owner in handed or it.name in handed or (it.owner is None and path.stem in handed))
+                is_loose = it.owner is None and path.stem in handed
+                seen = it.public and (it.owner in handed or it.name in handed or is_loose)
                 if seen:
                     said = words_in(" ".join(clause for _, _, clause in it.clauses))
                     for word in said & set(named):
                         found.setdefault(named[word], set()).add(f"{crate}::{it.name}")
-            for m in re.finditer(r"^(?:pub (?:struct|trait|enum) (\w+)|impl(?:<[^{]*?>)? Model for (\w+))[^{;]*\{", text, re.M):
+            head = r"^(?:pub (?:struct|trait|enum) (\w+)|impl(?:<[^{]*?>)? Model for (\w+))[^{;]*\{"
+            for m in re.finditer(head, text, re.M):
                 name = m[1] or m[2]
                 if name in handed:
                     inside = text[m.end() : end_of(text, m.end() - 1)]

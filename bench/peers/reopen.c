@@ -1,4 +1,4 @@
-// What an opening and a reopening of a table with 256 pairs take, by its room. In peers.sh the part reopen.
+// What an opening and a reopening of a table with 256 pairs take, by its room. In run.sh the part reopen.
 //
 //   reopen [turns [seats updates]]     the least of so many turns; with seats and updates, of this size alone
 //

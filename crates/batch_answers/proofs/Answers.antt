@@ -9,27 +9,26 @@ use Rattle.plain_map.specs.declared.records.Record.{Record}
 use Rattle.plain_map.specs.Calls.{key_in}
 use Rattle.plain_map.specs.PlainObject.{pairs_of}
 use Rattle.plain_map.specs.History.{answered, Legal, sessions_after}
-use Rattle.plain_map.proofs.SessionLemmas.{pairs_of-sessions_of, sessions_of-nil}
-use Rattle.core_model.specs.Closed.{sessions_with}
-use Rattle.core_placing.proofs.Lists.{flat_map_append}
-use Rattle.core_bounds.specs.Moments.{asked_of}
-use Rattle.one_thread.specs.OneThread.{HasRoomForAll}
+use Rattle.table_model.specs.Closed.{sessions_with}
+use Rattle.list_laws.proofs.Lists.{flat_map_append}
+use Rattle.bound_laws.specs.Moments.{asked_of}
+use Rattle.placing_laws.specs.OneThread.{HasRoomForAll}
 use Rattle.trace_share.specs.declared.outcome.Outcome.{Outcome}
 use Rattle.trace_share.specs.declared.deals.Share.{Share}
 use Rattle.trace_share.specs.declared.deals.Share.TheVariants.{Flow}
 use Rattle.trace_share.specs.Deal.{dealt, flow_hash}
 use Rattle.trace_share.specs.Outcomes.{asked_in, record_in, records_in}
-use Rattle.batch_orders.specs.Batches.{Batch}
-use Rattle.batch_room.specs.Rooms.{NoneRefused}
-use Rattle.batch_thread.specs.Threads.{AreLinesOf, AreByKey, AnswerOneByOne, ClassesHaveRoom, all_lines}
-use Rattle.batch_thread.proofs.Shares.{flows_are_by_key}
-use Rattle.batch_thread.proofs.Room.{room_is_of_calls}
-use Rattle.batch_thread.proofs.Threads.{batches_answer_as_one_thread}
-use Rattle.batch_thread.proofs.OneSeat.{one_seat_answers}
+use Rattle.batch_history.specs.Batches.{Batch}
+use Rattle.batch_laws.specs.Rooms.{NoneRefused}
+use Rattle.batch_laws.specs.Threads.{AreLinesOf, AreByKey, AnswerOneByOne, ClassesHaveRoom, all_lines}
+use Rattle.batch_laws.proofs.Shares.{flows_are_by_key}
+use Rattle.batch_laws.proofs.Room.{room_is_of_calls}
+use Rattle.batch_laws.proofs.Threads.{batches_answer_as_one_thread}
+use Rattle.batch_laws.proofs.OneSeat.{one_seat_answers}
 use Rattle.batch_runner.specs.declared.service.Service.{Service}
 use Rattle.batch_runner.specs.Served.{Served, AreServed, history_in, pairs_left, rules_of}
 use Rattle.batch_runner.specs.Printed.{outcomes_in}
-use Rattle.batch_runner.proofs.Rights.{all_in_order, all_held}
+use Rattle.batch_runner.proofs.Rights.{all_in_order, all_held, none_held}
 use Rattle.batch_answers.specs.Answers.{NoneIsRefused, AllAreAnswered, ServedAsOneThread, all_answers, calls_in}
 use Rattle.batch_answers.proofs.Served.{none_refused, all_answered, asked_are, few_logs, line_is}
 
@@ -114,10 +113,6 @@ all_alone service first (batch ∷ batches) one are =
     All-cons (λ (b : Batch). length b.logs ≡ 1) (history_in service batch) (map (history_in service) batches)
     (length-map batch.logs records_in ∙ few_logs service batch are.1 ∙ one)
     (all_alone service batch.pairs batches one are.2)
-
--- nothing is held at first
-none_held : [] ≡ pairs_of empty
-none_held = sym (pairs_of-sessions_of [] tt) ∙ ap pairs_of sessions_of-nil
 
 pub served_as_one_thread : ServedAsOneThread
 served_as_one_thread service batches are like =

@@ -5,14 +5,14 @@ use Rattle.std.specs.FinMap.{empty}
 use Rattle.std.proofs.lemmas.List.Sorted.{IsPermutation-refl, IsPermutation-trans, IsPermutation-sym, IsPermutation-map, IsPermutation-append, IsPermutation-append_left}
 use Rattle.plain_map.specs.declared.keys.Pair.{Pair}
 use Rattle.plain_map.specs.History.{answered, Whole}
-use Rattle.core_model.specs.Closed.{sessions_with}
-use Rattle.core_placing.proofs.Lists.{flat_map_append}
+use Rattle.table_model.specs.Closed.{sessions_with}
+use Rattle.list_laws.proofs.Lists.{flat_map_append}
 use Rattle.trace_share.specs.declared.outcome.Outcome.{Outcome}
 use Rattle.trace_share.specs.declared.outcome.Outcome.TheVariants.{Answered, Refused}
 use Rattle.trace_share.specs.Outcomes.{record_in, records_in}
-use Rattle.batch_orders.specs.Batches.{all_calls, all_records, answered_then, gone_on}
-use Rattle.batch_orders.proofs.OneOrder.{batches_are_one_order}
-use Rattle.batch_thread.proofs.Lines.{line_is_permuted}
+use Rattle.batch_history.specs.Batches.{all_calls, all_records, answered_then, gone_on}
+use Rattle.batch_history.proofs.OneOrder.{batches_are_one_order}
+use Rattle.batch_laws.proofs.Lines.{line_is_permuted}
 use Rattle.batch_runner.specs.declared.service.Service.{Service}
 use Rattle.batch_runner.specs.Served.{Served, AreServed, history_in, pairs_left, rules_of}
 use Rattle.batch_runner.specs.Printed.{all_lines, answers_in, outcome_on}

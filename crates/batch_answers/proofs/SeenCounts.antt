@@ -10,19 +10,19 @@ use Rattle.plain_map.specs.declared.calls.Reply.{Reply}
 use Rattle.plain_map.specs.declared.full.Full.{Full}
 use Rattle.plain_map.specs.declared.keys.Pair.{Pair}
 use Rattle.plain_map.specs.declared.records.Record.{Record}
-use Rattle.core_model.specs.declared.events.Event.{Event}
-use Rattle.core_model.specs.Setup.{Setup, seats_of}
-use Rattle.core_model.specs.Phases.{Phase, SeeDone, StoreDone}
-use Rattle.core_model.specs.SeatStates.{Account, Flight, Stand, Idle, InFlight, SeatState, fresh_seat, begun, record_of}
-use Rattle.core_model.specs.Asks.{ask_in}
-use Rattle.core_model.specs.Goes.{state_after}
-use Rattle.core_model.specs.Worlds.{World, world_after, opening_world, happens, act, begin_or_refuse, step_of, refusal_of, seat_in, found_by}
+use Rattle.table_model.specs.declared.events.Event.{Event}
+use Rattle.table_model.specs.Setup.{Setup, seats_of}
+use Rattle.table_model.specs.Phases.{Phase, SeeDone, StoreDone}
+use Rattle.table_model.specs.SeatStates.{Account, Flight, Stand, Idle, InFlight, SeatState, fresh_seat, begun, record_of}
+use Rattle.table_model.specs.Asks.{ask_in}
+use Rattle.table_model.specs.Goes.{state_after}
+use Rattle.table_model.specs.Worlds.{World, world_after, opening_world, happens, act, begin_or_refuse, step_of, refusal_of, seat_in, found_by}
 use Rattle.trace_share.specs.declared.outcome.Outcome.{Outcome}
 use Rattle.trace_share.specs.declared.outcome.Outcome.TheVariants.{Answered, Refused}
 use Rattle.trace_share.specs.Outcomes.{records_in}
-use Rattle.batch_orders.specs.Batches.{answered_then, gone_on, with_counts}
-use Rattle.batch_orders.proofs.GoneOn.{index_with}
-use Rattle.batch_thread.proofs.Lines.{line_is_permuted}
+use Rattle.batch_history.specs.Batches.{answered_then, gone_on, with_counts}
+use Rattle.batch_history.proofs.GoneOn.{index_with}
+use Rattle.batch_laws.proofs.Lines.{line_is_permuted}
 use Rattle.batch_runner.specs.declared.service.Service.{Service}
 use Rattle.batch_runner.specs.Served.{Served, AreServed, IsServed, history_in, setup_of_batch}
 use Rattle.batch_runner.specs.Printed.{all_lines, lines_of, outcome_on}

@@ -1,43 +1,33 @@
 -- One batch that was served: its logs, and the line of its answers.
-use Rattle.std.proofs.Common.{◌≡◌, ℕ, ◌<◌, List, [], ◌∷◌, length, map, get_or, refl, inl, inr, sym, ap, ◌∙◌, subst, arith}
+use Rattle.std.proofs.Common.{◌≡◌, ℕ, ◌<◌, List, [], length, map, get_or, refl, inl, inr, sym, ap, ◌∙◌, subst, arith}
 use Rattle.std.specs.Prelude.{All, None, filter, ◌==◌}
 use Rattle.std.proofs.lemmas.Bool.{cases_lt, eq-eqb}
 use Rattle.std.proofs.lemmas.List.{length-map}
-use Rattle.std.proofs.lemmas.List.FromFn.{length-map-range_with_len}
-use Rattle.plain_map.specs.declared.calls.Call.{Call}
-use Rattle.core_placing.proofs.Lists.{In, in_map, map_in, filter_in}
-use Rattle.core_bounds.specs.Moments.{asked_of}
+use Rattle.list_laws.proofs.Lists.{In, in_map, map_in, filter_in}
+use Rattle.bound_laws.specs.Moments.{asked_of}
 use Rattle.trace_share.specs.declared.outcome.Outcome.{Outcome}
-use Rattle.trace_share.specs.declared.deals.Share.{Share}
-use Rattle.trace_share.specs.Deal.{calls_of, dealt}
 use Rattle.trace_share.specs.Outcomes.{asked_in, full_in, records_in}
 use Rattle.trace_share.proofs.OnceLemmas.{deals_each_once}
 use Rattle.batch_rows.specs.BatchRows.{rows_of}
-use Rattle.batch_room.specs.Rooms.{NoneRefused}
-use Rattle.batch_room.proofs.Logs.{all_in, in_all, answered_are_records}
-use Rattle.batch_room.proofs.Rooms.{batch_is_answered}
-use Rattle.batch_thread.specs.Threads.{IsLineOf}
-use Rattle.batch_thread.proofs.Shares.{outcomes_are_lines}
+use Rattle.batch_laws.specs.Rooms.{NoneRefused}
+use Rattle.batch_laws.proofs.Logs.{answered_are_records}
+use Rattle.list_laws.proofs.Places.{all_in}
+use Rattle.list_laws.proofs.Places.{in_all}
+use Rattle.batch_laws.proofs.Rooms.{batch_is_answered}
+use Rattle.batch_laws.specs.Threads.{IsLineOf}
+use Rattle.batch_laws.proofs.Shares.{outcomes_are_lines}
 use Rattle.batch_runner.specs.declared.service.Service.{Service}
 use Rattle.batch_runner.specs.Served.{Served, IsServed, setup_of_batch, shares_of}
 use Rattle.batch_runner.proofs.Alike.{alike}
 use Rattle.batch_runner.proofs.Closings.{numbered}
-
--- the images of images
-map_twice : {A B C : Type 0} → (g : B → C) (f : A → B) (xs : List A) → map g (map f xs) ≡ map (λ x. g (f x)) xs
-map_twice g f [] = refl
-map_twice g f (x ∷ xs) = ap (λ ys. g (f x) ∷ ys) (map_twice g f xs)
-
--- there is a share for each seat
-dealt_long : (share : Share) (seats : ℕ) (calls : List (ℕ × Call)) → length (dealt share seats calls) ≡ seats
-unfolding dealt
-dealt_long share seats calls = length-map-range_with_len (calls_of share seats calls) 0 seats
+use Rattle.batch_runner.proofs.Deals.{long_dealt}
+use Rattle.std.proofs.lemmas.Simd.{map-map}
 
 module _ (service : Service) (batch : Served) (is : IsServed service batch) where
   -- and a log
   pub few_logs : length batch.logs ≡ service.settings.seats
   few_logs = sym (length-map batch.logs (map asked_in)) ∙ ap length is.of_run.asked
-      ∙ dealt_long service.share service.settings.seats batch.calls
+      ∙ long_dealt service.share service.settings.seats batch.calls
 
   -- the table has as many seats as the settings say
   same_seats : batch.settings.seats ≡ service.settings.seats
@@ -87,7 +77,7 @@ module _ (service : Service) (batch : Served) (is : IsServed service batch) wher
 
   -- what was asked are the batch's calls
   pub asked_are : map asked_in plain ≡ batch.calls
-  asked_are = map_twice asked_in (λ (o : ℕ × Outcome). o.1) batch.outcomes ∙ is.outcomes.asked
+  asked_are = map-map asked_in (λ (o : ℕ × Outcome). o.1) batch.outcomes ∙ is.outcomes.asked
 
   -- so each has its record
   pub all_answered : service.rows ≡ None → map asked_of (records_in plain) ≡ batch.calls

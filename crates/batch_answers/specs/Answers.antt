@@ -7,11 +7,11 @@ use Rattle.plain_map.specs.declared.calls.Call.{Call}
 use Rattle.plain_map.specs.declared.records.Record.{Record}
 use Rattle.plain_map.specs.PlainObject.{pairs_of}
 use Rattle.plain_map.specs.History.{answered, Legal, Whole, sessions_after}
-use Rattle.core_bounds.specs.Moments.{asked_of}
+use Rattle.bound_laws.specs.Moments.{asked_of}
 use Rattle.trace_share.specs.declared.deals.Share.TheVariants.{Flow}
-use Rattle.batch_orders.specs.Batches.{all_calls}
-use Rattle.batch_room.specs.Rooms.{NoneRefused}
-use Rattle.batch_thread.specs.Threads.{ClassesHaveRoom}
+use Rattle.batch_history.specs.Batches.{all_calls}
+use Rattle.batch_laws.specs.Rooms.{NoneRefused}
+use Rattle.batch_laws.specs.Threads.{ClassesHaveRoom}
 use Rattle.batch_runner.specs.declared.service.Service.{Service}
 use Rattle.batch_runner.specs.Served.{Served, AreServed, history_in, pairs_left, rules_of}
 use Rattle.batch_runner.specs.Printed.{all_lines, answers_in, outcomes_in}

@@ -6,7 +6,6 @@ use Rattle.std.specs.FinMap.{empty, get, get-empty, insert}
 use Rattle.std.specs.List.{AllByRecursion as Each}
 use Rattle.std.proofs.lemmas.Bool.{cases_lt, eqb-true, eq-eqb, lt-ltb, or_cases, or_parts}
 use Rattle.std.proofs.lemmas.List.{map-append}
-use Rattle.std.proofs.lemmas.List.Elements.{All-from_recursion}
 use Rattle.std.proofs.lemmas.List.Sums.{length-filter, sum_by-append, sum_by-cons}
 use Rattle.std.proofs.lemmas.Map.Keys.{IsDistinct-cons}
 use Rattle.plain_map.specs.declared.calls.Call.{Call}
@@ -22,11 +21,11 @@ use Rattle.bucket_states.specs.Parts.{keys_of, HasDistinctKeys}
 use Rattle.bucket_states.proofs.KeyTests.{Decides-same_key}
 use Rattle.bucket_states.proofs.PartLemmas.{both_hold, get-inserted, get-removed}
 use Rattle.bucket_states.proofs.SizeLemmas.{entry_keys, of_class, class_size-keys, distinct_of_class, member_of_class}
-use Rattle.core_model.specs.Closed.{FilledByFirst, FilledByCalls, keys_with_prefix, sessions_with}
-use Rattle.core_model.specs.Needs.{IsAmongKeys, distinct_keys, inserted_by}
-use Rattle.core_model.specs.Setup.{HaveRoom, classmates}
-use Rattle.core_bounds.proofs.KeyCounts.{has, has_passing, distinct_has, at_most, no_more, each_has}
-use Rattle.core_bounds.proofs.Pigeons.{flag}
+use Rattle.table_model.specs.Closed.{FilledByFirst, FilledByCalls, keys_with_prefix, sessions_with}
+use Rattle.table_model.specs.Needs.{IsAmongKeys, distinct_keys, inserted_by}
+use Rattle.table_model.specs.Setup.{HaveRoom, classmates}
+use Rattle.bound_laws.proofs.KeyCounts.{has, has_passing, distinct_has, at_most, no_more, each_has}
+use Rattle.list_laws.proofs.Pigeons.{flag}
 use Rattle.batch_rows.specs.Depths.{InsertsAmong, depth_for, lesser_rules}
 use Rattle.batch_rows.proofs.CalmLemmas.{alike_before, depth_calm, depth_is_within, passes_less}
 use Rattle.batch_rows.proofs.KeyLemmas.{distinct_stay}

@@ -1,6 +1,6 @@
 -- Depths at which no prefix is crowded by some keys: none is crowded at a later depth, so those with a crowded prefix
 -- are the first ones, and the depth behind them, up to which a batch's table can become deep, is calm.
-use Rattle.std.proofs.Common.{◌≡◌, ℕ, zero, suc, ◌+◌, ◌-◌, ◌/◌, ◌^◌, ◌<◌, ◌≤◌, ◌==◌, ◌⊎◌, Bool, true, false, List, [], ◌∷◌, inl, inr, refl, sym, ap, subst, ◌∙◌, div-le_self, arith}
+use Rattle.std.proofs.Common.{◌≡◌, ℕ, suc, ◌+◌, ◌-◌, ◌/◌, ◌^◌, ◌<◌, ◌≤◌, ◌==◌, ◌⊎◌, Bool, true, false, List, [], ◌∷◌, inl, inr, refl, sym, ap, subst, ◌∙◌, div-le_self, arith}
 use Rattle.std.specs.Prelude.{count_by, nat_lt}
 use Rattle.std.specs.List.{range_with_len}
 use Rattle.std.proofs.Math.Nat.{div-div-eq-div-mul}
@@ -14,9 +14,9 @@ use Rattle.plain_map.specs.declared.keys.Key.{Key}
 use Rattle.plain_map.specs.declared.rules.Rules.{Rules}
 use Rattle.plain_map.specs.Keys.{hash_of_key}
 use Rattle.bucket_states.specs.Items.{prefix_of}
-use Rattle.core_model.specs.Needs.{distinct_keys, is_crowded, crowded_at}
-use Rattle.core_bounds.proofs.Levels.{count_range}
-use Rattle.core_bounds.proofs.Pigeons.{flag, passing, pigeons}
+use Rattle.table_model.specs.Needs.{distinct_keys, is_crowded, crowded_at}
+use Rattle.bound_laws.proofs.Levels.{count_range}
+use Rattle.list_laws.proofs.Pigeons.{flag, passing, pigeons, passing_most}
 use Rattle.batch_rows.specs.Depths.{depth_for}
 use Rattle.plain_map.proofs.KeyLemmas.{hash_of_key-within}
 
@@ -54,15 +54,6 @@ count_none : (test : ℕ → Bool) (numbers : List ℕ) → ((n : ℕ) → test 
 count_none test [] none = refl
 count_none test (n ∷ numbers) none =
     omega (arith, sum_by-cons (λ i. flag (test i)) n numbers, ap flag (none n), count_none test numbers none)
-
--- at most all pass
-passing_most : (test : ℕ → Bool) (n : ℕ) → passing test n ≤ n
-passing_most test zero = omega arith
-passing_most test (suc n) = omega (arith, passing_most test n, one (test n))
-  where
-    one : (b : Bool) → flag b ≤ 1
-    one true = omega arith
-    one false = omega arith
 
 -- where some number passes, they are not none
 passing_some : (test : ℕ → Bool) (n i : ℕ) → i < n → test i ≡ true → 1 ≤ passing test n

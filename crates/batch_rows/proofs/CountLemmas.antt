@@ -14,9 +14,9 @@ use Rattle.plain_map.specs.declared.rules.Rules.{Rules}
 use Rattle.plain_map.specs.PlainObject.{class_of}
 use Rattle.plain_map.specs.Keys.{hash_of_key}
 use Rattle.bucket_states.specs.Items.{prefix_of, same_key}
-use Rattle.core_model.specs.Needs.{crowded, crowded_at, is_crowded}
-use Rattle.core_bounds.proofs.Levels.{count_range, passing_alike}
-use Rattle.core_bounds.proofs.Pigeons.{passing}
+use Rattle.table_model.specs.Needs.{crowded, crowded_at, is_crowded}
+use Rattle.bound_laws.proofs.Levels.{count_range, passing_alike}
+use Rattle.list_laws.proofs.Pigeons.{passing}
 use Rattle.batch_rows.specs.Counts.{AreCounted, both_at}
 use Rattle.batch_rows.specs.Depths.{depth_for}
 use Rattle.batch_rows.proofs.KeyLemmas.{distinct_stay}

@@ -6,7 +6,7 @@ use Rattle.std.proofs.lemmas.List.Sums.{sum_by-cons}
 use Rattle.plain_map.specs.declared.keys.Key.{Key}
 use Rattle.plain_map.specs.declared.rules.Rules.{Rules}
 use Rattle.bucket_states.specs.Items.{prefix_of}
-use Rattle.core_model.specs.Needs.{crowded, crowded_at, splits_for}
+use Rattle.table_model.specs.Needs.{crowded, crowded_at, splits_for}
 use Rattle.batch_rows.specs.Counts.{HaveSameKeys}
 use Rattle.batch_rows.specs.Depths.{depth_for, lesser_rules}
 use Rattle.batch_rows.proofs.CalmLemmas.{calm_behind, depth_calm, depth_is_within, none_from_calm}

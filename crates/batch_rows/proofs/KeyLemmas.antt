@@ -1,6 +1,6 @@
 -- Keys, each once: what a sort and a dedup leave, and what depends on the keys alone and not on their order.
-use Rattle.std.proofs.Common.{◌≡◌, ℕ, ◌-◌, ◌^◌, ◌≤◌, Bool, true, false, cond, ◌||◌, List, [], ◌∷◌, ◌++◌, ◌+◌, ◌<◌, drop, length, take, get_or, append_assoc, refl, sym, ap, ◌∙◌, arith}
-use Rattle.std.specs.Prelude.{filter, count_by, sum_by, nat_lt, ◌&&◌, ◌==◌}
+use Rattle.std.proofs.Common.{◌≡◌, ℕ, ◌-◌, ◌^◌, Bool, true, false, cond, ◌||◌, List, [], ◌∷◌, ◌++◌, ◌+◌, ◌<◌, drop, length, take, get_or, append_assoc, refl, sym, ap, ◌∙◌, arith}
+use Rattle.std.specs.Prelude.{count_by, sum_by, nat_lt, ◌==◌}
 use Rattle.std.specs.List.{IsDistinct, range_with_len, dedup, AllByRecursion as Each}
 use Rattle.std.specs.List.Sorted.{IsPermutation}
 use Rattle.std.proofs.lemmas.Bool.{or_right}
@@ -9,7 +9,6 @@ use Rattle.std.proofs.lemmas.List.Concat.{flat_map-append}
 use Rattle.std.proofs.lemmas.List.Folds.{list_any-append}
 use Rattle.std.proofs.lemmas.List.Kept.{Contains-dedup, Contains-from_dedup}
 use Rattle.std.proofs.lemmas.List.Sorted.{list_any-IsPermutation}
-use Rattle.std.proofs.lemmas.List.Sums.{length-filter}
 use Rattle.std.proofs.lemmas.Map.Views.{Contains-from_any, list_any-from_Contains}
 use Rattle.plain_map.specs.declared.calls.Call.{Call}
 use Rattle.plain_map.specs.declared.calls.Call.TheVariants.{Insert, Lookup, Remove, Tally}
@@ -17,25 +16,20 @@ use Rattle.plain_map.specs.declared.keys.Key.{Key}
 use Rattle.plain_map.specs.declared.rules.Rules.{Rules}
 use Rattle.bucket_states.specs.Items.{prefix_of, same_key}
 use Rattle.bucket_states.proofs.KeyTests.{Decides-same_key, same_key-equiv}
-use Rattle.core_model.specs.Needs.{crowded, distinct_keys, inserted_by, splits_for}
-use Rattle.core_bounds.proofs.KeyCounts.{has, has_passing, distinct_has, no_more}
+use Rattle.table_model.specs.Needs.{crowded, distinct_keys, inserted_by, splits_for}
+use Rattle.bound_laws.proofs.KeyCounts.{has}
 use Rattle.batch_rows.specs.BatchRows.{inserted_in_calls}
 use Rattle.batch_rows.specs.Counts.{HaveSameKeys}
-
--- of more keys no fewer pass a test
-no_fewer : (test : Key → Bool) (few many : List Key) → ((q : Key) → has few q ≡ true → has many q ≡ true) →
-    count_by test (distinct_keys few) ≤ count_by test (distinct_keys many)
-no_fewer test few many sub =
-    let some = no_more test few (filter test (distinct_keys many)) (λ q t h. has_passing test (distinct_keys many) q
-    ∙ ap (λ b. b && has (distinct_keys many) q) t ∙ distinct_has many q ∙ sub q h) in
-    omega (arith, some, length-filter test (distinct_keys many))
+use Rattle.list_laws.proofs.Truths.{both_ways}
+use Rattle.std.proofs.Math.Bool.{or-false}
+use Rattle.bound_laws.proofs.Crowded.{more_pass}
 
 -- of the same keys as many pass
 pub as_many : (keys others : List Key) → HaveSameKeys keys others → (test : Key → Bool) →
     count_by test (distinct_keys keys) ≡ count_by test (distinct_keys others)
 as_many keys others same test =
-    let less = no_fewer test keys others (λ q h. sym (same q) ∙ h) in
-    let more = no_fewer test others keys (λ q h. same q ∙ h) in
+    let less = more_pass test keys others (λ q h. sym (same q) ∙ h) in
+    let more = more_pass test others keys (λ q h. same q ∙ h) in
     omega (arith, less, more)
 
 -- so the same prefixes are crowded
@@ -65,12 +59,6 @@ distinct_stay (key ∷ keys) distinct =
 pub same_with : (keys others more : List Key) → HaveSameKeys keys others → HaveSameKeys (keys ++ more) (others ++ more)
 same_with keys others more same = λ q. list_any-append (same_key q) keys more
     ∙ ap (λ b. b || has more q) (same q) ∙ sym (list_any-append (same_key q) others more)
-
--- where each of two tests passes exactly where the other does, they are equal
-both_ways : (a b : Bool) → (a ≡ true → b ≡ true) → (b ≡ true → a ≡ true) → a ≡ b
-both_ways true b to from = sym (to refl)
-both_ways false true to from = from refl
-both_ways false false to from = refl
 
 -- what a dedup leaves has the same keys
 dedup_same : (keys : List Key) → HaveSameKeys (dedup same_key keys) keys
@@ -128,11 +116,6 @@ inserted_more calls place nobody inside =
     ∙ flat_map-append (λ asked. inserted_by asked.1) (take place calls) (get_or calls place nobody ∷ [])
     ∙ ap (λ more. inserted_in_calls (take place calls) ++ more) (append-nil (inserted_by (get_or calls place nobody).1))
 
--- or with what is not so changes nothing
-or_false : (b : Bool) → (b || false) ≡ b
-or_false true = refl
-or_false false = refl
-
 -- a key that stands there need not be added
 pub same_told : (keys inserted : List Key) (key : Key) → has keys key ≡ true → HaveSameKeys keys inserted →
     HaveSameKeys keys (inserted ++ key ∷ [])
@@ -140,7 +123,7 @@ same_told keys inserted key there same q =
     same q ∙ sym (list_any-append (same_key q) inserted (key ∷ []) ∙ by (same_key q key) refl)
   where
     by : (b : Bool) → same_key q key ≡ b → (has inserted q || (b || false)) ≡ has inserted q
-    by false e = or_false (has inserted q)
+    by false e = or-false (has inserted q)
     by true e =
         let equal : q ≡ key = (Decides-same_key q key).0 e in
         let yes : has inserted q ≡ true = sym (same q) ∙ ap (has keys) equal ∙ there in
@@ -166,7 +149,7 @@ last_of_three : (a b c : Bool) → (a || (b || c)) ≡ ((a || c) || (b || false)
 last_of_three true b c = refl
 last_of_three false true true = refl
 last_of_three false true false = refl
-last_of_three false false c = sym (or_false c)
+last_of_three false false c = sym (or-false c)
 
 -- a key that is added to the first ones, before those that are left, is one more that has been told
 pub same_taken : (all left told : List Key) (key : Key) → HaveSameKeys (all ++ left) told →

@@ -14,9 +14,9 @@ use Rattle.plain_map.specs.declared.leaves.Leaf.{Leaf}
 use Rattle.plain_map.specs.declared.rules.Rules.{Rules}
 use Rattle.plain_map.specs.History.{Placed, Legal, sessions_after}
 use Rattle.bucket_states.specs.Parts.{HasDistinctKeys, keys_of}
-use Rattle.core_model.specs.Closed.{Warranted, sessions_with}
-use Rattle.core_model.specs.Needs.{IsAmongKeys}
-use Rattle.core_model.specs.Setup.{HaveRoom}
+use Rattle.table_model.specs.Closed.{Warranted, sessions_with}
+use Rattle.table_model.specs.Needs.{IsAmongKeys}
+use Rattle.table_model.specs.Setup.{HaveRoom}
 use Rattle.batch_rows.specs.Depths.{InsertsAmong, lesser_rules}
 pub use Rattle.batch_rows.proofs.CalmLemmas.{depth_is_within}
 use Rattle.batch_rows.proofs.AlikeLemmas.{after_alike, filled_by_calls, filled_by_first, legal_after, mates_below, room_kept}

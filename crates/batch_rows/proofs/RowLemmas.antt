@@ -10,7 +10,7 @@ use Rattle.plain_map.specs.declared.keys.Key.{Key}
 use Rattle.plain_map.specs.declared.keys.Pair.{Pair}
 use Rattle.plain_map.specs.declared.rules.Rules.{Rules}
 use Rattle.bucket_states.specs.Parts.{keys_of}
-use Rattle.core_model.specs.Needs.{batch_rows_of, splits_for}
+use Rattle.table_model.specs.Needs.{batch_rows_of, splits_for}
 use Rattle.batch_rows.specs.BatchRows.{inserted_in_calls, rows_of, rules_in, splits_in_calls, updates_in_calls}
 use Rattle.batch_rows.specs.Counts.{HaveSameKeys}
 use Rattle.batch_rows.specs.Depths.{IsTableFor, depth_for, keys_in_batch, lesser_rules}

@@ -10,8 +10,8 @@ use Rattle.plain_map.specs.declared.keys.Key.{Key}
 use Rattle.plain_map.specs.declared.keys.Pair.{Pair}
 use Rattle.plain_map.specs.declared.rules.Rules.{Rules}
 use Rattle.bucket_states.specs.Parts.{keys_of}
-use Rattle.core_model.specs.SeatStates.{is_update}
-use Rattle.core_model.specs.Needs.{batch_rows_of, inserted_by, splits_for}
+use Rattle.plain_map.specs.Calls.{is_update}
+use Rattle.table_model.specs.Needs.{batch_rows_of, inserted_by, splits_for}
 
 -- the room of a bucket, the greatest depth and the hashing
 abbrev pub rules_in : Settings → Hashing → Rules

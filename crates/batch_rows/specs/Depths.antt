@@ -13,7 +13,7 @@ use Rattle.plain_map.specs.declared.keys.Pair.{Pair}
 use Rattle.plain_map.specs.declared.rules.Rules.{Rules}
 use Rattle.plain_map.specs.History.{Placed, call_in}
 use Rattle.bucket_states.specs.Parts.{keys_of}
-use Rattle.core_model.specs.Needs.{IsAmongKeys, crowded_at, inserted_by}
+use Rattle.table_model.specs.Needs.{IsAmongKeys, crowded_at, inserted_by}
 use Rattle.batch_rows.specs.BatchRows.{inserted_in_calls, rules_in}
 
 -- The starting depth, and as many more as there are depths of which some prefix is crowded by these keys, up to the

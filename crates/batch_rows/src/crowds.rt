@@ -7,7 +7,7 @@ ghost use Rattle.std.specs.Prelude.{◌≡◌, ℕ, ◌+◌, ◌*◌, ◌^◌, �
 ghost use Rattle.std.specs.List.{IsDistinct, range_with_len};
 ghost use Rattle.plain_map.specs.PlainObject.{InRange};
 ghost use Rattle.bucket_states.specs.Items.{same_key};
-ghost use Rattle.core_model.specs.Needs.{crowded};
+ghost use Rattle.table_model.specs.Needs.{crowded};
 ghost use Rattle.batch_rows.specs.Counts.{both_at};
 ghost use Rattle.batch_rows.specs.Depths.{depth_for};
 

@@ -4,7 +4,7 @@ ghost use Rattle.std.specs.Prelude.{◌≡◌, ℕ, ◌^◌, ◌<◌, All, IfOk,
 ghost use Rattle.std.specs.Option.{ForSome};
 ghost use Rattle.plain_map.specs.declared.calls.Call.{Call as ACall};
 ghost use Rattle.word_rows.specs.Shape.{AreBelow};
-ghost use Rattle.core_model.specs.Needs.{batch_rows_of};
+ghost use Rattle.table_model.specs.Needs.{batch_rows_of};
 ghost use Rattle.batch_rows.specs.BatchRows.{rows_of, updates_in_calls};
 ghost use Rattle.batch_rows.specs.Demands.{IsDemandOf};
 ghost use Rattle.batch_rows.specs.Depths.{IsTableFor};

@@ -3,7 +3,7 @@
 ghost use Rattle.std.specs.Prelude.{◌≡◌, ◌++◌, ◌^◌, ◌<◌, ◌≤◌, IfOk};
 ghost use Rattle.plain_map.specs.PlainObject.{InRange};
 ghost use Rattle.bucket_states.specs.Parts.{keys_of};
-ghost use Rattle.core_model.specs.Needs.{splits_for};
+ghost use Rattle.table_model.specs.Needs.{splits_for};
 ghost use Rattle.batch_rows.specs.Counts.{AreInOrder};
 ghost use Rattle.batch_rows.specs.Depths.{depth_for, lesser_rules};
 

@@ -19,9 +19,9 @@ use Rattle.plain_map.specs.History.{Placed, answered, Legal, Whole, sessions_aft
 use Rattle.bucket_states.specs.Items.{same_key}
 use Rattle.bucket_states.specs.Parts.{HasDistinctKeys, keys_of}
 use Rattle.bucket_states.proofs.KeyTests.{Decides-same_key}
-use Rattle.core_model.specs.Closed.{Warranted, sessions_with}
-use Rattle.core_model.specs.Needs.{IsAmongKeys, inserted_by}
-use Rattle.core_model.specs.Setup.{HaveRoom}
+use Rattle.table_model.specs.Closed.{Warranted, sessions_with}
+use Rattle.table_model.specs.Needs.{IsAmongKeys, inserted_by}
+use Rattle.table_model.specs.Setup.{HaveRoom}
 use Rattle.trace_share.specs.declared.outcome.Outcome.{Outcome}
 use Rattle.trace_share.specs.declared.outcome.Outcome.TheVariants.{Answered, Refused}
 use Rattle.trace_share.specs.Outcomes.{asked_in, records_in}

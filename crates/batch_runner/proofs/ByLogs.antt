@@ -15,11 +15,12 @@ use Rattle.trace_share.specs.declared.outcome.Outcome.{Outcome}
 use Rattle.trace_share.specs.declared.outcome.Outcome.TheVariants.{Refused}
 use Rattle.trace_share.proofs.DealLemmas.{map_cond, other_is, same_is}
 use Rattle.trace_share.proofs.OnceLemmas.{flat_map_nothing, flat_map_same, one_makes}
+use Rattle.list_laws.proofs.Cuts.{zero_at}
 use Rattle.batch_runner.specs.declared.totals.Totals.{Totals}
 use Rattle.batch_runner.specs.declared.totals.Replies.{Replies}
 use Rattle.batch_runner.specs.Served.{AreInPacketOrder}
 use Rattle.batch_runner.specs.Totals.{totals_of, with_replies}
-use Rattle.batch_runner.proofs.Merges.{AreOf, Until, one_left, until_end, until_next, until_start, zero_at, zeros}
+use Rattle.batch_runner.proofs.Merges.{AreOf, Until, one_left, until_end, until_next, until_start, zeros}
 use Rattle.batch_runner.proofs.TotalLemmas.{totals_sum, with_totals}
 use Rattle.plain_map.specs.Keys.{no_key}
 

@@ -5,16 +5,16 @@ use Rattle.std.specs.List.{enumerate_from}
 use Rattle.std.proofs.lemmas.Bool.{cases_lt}
 use Rattle.std.proofs.lemmas.List.Elements.{All-nil, All-append, All-head, All-tail}
 use Rattle.plain_map.specs.declared.records.Record.{Record}
-use Rattle.core_model.specs.SeatStates.{SeatState, Idle, fresh_seat}
-use Rattle.core_model.specs.Setup.{Setup, seats_of}
-use Rattle.core_model.specs.Worlds.{World, world_after, seat_in}
-use Rattle.core_model.specs.Closed.{begun_by, closing_of}
-use Rattle.core_model.specs.Order.{Closing}
-use Rattle.core_model.specs.Promises.{HasSteps}
-use Rattle.core_answers.proofs.AllRuns.{all_tell}
-use Rattle.core_bounds.proofs.Ends.{steps_are_bounded, records_are_numbered}
+use Rattle.table_model.specs.SeatStates.{SeatState, Idle, fresh_seat}
+use Rattle.table_model.specs.Setup.{Setup, seats_of}
+use Rattle.table_model.specs.Worlds.{World, world_after, seat_in}
+use Rattle.table_model.specs.Closed.{begun_by, closing_of}
+use Rattle.table_model.specs.Order.{Closing}
+use Rattle.table_model.specs.Promises.{HasSteps}
+use Rattle.order_laws.proofs.AllRuns.{all_tell}
+use Rattle.bound_laws.proofs.Ends.{steps_are_bounded, records_are_numbered}
 use Rattle.trace_share.specs.Outcomes.{records_in}
-use Rattle.batch_orders.specs.Batches.{AreNumbered}
+use Rattle.batch_history.specs.Batches.{AreNumbered}
 use Rattle.batch_runner.specs.declared.service.Service.{Service}
 use Rattle.batch_runner.specs.Served.{Served, IsOfRun, closing_in, setup_of_batch}
 

@@ -5,8 +5,8 @@ use Rattle.std.proofs.lemmas.List.{length-map}
 use Rattle.std.proofs.lemmas.List.Elements.{All-nil, All-cons, All-head, All-tail, All-weaker}
 use Rattle.plain_map.specs.declared.calls.Call.{Call}
 use Rattle.trace_share.specs.declared.outcome.Outcome.{Outcome}
-use Rattle.trace_share.specs.declared.outcome.Outcome.TheVariants.{Answered, Refused}
 use Rattle.trace_share.specs.Outcomes.{asked_in, records_in}
+use Rattle.trace_share.proofs.OutcomeLemmas.{records_few}
 use Rattle.batch_runner.specs.declared.service.Service.{Service}
 use Rattle.batch_runner.specs.Served.{shares_of}
 use Rattle.batch_runner.proofs.Deals.{dealt_few}
@@ -16,12 +16,6 @@ pub unmap_all : {A B : Type 0} (P : B → Type 0) (f : A → B) (xs : List A) �
 unmap_all P f [] all = All-nil (λ x. P (f x))
 unmap_all P f (x ∷ xs) all =
     All-cons (λ y. P (f y)) x xs (All-head P (f x) (map f xs) all) (unmap_all P f xs (All-tail P (f x) (map f xs) all))
-
--- the answered calls of a log are no more than its calls
-few_answers : (log : List Outcome) → length (records_in log) ≤ length log
-few_answers [] = omega arith
-few_answers (Answered made ∷ log) = omega (arith, few_answers log)
-few_answers (Refused packet call full ∷ log) = omega (arith, few_answers log)
 
 -- no log is longer than all calls
 pub short_asked : (service : Service) (calls : List (ℕ × Call)) (logs : List (List Outcome)) →
@@ -33,7 +27,7 @@ short_asked service calls logs asked =
     let shares : All L (shares_of service calls) = dealt_few service.share service.settings.seats calls in
     All-weaker (λ (log : List Outcome). length (map asked_in log) ≤ length calls)
     (λ (log : List Outcome). length (records_in log) ≤ length calls)
-    (λ log few. omega (arith, few, length-map log asked_in, few_answers log)) logs
+    (λ log few. omega (arith, few, length-map log asked_in, records_few log)) logs
     (unmap_all L f logs (subst (All L) (sym asked) shares))
 
 -- whole logs neither

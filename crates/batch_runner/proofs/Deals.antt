@@ -11,8 +11,8 @@ use Rattle.step_counts.specs.declared.rows.SeatRows.{SeatRows}
 use Rattle.step_counts.specs.declared.settings.Settings.{Settings}
 use Rattle.plain_map.specs.declared.calls.Call.{Call}
 use Rattle.plain_map.specs.declared.keys.Pair.{Pair}
-use Rattle.core_model.specs.Needs.{batch_rows_of}
-use Rattle.core_model.specs.SeatStates.{is_update}
+use Rattle.table_model.specs.Needs.{batch_rows_of}
+use Rattle.plain_map.specs.Calls.{is_update}
 use Rattle.trace_share.specs.declared.deals.Share.{Share}
 use Rattle.trace_share.specs.Deal.{makes, calls_of, dealt}
 use Rattle.batch_rows.specs.declared.demand.Demand.{Demand}

@@ -7,9 +7,9 @@ use Rattle.plain_map.specs.declared.calls.Call.{Call}
 use Rattle.plain_map.specs.declared.keys.Pair.{Pair}
 use Rattle.plain_map.specs.declared.records.Record.{Record}
 use Rattle.word_rows.specs.Shape.{Shape}
-use Rattle.core_model.specs.Setup.{Setup, seats_of, settings_of}
-use Rattle.core_model.specs.Closed.{closed_depth}
-use Rattle.history_order.specs.Closing.{IsOfARun}
+use Rattle.table_model.specs.Setup.{Setup, seats_of, settings_of}
+use Rattle.table_model.specs.Closed.{closed_depth}
+use Rattle.table_model.specs.Closing.{IsOfARun}
 use Rattle.shared_table.specs.SeatValues.{SeatValue}
 use Rattle.shared_table.specs.Values.{IsOf, Ran, TableValue, new_seat}
 use Rattle.shared_table.specs.Orders.{AreInTurn, ClosedIsOfARun}

@@ -6,10 +6,10 @@ use Rattle.std.proofs.lemmas.List.Elements.{All-get_or}
 use Rattle.step_counts.specs.StepCounts.{need_of}
 use Rattle.plain_map.specs.declared.calls.Call.{Call}
 use Rattle.word_rows.specs.Shape.{sizes_of}
-use Rattle.core_model.specs.Setup.{seats_of, settings_of}
-use Rattle.core_model.specs.SeatStates.{SeatState, Idle, fresh_seat}
-use Rattle.core_model.specs.Worlds.{World, world_after, seat_in}
-use Rattle.core_answers.proofs.AllRuns.{all_tell}
+use Rattle.table_model.specs.Setup.{seats_of, settings_of}
+use Rattle.table_model.specs.SeatStates.{SeatState, Idle, fresh_seat}
+use Rattle.table_model.specs.Worlds.{World, world_after, seat_in}
+use Rattle.order_laws.proofs.AllRuns.{all_tell}
 use Rattle.shared_table.specs.SeatValues.{SeatValue, account_of}
 use Rattle.shared_table.specs.Values.{IsLeft, Ran, TableValue, new_seat}
 use Rattle.trace_share.specs.declared.outcome.Outcome.{Outcome}

@@ -1,6 +1,6 @@
 -- The lines of a batch as they come.
 use Rattle.std.proofs.Common.{◌≡◌, ℕ, List, ◌++◌, sym, ap, ◌∙◌}
-use Rattle.std.specs.Prelude.{flat_map, OnErr, Result, Ok, Err}
+use Rattle.std.specs.Prelude.{flat_map}
 use Rattle.std.specs.Borrow.{Bor}
 use Rattle.std.proofs.lemmas.List.Folds.{flat_map-map}
 use Rattle.plain_map.specs.declared.records.CallId.{CallId}
@@ -30,8 +30,3 @@ lines_are seats before service served outcomes order are stands =
     ∙ ap (λ (ls : List ℕ). ls ++ last)
     (sym (flat_map-map (λ (o : ℕ × Outcome). outcome_line seats o.0 o.1)
     (λ (o : ℕ × Outcome). (o.0, outcome_on before o.1)) served.outcomes))
-
--- what holds holds after want of memory
-pub on_err : {T E P : Type 0} (r : Result T E) → P → OnErr r P
-on_err (Ok x) p = tt
-on_err (Err e) p = p

@@ -1,5 +1,5 @@
 -- The outcomes of all seats, put together call by call.
-use Rattle.std.proofs.Common.{◌≡◌, ℕ, suc, zero, ◌<◌, ◌≤◌, ◌+◌, Bool, true, false, cond, ◌==◌, List, [], ◌∷◌, ◌++◌, length, map, take, drop, set, get_or, filter, replicate, refl, sym, ap, ◌∙◌, subst, inl, inr, zero-add, length-append, arith, Vec, Global}
+use Rattle.std.proofs.Common.{◌≡◌, ℕ, ◌<◌, ◌≤◌, ◌+◌, Bool, true, false, cond, ◌==◌, List, [], ◌∷◌, ◌++◌, length, map, take, drop, set, get_or, filter, replicate, refl, sym, ap, ◌∙◌, subst, inl, inr, zero-add, length-append, arith, Vec, Global}
 use Rattle.std.specs.Prelude.{All}
 use Rattle.std.specs.List.{enumerate_from}
 use Rattle.std.proofs.lemmas.Bool.{cases_eq}
@@ -230,11 +230,6 @@ module _ (share : Share) (seats : ℕ) (calls : List (ℕ × Call)) (logs : List
 -- a row of zeros
 abbrev pub zeros : ℕ → List ℕ
 zeros n = replicate n 0
-
-pub zero_at : (n k : ℕ) → get_or (zeros n) k 0 ≡ 0
-zero_at zero k = refl
-zero_at (suc n) zero = refl
-zero_at (suc n) (suc k) = zero_at n k
 
 -- a log among those that are held
 pub held_log : (logs : List (Vec Outcome Global)) (seat : ℕ) (log : Vec Outcome Global) → seat < length logs →

@@ -3,7 +3,7 @@ use Rattle.std.proofs.Common.{[], length, length-append, ap, arith, ◌∷◌}
 use Rattle.std.proofs.lemmas.List.Elements.{All-nil}
 use Rattle.plain_map.specs.declared.rules.Rules.{Rules}
 use Rattle.std.specs.List.{IsDistinct}
-use Rattle.core_model.specs.Setup.{IsPair}
+use Rattle.table_model.specs.Setup.{IsPair}
 use Rattle.batch_runner.specs.Served.{CanOpen}
 
 pub opens_nothing : (rules : Rules) → CanOpen rules []

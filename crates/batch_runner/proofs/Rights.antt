@@ -11,18 +11,18 @@ use Rattle.plain_map.specs.declared.rules.Rules.{Rules}
 use Rattle.plain_map.specs.PlainObject.{Sessions, pairs_of}
 use Rattle.plain_map.specs.History.{Placed, Legal, After, Whole, sessions_after}
 use Rattle.plain_map.proofs.SessionLemmas.{pairs_of-sessions_of, sessions_of-nil}
-use Rattle.core_model.specs.Order.{Closing, effects_of, order_of}
-use Rattle.core_model.specs.Promises.{HasSteps}
-use Rattle.core_model.specs.Closed.{Cover, Warranted, closed_depth, closed_leaves, closed_pairs, greatest_depth, sessions_with}
-use Rattle.core_model.specs.Histories.{closed, sessions_of_order}
-use Rattle.core_orders.proofs.Promised.{order_is_legal, order_is_after, order_is_whole, pairs_are_of_the_order}
-use Rattle.core_orders.proofs.Depths.{depth_is_of_leaves}
-use Rattle.core_orders.proofs.Warranted.{leaves_are_warranted}
-use Rattle.core_orders.proofs.Reopened.{reopened}
-use Rattle.core_orders.proofs.Reopens.{pairs_reopen_in_any_turn, sorted_pairs_are_held}
-use Rattle.core_book.proofs.Covers.{leaves_cover}
+use Rattle.table_model.specs.Order.{Closing, effects_of, order_of}
+use Rattle.table_model.specs.Promises.{HasSteps}
+use Rattle.table_model.specs.Closed.{Cover, Warranted, closed_depth, closed_leaves, closed_pairs, greatest_depth, sessions_with}
+use Rattle.table_model.specs.Histories.{closed, sessions_of_order}
+use Rattle.order_laws.proofs.Promised.{order_is_legal, order_is_after, order_is_whole, pairs_are_of_the_order}
+use Rattle.order_laws.proofs.Depths.{depth_is_of_leaves}
+use Rattle.order_laws.proofs.Warranted.{leaves_are_warranted}
+use Rattle.order_laws.proofs.Reopened.{reopened}
+use Rattle.order_laws.proofs.Reopens.{pairs_reopen_in_any_turn, sorted_pairs_are_held}
+use Rattle.closed_laws.proofs.Covers.{leaves_cover}
 use Rattle.trace_share.specs.Outcomes.{records_in}
-use Rattle.batch_orders.specs.Batches.{AreInOrder, IsInOrder, BatchesAreOneOrder}
+use Rattle.batch_history.specs.Batches.{AreInOrder, IsInOrder, BatchesAreOneOrder}
 use Rattle.batch_rows.specs.BatchRows.{rules_in}
 use Rattle.batch_rows.specs.Depths.{InsertsAmong, keys_in_batch}
 use Rattle.batch_runner.specs.declared.service.Service.{Service}
@@ -173,7 +173,7 @@ all_held service first (batch ∷ batches) are start =
     all_held service batch.pairs batches are.2 (held service batch are.1)
 
 -- nothing is held at first
-none_held : [] ≡ pairs_of empty
+pub none_held : [] ≡ pairs_of empty
 none_held = sym (pairs_of-sessions_of [] tt) ∙ ap pairs_of sessions_of-nil
 
 pub served_are_right : BatchesAreOneOrder → ServedAreRight

@@ -1,14 +1,14 @@
 -- A closed table's directory is no deeper than its greatest depth.
 use Rattle.std.proofs.Common.{◌≡◌, ℕ, ◌≤◌, List, ap, ◌∙◌, arith}
-use Rattle.core_model.specs.Setup.{Setup}
-use Rattle.core_model.specs.Directories.{DirectoryState}
-use Rattle.core_model.specs.Reading.{directory_at}
-use Rattle.core_model.specs.Worlds.{World, IsRun, world_after}
-use Rattle.core_model.specs.declared.events.Event.{Event}
-use Rattle.core_model.specs.Closed.{closed_depth}
-use Rattle.core_reading.proofs.Read.{directory_is}
-use Rattle.core_book.proofs.Covers.{book, written}
-use Rattle.core_answers.proofs.AllRuns.{all_tell}
+use Rattle.table_model.specs.Setup.{Setup}
+use Rattle.table_model.specs.Directories.{DirectoryState}
+use Rattle.table_model.specs.Reading.{directory_at}
+use Rattle.table_model.specs.Worlds.{World, IsRun, world_after}
+use Rattle.table_model.specs.declared.events.Event.{Event}
+use Rattle.table_model.specs.Closed.{closed_depth}
+use Rattle.closed_laws.proofs.Read.{directory_is}
+use Rattle.closed_laws.proofs.Covers.{book, written}
+use Rattle.order_laws.proofs.AllRuns.{all_tell}
 
 pub shallow : (setup : Setup) (events : List Event) → IsRun setup events →
     closed_depth setup.shape (world_after setup events).words ≤ setup.shape.settings.depth

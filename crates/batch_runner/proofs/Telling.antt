@@ -8,7 +8,7 @@ use Rattle.trace_share.specs.declared.outcome.Outcome.{Outcome}
 use Rattle.trace_share.specs.declared.outcome.Outcome.TheVariants.{Answered, Refused}
 use Rattle.report_text.specs.Report.{call_in}
 use Rattle.trace_share.specs.Outcomes.{asked_in, records_in}
-use Rattle.batch_orders.specs.Batches.{answered_then, with_counts}
+use Rattle.batch_history.specs.Batches.{answered_then, with_counts}
 use Rattle.std.proofs.lemmas.Simd.{map-map}
 use Rattle.plain_map.specs.declared.records.Record.{Record}
 use Rattle.batch_runner.specs.declared.service.Service.{Service}

@@ -1,57 +1,22 @@
 -- One call more.
-use Rattle.std.proofs.Common.{◌≡◌, ℕ, ◌<◌, ◌≤◌, ◌+◌, max, Bool, true, false, cond, List, [], ◌∷◌, ◌++◌, length, map, take, filter, get_or, fold, ◌^◌, subst, refl, sym, ap, ◌∙◌, append-nil, length-append, arith}
+use Rattle.std.proofs.Common.{◌≡◌, ℕ, ◌<◌, ◌≤◌, ◌+◌, max, Bool, List, [], ◌∷◌, ◌++◌, length, filter, fold, ◌^◌, subst, sym, ap, ◌∙◌, append-nil, length-append, arith}
 use Rattle.std.proofs.lemmas.Int.{clamps}
 use Rattle.std.specs.Prelude.{count_by, is_some, not}
 use Rattle.std.proofs.lemmas.Grind.{flat_map-append}
-use Rattle.std.proofs.lemmas.List.{take_more, map-append}
-use Rattle.std.proofs.lemmas.List.Sums.{fold-append, fold_push, count_by-le-length, length-filter}
+use Rattle.std.proofs.lemmas.List.Sums.{fold-append, count_by-le-length, length-filter}
 use Rattle.std.proofs.lemmas.List.Elements.{filter-append}
 use Rattle.plain_map.specs.declared.calls.Call.{Call}
-use Rattle.plain_map.specs.declared.calls.Call.TheVariants.{Insert, Remove, Lookup, Tally}
 use Rattle.plain_map.specs.declared.calls.Reply.{Reply}
-use Rattle.plain_map.specs.declared.calls.Reply.TheVariants.{New, Old, NoRoom, Gone, Found, Absent, Sum}
 use Rattle.plain_map.specs.declared.full.Full.{Full}
 use Rattle.plain_map.specs.declared.records.Record.{Record}
-use Rattle.core_model.specs.SeatStates.{is_update}
+use Rattle.plain_map.specs.Calls.{is_update}
 use Rattle.trace_share.specs.declared.outcome.Outcome.{Outcome}
 use Rattle.trace_share.specs.declared.outcome.Outcome.TheVariants.{Answered, Refused}
 use Rattle.trace_share.specs.Outcomes.{full_in, record_in}
 use Rattle.batch_runner.specs.declared.totals.Totals.{Totals}
 use Rattle.batch_runner.specs.declared.totals.Replies.{Replies}
 use Rattle.batch_runner.specs.Printed.{answers_in, most_steps, refused_in}
-use Rattle.batch_runner.specs.Totals.{AreFewer, is_absent, is_found, is_gone, is_new, is_noroom, is_old, replies_in, totals_of, with_outcome, with_replies, with_reply, with_steps}
-
--- ---- lists
-
-count_end : {A : Type 0} (test : A → Bool) (xs : List A) (x : A) →
-    count_by test (xs ++ x ∷ []) ≡ count_by test xs + cond (test x) 1 0
-count_end {A = A} test xs x = fold_push (λ (n : ℕ) (y : A). n + cond (test y) 1 0) 0 xs x
-
--- one more, or none
-count_yes : {A : Type 0} (test : A → Bool) (xs : List A) (x : A) → test x ≡ true →
-    count_by test (xs ++ x ∷ []) ≡ count_by test xs + 1
-count_yes test xs x passed = count_end test xs x ∙ ap (λ (b : Bool). count_by test xs + cond b 1 0) passed
-
-count_no : {A : Type 0} (test : A → Bool) (xs : List A) (x : A) → test x ≡ false →
-    count_by test (xs ++ x ∷ []) ≡ count_by test xs
-count_no test xs x failed =
-    let none : count_by test xs + 0 ≡ count_by test xs = omega arith in
-    count_end test xs x ∙ ap (λ (b : Bool). count_by test xs + cond b 1 0) failed ∙ none
-
--- the most steps of those that pass, with one more
-steps_yes : (p : Record → Bool) (rs : List Record) (r : Record) → p r ≡ true →
-    most_steps (filter p (rs ++ r ∷ [])) ≡ max (most_steps (filter p rs)) r.steps
-steps_yes p rs r passed =
-    ap most_steps (filter-append p rs (r ∷ []))
-    ∙ ap (λ (b : Bool). most_steps (filter p rs ++ cond b (r ∷ []) [])) passed
-    ∙ fold_push (λ (most : ℕ) (x : Record). max most x.steps) 0 (filter p rs) r
-
-steps_no : (p : Record → Bool) (rs : List Record) (r : Record) → p r ≡ false →
-    most_steps (filter p (rs ++ r ∷ [])) ≡ most_steps (filter p rs)
-steps_no p rs r failed =
-    ap most_steps (filter-append p rs (r ∷ []))
-    ∙ ap (λ (b : Bool). most_steps (filter p rs ++ cond b (r ∷ []) [])) failed
-    ∙ ap most_steps (append-nil (filter p rs))
+use Rattle.batch_runner.specs.Totals.{AreFewer, is_absent, is_found, is_gone, is_new, is_noroom, is_old, replies_in, totals_of, with_replies}
 
 -- ---- replies
 
@@ -64,66 +29,6 @@ replies_of rs = record {
   found = count_by (λ (r : Record). is_found r.reply) rs;
   absent = count_by (λ (r : Record). is_absent r.reply) rs;
 }
-
--- one reply more
-replies_end : (reply : Reply) (rs : List Record) (r : Record) → r.reply ≡ reply →
-    replies_of (rs ++ r ∷ []) ≡ with_reply reply (replies_of rs)
-replies_end New rs r is = (λ i. record {
-  new = count_yes (λ (x : Record). is_new x.reply) rs r (ap is_new is) i;
-  old = count_no (λ (x : Record). is_old x.reply) rs r (ap is_old is) i;
-  noroom = count_no (λ (x : Record). is_noroom x.reply) rs r (ap is_noroom is) i;
-  gone = count_no (λ (x : Record). is_gone x.reply) rs r (ap is_gone is) i;
-  found = count_no (λ (x : Record). is_found x.reply) rs r (ap is_found is) i;
-  absent = count_no (λ (x : Record). is_absent x.reply) rs r (ap is_absent is) i;
-})
-replies_end (Old value) rs r is = (λ i. record {
-  new = count_no (λ (x : Record). is_new x.reply) rs r (ap is_new is) i;
-  old = count_yes (λ (x : Record). is_old x.reply) rs r (ap is_old is) i;
-  noroom = count_no (λ (x : Record). is_noroom x.reply) rs r (ap is_noroom is) i;
-  gone = count_no (λ (x : Record). is_gone x.reply) rs r (ap is_gone is) i;
-  found = count_no (λ (x : Record). is_found x.reply) rs r (ap is_found is) i;
-  absent = count_no (λ (x : Record). is_absent x.reply) rs r (ap is_absent is) i;
-})
-replies_end NoRoom rs r is = (λ i. record {
-  new = count_no (λ (x : Record). is_new x.reply) rs r (ap is_new is) i;
-  old = count_no (λ (x : Record). is_old x.reply) rs r (ap is_old is) i;
-  noroom = count_yes (λ (x : Record). is_noroom x.reply) rs r (ap is_noroom is) i;
-  gone = count_no (λ (x : Record). is_gone x.reply) rs r (ap is_gone is) i;
-  found = count_no (λ (x : Record). is_found x.reply) rs r (ap is_found is) i;
-  absent = count_no (λ (x : Record). is_absent x.reply) rs r (ap is_absent is) i;
-})
-replies_end (Gone value) rs r is = (λ i. record {
-  new = count_no (λ (x : Record). is_new x.reply) rs r (ap is_new is) i;
-  old = count_no (λ (x : Record). is_old x.reply) rs r (ap is_old is) i;
-  noroom = count_no (λ (x : Record). is_noroom x.reply) rs r (ap is_noroom is) i;
-  gone = count_yes (λ (x : Record). is_gone x.reply) rs r (ap is_gone is) i;
-  found = count_no (λ (x : Record). is_found x.reply) rs r (ap is_found is) i;
-  absent = count_no (λ (x : Record). is_absent x.reply) rs r (ap is_absent is) i;
-})
-replies_end (Found value) rs r is = (λ i. record {
-  new = count_no (λ (x : Record). is_new x.reply) rs r (ap is_new is) i;
-  old = count_no (λ (x : Record). is_old x.reply) rs r (ap is_old is) i;
-  noroom = count_no (λ (x : Record). is_noroom x.reply) rs r (ap is_noroom is) i;
-  gone = count_no (λ (x : Record). is_gone x.reply) rs r (ap is_gone is) i;
-  found = count_yes (λ (x : Record). is_found x.reply) rs r (ap is_found is) i;
-  absent = count_no (λ (x : Record). is_absent x.reply) rs r (ap is_absent is) i;
-})
-replies_end Absent rs r is = (λ i. record {
-  new = count_no (λ (x : Record). is_new x.reply) rs r (ap is_new is) i;
-  old = count_no (λ (x : Record). is_old x.reply) rs r (ap is_old is) i;
-  noroom = count_no (λ (x : Record). is_noroom x.reply) rs r (ap is_noroom is) i;
-  gone = count_no (λ (x : Record). is_gone x.reply) rs r (ap is_gone is) i;
-  found = count_no (λ (x : Record). is_found x.reply) rs r (ap is_found is) i;
-  absent = count_yes (λ (x : Record). is_absent x.reply) rs r (ap is_absent is) i;
-})
-replies_end (Sum total) rs r is = (λ i. record {
-  new = count_no (λ (x : Record). is_new x.reply) rs r (ap is_new is) i;
-  old = count_no (λ (x : Record). is_old x.reply) rs r (ap is_old is) i;
-  noroom = count_no (λ (x : Record). is_noroom x.reply) rs r (ap is_noroom is) i;
-  gone = count_no (λ (x : Record). is_gone x.reply) rs r (ap is_gone is) i;
-  found = count_no (λ (x : Record). is_found x.reply) rs r (ap is_found is) i;
-  absent = count_no (λ (x : Record). is_absent x.reply) rs r (ap is_absent is) i;
-})
 
 -- ---- totals
 
@@ -155,53 +60,6 @@ totals_by calls refused rs = record {
   replies = replies_of rs;
 }
 
-answered_end : (call : Call) (calls refused : ℕ) (rs : List Record) (made : Record) → made.call ≡ call →
-    totals_by (calls + 1) refused (rs ++ made ∷ [])
-    ≡ record (with_steps call made.steps (totals_by calls refused rs)) {
-      calls = calls + 1;
-      replies = with_reply made.reply (replies_of rs);
-    }
-answered_end (Insert key value) calls refused rs made is = (λ i. record {
-  calls = calls + 1;
-  refused = refused;
-  update = steps_yes is_updating rs made (ap is_update is) i;
-  lookup = steps_no is_looking rs made (ap (λ (c : Call). not (is_update c)) is) i;
-  replies = replies_end made.reply rs made refl i;
-})
-answered_end (Remove key) calls refused rs made is = (λ i. record {
-  calls = calls + 1;
-  refused = refused;
-  update = steps_yes is_updating rs made (ap is_update is) i;
-  lookup = steps_no is_looking rs made (ap (λ (c : Call). not (is_update c)) is) i;
-  replies = replies_end made.reply rs made refl i;
-})
-answered_end (Tally key amount) calls refused rs made is = (λ i. record {
-  calls = calls + 1;
-  refused = refused;
-  update = steps_yes is_updating rs made (ap is_update is) i;
-  lookup = steps_no is_looking rs made (ap (λ (c : Call). not (is_update c)) is) i;
-  replies = replies_end made.reply rs made refl i;
-})
-answered_end (Lookup key) calls refused rs made is = (λ i. record {
-  calls = calls + 1;
-  refused = refused;
-  update = steps_no is_updating rs made (ap is_update is) i;
-  lookup = steps_yes is_looking rs made (ap (λ (c : Call). not (is_update c)) is) i;
-  replies = replies_end made.reply rs made refl i;
-})
-
--- one call more
-pub totals_end : (all : List Outcome) (outcome : Outcome) →
-    totals_of (all ++ outcome ∷ []) ≡ with_outcome outcome (totals_of all)
-totals_end all (Answered made) =
-    (λ i. totals_by (length-append all (Answered made ∷ []) i)
-    (count_no (λ (o : Outcome). is_some (full_in o)) all (Answered made) refl i) (answers_more all made i))
-    ∙ answered_end made.call (length all) (refused_in all) (answers_in all) made refl
-totals_end all (Refused packet call full) =
-    (λ i. totals_by (length-append all (Refused packet call full ∷ []) i)
-    (count_yes (λ (o : Outcome). is_some (full_in o)) all (Refused packet call full) refl i)
-    (answers_same all packet call full i))
-
 -- there are no more replies of a kind than calls
 fewer_replies : (rs : List Record) (test : Record → Bool) (all : ℕ) → length rs ≤ all → count_by test rs ≤ all
 fewer_replies rs test all few = omega (arith, count_by-le-length test rs, few)
@@ -227,15 +85,6 @@ replies_fit all limit replies is few =
 
 pub refused_fit : (all : List Outcome) → (totals_of all).refused ≤ length all
 refused_fit all = count_by-le-length (λ (o : Outcome). is_some (full_in o)) all
-
--- those of one call of a list more
-pub totals_more : {A : Type 0} (f : A → Outcome) (xs : List A) (i : ℕ) (x : A) → i < length xs → x ≡ get_or xs i x →
-    totals_of (map f (take (i + 1) xs)) ≡ with_outcome (f x) (totals_of (map f (take i xs)))
-totals_more {A = A} f xs i x inside is =
-    ap (λ (ys : List A). totals_of (map f ys))
-    (take_more xs i x inside ∙ ap (λ (y : A). take i xs ++ y ∷ []) (sym is))
-    ∙ ap totals_of (map-append f (take i xs) (x ∷ []))
-    ∙ totals_end (map f (take i xs)) (f x)
 
 -- ---- two lists
 

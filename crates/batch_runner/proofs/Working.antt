@@ -2,8 +2,7 @@
 use Rattle.std.proofs.Common.{◌≡◌, ℕ, zero, suc, ◌<◌, ◌≤◌, ◌+◌, ◌^◌, List, [], ◌∷◌, ◌++◌, Some, length, map, take, drop, reverse, refl, sym, ap, ◌∙◌, subst, vec_len, Vec, Global, arith, append_assoc, append-nil}
 use Rattle.std.specs.Prelude.{All}
 use Rattle.std.specs.List.{AllZip}
-use Rattle.std.proofs.lemmas.List.{drop_all, reverse-append}
-use Rattle.std.proofs.Math.Seq.{take-length}
+use Rattle.std.proofs.lemmas.List.{reverse-append}
 use Rattle.std.proofs.lemmas.List.Elements.{All-nil, All-cons, All-head, All-tail, length_all_zip}
 use Rattle.std.proofs.lemmas.Option.{same_Some}
 use Rattle.step_counts.specs.declared.rows.SeatRows.{SeatRows}
@@ -12,7 +11,7 @@ use Rattle.plain_map.specs.declared.calls.Call.{Call}
 use Rattle.plain_map.specs.declared.records.Record.{Record}
 use Rattle.plain_map.specs.Serving.{IsAskable}
 use Rattle.word_rows.specs.Shape.{sizes_of}
-use Rattle.core_model.specs.Setup.{settings_of}
+use Rattle.table_model.specs.Setup.{settings_of}
 use Rattle.shared_table.specs.SeatValues.{SeatValue}
 use Rattle.shared_table.specs.declared.caller.Caller.{Caller}
 use Rattle.shared_table.specs.Values.{IsSame, TableValue, new_seat, new_seats}
@@ -20,14 +19,11 @@ use Rattle.trace_share.specs.declared.outcome.Outcome.{Outcome}
 use Rattle.trace_share.specs.declared.workers.Worker.{Worker}
 use Rattle.trace_share.specs.Outcomes.{ComesTo, RefusedByRoom, records_in}
 use Rattle.trace_share.specs.Work.{IsReady, IsDone}
+use Rattle.list_laws.proofs.Cuts.{whole_slice}
 use Rattle.batch_runner.specs.declared.workers.SeatWorker.{SeatWorker}
 use Rattle.batch_runner.specs.Seats.{AreFresh, AreThrough, HasMade, HasWorked, HaveMade, IsFresh, IsThrough, MayWork, answered_by, needed_by, ranges_of, spent_by}
 
 -- ---- new seats
-
-pub long_new : (t : TableValue) (n m : ℕ) → length (new_seats t n m) ≡ m
-long_new t n zero = refl
-long_new t n (suc m) = ap suc (long_new t (suc n) m)
 
 -- the last of them
 pub new_end : (t : TableValue) (n : ℕ) (xs : List SeatValue) (x : SeatValue) (m : ℕ) → xs ++ x ∷ [] ≡ new_seats t n m →
@@ -85,10 +81,6 @@ by_seat calls log was now c = record {
 -- a share of calls that may be asked, no more than can be counted
 abbrev pub IsShort : List (ℕ × Call) → Type 0
 IsShort share = (All (λ (call : ℕ × Call). IsAskable call.1) share) × (length share < 2 ^ 32)
-
--- a list's last is first when it is turned round
-pub reverse_end : {A : Type 0} (xs : List A) (x : A) → reverse (xs ++ x ∷ []) ≡ x ∷ reverse xs
-reverse_end xs x = reverse-append xs (x ∷ [])
 
 -- workers that keep such values of the outcomes
 module _ {K : Type 0} (holds : K → List Outcome → Type 0) (room : K → ℕ) where
@@ -205,10 +197,6 @@ module _ {K : Type 0} (holds : K → List Outcome → Type 0) (room : K → ℕ)
     pub cut : all ≡ front ++ back
     pub fresh : AreFresh holds room t n back (reverse ws)
 
-  -- none is made yet
-  pub fresh_none : (t : TableValue) (n : ℕ) (all : List (List (ℕ × Call))) → FreshFrom t n all all []
-  fresh_none t n all = record { back = []; cut = sym (append-nil all); fresh = tt }
-
   -- one more is made
   pub fresh_more : (t : TableValue) (n m : ℕ) (all front more : List (List (ℕ × Call))) (share : List (ℕ × Call))
       (ws now : List (SeatWorker K)) (w : SeatWorker K) → m ≡ suc n → FreshFrom t m all more ws →
@@ -217,7 +205,7 @@ module _ {K : Type 0} (holds : K → List Outcome → Type 0) (room : K → ℕ)
     back = share ∷ from.back;
     cut = from.cut ∙ ap (λ (xs : List (List (ℕ × Call))). xs ++ from.back) more_is
         ∙ append_assoc front (share ∷ []) from.back;
-    fresh = subst (AreFresh holds room t n (share ∷ from.back)) (sym (ap reverse now_is ∙ reverse_end ws w))
+    fresh = subst (AreFresh holds room t n (share ∷ from.back)) (sym (ap reverse now_is ∙ reverse-append ws (w ∷ [])))
         (one, subst (λ (k : ℕ). AreFresh holds room t k from.back (reverse ws)) m_is from.fresh);
   }
 
@@ -301,12 +289,12 @@ module _ {K : Type 0} (holds : K → List Outcome → Type 0) where
         through = r.others;
         logs = one.log ∷ from.logs;
         made = subst (λ (x : List SeatValue). HaveMade t n (r.share ∷ from.back) x (one.log ∷ from.logs))
-            (sym (ap reverse seats_are ∙ reverse_end seats seat)) (
+            (sym (ap reverse seats_are ∙ reverse-append seats (seat ∷ []))) (
               subst (λ (s : SeatValue). HasMade t n r.share s one.log) own one.made,
               subst (λ (k : ℕ). HaveMade t k from.back (reverse seats) from.logs) m_is from.made,
             );
         held = subst (λ (x : List K). AllZip holds x (one.log ∷ from.logs))
-            (sym (ap reverse kept_are ∙ reverse_end kept w.kept)) (one.kept, from.held);
+            (sym (ap reverse kept_are ∙ reverse-append kept (w.kept ∷ []))) (one.kept, from.held);
       }
 
   -- the last one that is left has a seat
@@ -348,15 +336,6 @@ all_short (share ∷ shares) askable short =
     All-cons IsShort share.items (map (λ (s : Vec (ℕ × Call) Global). s.items) shares)
     (All-head A share shares askable, few)
     (all_short shares (All-tail A share shares askable) (All-tail S share shares short))
-
--- what a slice of a whole `Vec` leaves there
-pub whole_slice : {A : Type 0} (ws vs : List A) (n : ℕ) → n ≡ length ws → length vs ≡ length ws →
-    take n (vs ++ drop (length vs) ws) ≡ vs
-whole_slice ws vs n is long =
-    let none : drop (length vs) ws ≡ [] = drop_all (length vs) ws (omega arith) in
-    let n_is : n ≡ length vs = is ∙ sym long in
-    ap (λ t. take n (vs ++ t)) none ∙ ap (take n) (append-nil vs)
-    ∙ ap (λ (k : ℕ). take k vs) n_is ∙ take-length vs
 
 -- so what holds of a slice of it, element by element, holds of the `Vec`
 pub all_zip_slice : {A : Type 0} (R : A → A → Type 0) (slice ws vs : List A) (n : ℕ) → slice ≡ ws → n ≡ length ws →

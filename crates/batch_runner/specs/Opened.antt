@@ -3,7 +3,7 @@ use Rattle.std.specs.Prelude.{◌≡◌, ℕ, List}
 use Rattle.std.specs.List.{AllZip}
 use Rattle.plain_map.specs.declared.calls.Call.{Call}
 use Rattle.plain_map.specs.declared.keys.Pair.{Pair}
-use Rattle.core_model.specs.Setup.{settings_of}
+use Rattle.table_model.specs.Setup.{settings_of}
 use Rattle.shared_table.specs.Values.{TableValue}
 use Rattle.trace_share.specs.declared.outcome.Outcome.{Outcome}
 use Rattle.batch_rows.specs.Depths.{IsTableFor}

@@ -3,11 +3,11 @@
 use Rattle.std.specs.Prelude.{ℕ, ◌^◌, not, List, [], ◌∷◌, map, max, fold, filter, flat_map, count_by, is_some}
 use Rattle.plain_map.specs.declared.records.Record.{Record}
 use Rattle.plain_map.specs.History.{ids_of}
-use Rattle.core_model.specs.SeatStates.{is_update}
+use Rattle.plain_map.specs.Calls.{is_update}
 use Rattle.trace_share.specs.declared.outcome.Outcome.{Outcome}
 use Rattle.trace_share.specs.Outcomes.{full_in, record_in}
 use Rattle.report_text.specs.Report.{Batch as Lines}
-use Rattle.batch_orders.specs.Batches.{answered_then}
+use Rattle.batch_history.specs.Batches.{answered_then}
 pub use Rattle.report_text.specs.Report.{outcome_on}
 use Rattle.batch_runner.specs.declared.service.Service.{Service}
 use Rattle.batch_runner.specs.Served.{Served, history_in, order_in}

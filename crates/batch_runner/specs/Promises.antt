@@ -4,10 +4,10 @@ use Rattle.std.specs.Prelude.{◌≡◌, ◌≤◌, List, [], map, flat_map, All
 use Rattle.std.specs.FinMap.{empty}
 use Rattle.step_counts.specs.StepCounts.{step_bound}
 use Rattle.plain_map.specs.PlainObject.{Sessions, pairs_of}
-use Rattle.core_model.specs.Promises.{HasSteps}
-use Rattle.core_model.specs.Closed.{Cover, Warranted, greatest_depth}
+use Rattle.table_model.specs.Promises.{HasSteps}
+use Rattle.table_model.specs.Closed.{Cover, Warranted, greatest_depth}
 use Rattle.trace_share.specs.Outcomes.{records_in}
-use Rattle.batch_orders.specs.Batches.{AreOneOrder}
+use Rattle.batch_history.specs.Batches.{AreOneOrder}
 use Rattle.batch_runner.specs.declared.service.Service.{Service}
 use Rattle.batch_runner.specs.Served.{Served, AreServed, history_in, leaves_in, depth_in, order_in, pairs_left, rules_of, setup_of_batch}
 

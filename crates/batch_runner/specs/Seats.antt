@@ -6,7 +6,7 @@ use Rattle.plain_map.specs.declared.calls.Call.{Call}
 use Rattle.plain_map.specs.declared.records.Record.{Record}
 use Rattle.plain_map.specs.Serving.{IsAskable}
 use Rattle.word_rows.specs.Shape.{sizes_of}
-use Rattle.core_model.specs.Setup.{settings_of}
+use Rattle.table_model.specs.Setup.{settings_of}
 use Rattle.shared_table.specs.SeatValues.{SeatValue, account_of}
 use Rattle.shared_table.specs.Values.{IsOf, IsSame, TableValue, new_seat}
 use Rattle.trace_share.specs.declared.outcome.Outcome.{Outcome}

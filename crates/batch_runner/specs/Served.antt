@@ -12,19 +12,19 @@ use Rattle.plain_map.specs.Keys.{key_cmp}
 use Rattle.plain_map.specs.History.{Placed}
 use Rattle.plain_map.specs.declared.leaves.Leaf.{Leaf}
 use Rattle.word_rows.specs.Shape.{Shape, sizes_of}
-use Rattle.core_model.specs.declared.events.Event.{Event}
-use Rattle.core_model.specs.Setup.{Setup, HaveRoom, IsPair}
+use Rattle.table_model.specs.declared.events.Event.{Event}
+use Rattle.table_model.specs.Setup.{Setup, HaveRoom, IsPair}
 use Rattle.bucket_states.specs.Parts.{HasDistinctKeys}
-use Rattle.core_model.specs.SeatStates.{SeatState, Idle}
-use Rattle.core_model.specs.Worlds.{World, IsRun, world_after, seat_in}
-use Rattle.core_model.specs.Order.{Closing, order_of}
-use Rattle.core_model.specs.Closed.{closed_depth, closed_leaves, closed_pairs}
-use Rattle.history_order.specs.Closing.{closing_with}
+use Rattle.table_model.specs.SeatStates.{SeatState, Idle}
+use Rattle.table_model.specs.Worlds.{World, IsRun, world_after, seat_in}
+use Rattle.table_model.specs.Order.{Closing, order_of}
+use Rattle.table_model.specs.Closed.{closed_depth, closed_leaves, closed_pairs}
+use Rattle.table_model.specs.Closing.{closing_with}
 use Rattle.shared_table.specs.Openings.{setup_of}
 use Rattle.trace_share.specs.declared.outcome.Outcome.{Outcome}
 use Rattle.trace_share.specs.Deal.{dealt}
 use Rattle.trace_share.specs.Outcomes.{asked_in, records_in, RefusedByRoom}
-use Rattle.batch_orders.specs.Batches.{Batch}
+use Rattle.batch_history.specs.Batches.{Batch}
 use Rattle.batch_rows.specs.BatchRows.{rules_in, rows_of}
 use Rattle.batch_rows.specs.Depths.{IsTableFor}
 use Rattle.batch_runner.specs.declared.service.Service.{Service}

@@ -5,8 +5,8 @@ use Rattle.plain_map.specs.declared.calls.Call.{Call}
 use Rattle.plain_map.specs.declared.keys.Pair.{Pair}
 use Rattle.plain_map.specs.declared.records.CallId.{CallId}
 use Rattle.plain_map.specs.History.{ids_of}
-use Rattle.core_model.specs.Closed.{closed_depth}
-use Rattle.history_order.specs.Closing.{IsOfARun}
+use Rattle.table_model.specs.Closed.{closed_depth}
+use Rattle.table_model.specs.Closing.{IsOfARun}
 use Rattle.shared_table.specs.Values.{ClosedValue}
 use Rattle.trace_share.specs.declared.outcome.Outcome.{Outcome}
 use Rattle.trace_share.specs.Outcomes.{asked_in, records_in}

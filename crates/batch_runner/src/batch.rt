@@ -7,7 +7,7 @@ ghost use Rattle.plain_map.specs.Calls.{key_in};
 ghost use Rattle.plain_map.specs.Serving.{IsAskable};
 ghost use Rattle.flow_keys.specs.FlowText.{HasText};
 ghost use Rattle.word_rows.specs.Shape.{AreBelow};
-ghost use Rattle.core_model.specs.Setup.{settings_of};
+ghost use Rattle.table_model.specs.Setup.{settings_of};
 ghost use Rattle.shared_table.specs.Values.{new_seats};
 ghost use Rattle.report_text.specs.Report.{batch_lines};
 ghost use Rattle.trace_share.specs.declared.outcome.Outcome.{Outcome as AnOutcome};
@@ -265,8 +265,8 @@ fn logged_batch(
     Ok((closed, logs, batch))
 }
 
-// Closes the table of a batch whose workers have made their calls; with what was kept of each seat's calls, in the order
-// of the seats.
+// Closes the table of a batch whose workers have made their calls; with what was kept of each
+// seat's calls, in the order of the seats.
 fn close_batch<K: Collector>(
     alloc: Global,
     asked: &Asked,

@@ -2,7 +2,7 @@
 
 ghost use Rattle.std.specs.Prelude.{◌≡◌, ℕ, ◌+◌, ◌<◌, ◌≤◌, All, length, vec_len};
 ghost use Rattle.batch_rows.specs.declared.rows.TheConstants.{CALL_LIMIT};
-ghost use Rattle.batch_orders.specs.Batches.{with_counts};
+ghost use Rattle.batch_history.specs.Batches.{with_counts};
 ghost use Rattle.batch_runner.specs.Printed.{BEFORE_LIMIT};
 
 use crate::batch::Batch;

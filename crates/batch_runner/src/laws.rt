@@ -2,7 +2,7 @@
 
 ghost use Rattle.batch_runner.specs.Promises.{ServedAreRight};
 
-use batch_orders::batches_laws;
+use batch_history::batches_laws;
 
 /// Whatever the interleaving: the orders of all batches, one after the other, are one right order of all calls from
 /// the empty map on, and what is held after it are the pairs that are left. Each update took no more steps than the

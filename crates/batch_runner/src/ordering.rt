@@ -2,8 +2,8 @@
 
 ghost use Rattle.std.specs.Prelude.{◌≡◌, [], IfOk, map};
 ghost use Rattle.plain_map.specs.History.{ids_of};
-ghost use Rattle.core_model.specs.Order.{order_of};
-ghost use Rattle.history_order.specs.Closing.{IsOfARun, closing_with};
+ghost use Rattle.table_model.specs.Order.{order_of};
+ghost use Rattle.table_model.specs.Closing.{IsOfARun, closing_with};
 ghost use Rattle.trace_share.specs.Outcomes.{records_in};
 
 use crate::outcomes::records_of;

@@ -2,7 +2,7 @@
 
 ghost use Rattle.std.specs.Prelude.{◌≡◌, ◌^◌, ◌<◌, ◌≤◌, All, IfOk, List, length, map};
 ghost use Rattle.std.specs.List.{AllZip};
-ghost use Rattle.history_order.specs.Closing.{read_in, records_there};
+ghost use Rattle.table_model.specs.Closing.{read_in, records_there};
 ghost use Rattle.trace_share.specs.declared.outcome.Outcome.{Outcome as AnOutcome};
 ghost use Rattle.trace_share.specs.Deal.{dealt};
 ghost use Rattle.trace_share.specs.Outcomes.{asked_in, records_in};

@@ -4,8 +4,8 @@ ghost use Rattle.std.specs.Prelude.{◌≡◌, ℕ, ◌≤◌, [], ◌++◌, All
 ghost use Rattle.plain_map.specs.Calls.{key_in};
 ghost use Rattle.plain_map.specs.History.{ids_of};
 ghost use Rattle.flow_keys.specs.FlowText.{HasText};
-ghost use Rattle.core_model.specs.Order.{order_of};
-ghost use Rattle.history_order.specs.Closing.{IsOfARun, closing_with};
+ghost use Rattle.table_model.specs.Order.{order_of};
+ghost use Rattle.table_model.specs.Closing.{IsOfARun, closing_with};
 ghost use Rattle.trace_share.specs.Outcomes.{records_in};
 ghost use Rattle.report_text.specs.Report.{call_in, order_lines, outcome_line};
 ghost use Rattle.batch_runner.specs.Printed.{outcome_on};

@@ -1,13 +1,12 @@
 -- The words of a row, cut where something is written.
-use Rattle.std.proofs.Common.{◌≡◌, ℕ, zero, suc, ◌+◌, ◌-◌, ◌*◌, ◌^◌, ◌<◌, ◌≤◌, List, [], ◌∷◌, ◌++◌, length, take, drop, get_or, set, replicate, Option, Some, None, Bool, true, false, cond, eqb, refl, sym, ap, ◌∙◌, arith}
+use Rattle.std.proofs.Common.{◌≡◌, ℕ, zero, suc, ◌+◌, ◌-◌, ◌*◌, ◌^◌, ◌<◌, ◌≤◌, List, [], ◌∷◌, ◌++◌, length, take, drop, get_or, set, replicate, Option, Some, None, Bool, true, false, cond, refl, sym, ap, ◌∙◌, arith}
 use Rattle.std.proofs.lemmas.List.{length-append, append_assoc, append-nil, set-append_right, take_at, drop_at, drop-drop, get_or-drop, length-drop, length-take-le, take-append-drop, replicate-append-replicate, set_split}
 use Rattle.std.proofs.Math.Seq.{drop-cons}
 use borrow.Rule.Slice.PartMut.{put_mid}
 use Rattle.std.specs.List.{remove}
 use Rattle.std.proofs.lemmas.List.Elements.{All-append, All-cons, All-nil, All-set, All-take, All-drop}
 use Rattle.std.proofs.lemmas.List.Edits.{length-remove}
-use Rattle.std.specs.Prelude.{◌&&◌, ◌≢◌, nat_lt}
-use Rattle.std.proofs.lemmas.Bool.Decides.{nat_tests}
+use Rattle.std.specs.Prelude.{◌&&◌, ◌≢◌}
 use Rattle.step_counts.specs.declared.TheConstants.{ITEM_WORDS}
 use Rattle.step_counts.specs.declared.settings.Settings.{Settings}
 use Rattle.plain_map.specs.declared.calls.Reply.{Reply}
@@ -224,7 +223,8 @@ closed_up settings b p xs ys row start n m is parts room e f =
     (λ i. put_mid (start + n) ITEM_WORDS ((before i ++ moved i) ++ rest) zeros)
     ∙ put_over (front ++ flat ys) rest back zeros (start + n) ITEM_WORDS joined end
     ∙ ap (λ (ws : List ℕ). (front ++ flat ys) ++ ws) (sym (zeros_more m seats))
-    ∙ ap (λ (ws : List ℕ). head_words b ++ (ws ++ (replicate (suc m * ITEM_WORDS) 0 ++ seats))) (sym (flat-append xs ys))
+    ∙ ap (λ (ws : List ℕ). head_words b ++ (ws ++ (replicate (suc m * ITEM_WORDS) 0 ++ seats)))
+    (sym (flat-append xs ys))
 
 -- an item is taken out of a row
 pub removed : (settings : Settings) (b : BucketContent) (at count : ℕ) (row copied new : List ℕ) (from k j : ℕ) →
@@ -373,10 +373,6 @@ both_true false t is = refl
 pub both_false : (s t : Bool) → t ≡ false → t ≡ (s && t)
 both_false true t is = refl
 both_false false t is = is
-
--- a number that is not below another
-pub not_below : (n k : ℕ) → k ≤ n → nat_lt n k ≡ false
-not_below n k above = grind (arith, nat_tests)
 
 -- ---- the places after a change
 

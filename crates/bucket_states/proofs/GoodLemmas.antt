@@ -19,7 +19,7 @@ use Rattle.bucket_states.specs.Items.{value_at, has_place, reply_in, items_after
 use Rattle.bucket_states.specs.States.{BucketState}
 use Rattle.bucket_states.specs.Change.{frozen, answered, after_op, after_seats, change}
 use Rattle.bucket_states.specs.Parts.{HasDistinctKeys, HasPrefix, HoldsPart, CanAnswer}
-use Rattle.bucket_states.specs.Laws.{applied_of, reply_at, IsFor, IsGood, StaysGood, FrozenIsFull, Taken, taken_from, sessions_after, AreAnswered, FoldsAlike}
+use Rattle.bucket_states.specs.Laws.{applied_of, reply_at, IsFor, IsGood, StaysGood, FrozenIsFull, Taken, taken_from, sessions_after_taken, AreAnswered, FoldsAlike}
 use Rattle.bucket_states.proofs.KeyTests.{eq_by_cmp-same_key, same_key-equiv}
 use Rattle.bucket_states.proofs.LocalLemmas.{local_answers}
 use Rattle.bucket_states.proofs.StepLemmas.{Outcome, stayed, skipped, froze, took, outcome}
@@ -151,7 +151,8 @@ module _ (rules : Rules) (range : InRange rules) (seats : ℕ) where
 
   -- items and replies after these ops are those of the plain object
   abbrev AlikeFrom : (prefix depth : ℕ) → Sessions → BucketState → List Taken → Type 0
-  AlikeFrom prefix depth sessions now ts = HoldsPart rules prefix depth now.items (sessions_after rules sessions ts)
+  AlikeFrom prefix depth sessions now ts =
+      HoldsPart rules prefix depth now.items (sessions_after_taken rules sessions ts)
       × AreAnswered rules sessions now ts
 
   walk-alike : (seat : ℕ) (ops : List (Option Op)) (bucket : BucketState) (sessions : Sessions) →

@@ -22,7 +22,8 @@ is_some-value_at key (pair ∷ pairs) =
     ∙ by_test (same_key key pair.key) (value_at key pairs) (list_any (same_key key) (keys_of pairs))
     (is_some-value_at key pairs)
   where
-    by_test : (b : Bool) (o : Option Session) (t : Bool) → is_some o ≡ t → is_some (cond b (Some (held_in pair)) o) ≡ (b || t)
+    by_test : (b : Bool) (o : Option Session) (t : Bool) → is_some o ≡ t →
+        is_some (cond b (Some (held_in pair)) o) ≡ (b || t)
     by_test true o t is = refl
     by_test false o t is = is
 
@@ -43,8 +44,8 @@ value_at-push (first ∷ items) pair q none =
         let one : first.key ≡ q = (Decides-same_key first.key q).0 is in
         let two : pair.key ≡ q = (Decides-same_key pair.key q).0 so in
         let here : same_key first.key pair.key ≡ true = (Decides-same_key first.key pair.key).1 (one ∙ sym two) in
-        let held : Some (held_in first) ≡ None = sym (ap (λ b. cond b (Some (held_in first)) (value_at pair.key items)) here)
-        ∙ none in
+        let held : Some (held_in first) ≡ None =
+        sym (ap (λ b. cond b (Some (held_in first)) (value_at pair.key items)) here) ∙ none in
         cc
 
     by_test : (b c : Bool) → same_key first.key q ≡ b → same_key pair.key q ≡ c →

@@ -2,6 +2,7 @@ pub mod PlaceLemmas
 pub mod AnswerLemmas
 pub mod StepLemmas
 pub mod KeyTests
+pub mod DistinctKeys
 pub mod ItemLemmas
 pub mod SizeLemmas
 pub mod PartLemmas

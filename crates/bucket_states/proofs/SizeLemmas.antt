@@ -1,6 +1,6 @@
 -- How many keys of a class the sessions hold, against how many items a bucket has.
-use Rattle.std.proofs.Common.{◌≡◌, ℕ, suc, Bool, true, false, cond, List, [], ◌∷◌, map, length, None, refl, sym, ap, ◌∙◌}
-use Rattle.std.specs.Prelude.{◌==◌, T, is_some, ◌&&◌}
+use Rattle.std.proofs.Common.{◌≡◌, ℕ, suc, Bool, false, cond, List, [], ◌∷◌, map, length, None, refl, sym, ap, ◌∙◌}
+use Rattle.std.specs.Prelude.{◌==◌, T, is_some}
 use Rattle.std.specs.List.{IsDistinct, AllByRecursion, list_any}
 use Rattle.std.specs.declared.cmp.Ordering.{Ordering}
 use Rattle.std.specs.declared.cmp.Ordering.TheVariants.{Less, Equal, Greater}
@@ -14,16 +14,9 @@ use Rattle.plain_map.specs.Keys.{Session, key_cmp}
 use Rattle.plain_map.specs.PlainObject.{Sessions, pairs_of, class_of, class_size}
 use Rattle.plain_map.proofs.KeyLemmas.{exact_keys}
 use Rattle.plain_map.proofs.LocalityLemmas.{count_by-pairs}
+use Rattle.plain_map.proofs.PlaceLemmas.{first_holds, second_holds}
 use Rattle.bucket_states.specs.Items.{same_key}
 use Rattle.bucket_states.proofs.KeyTests.{eq_by_cmp-same_key}
-
-first : (a b : Bool) → T (a && b) → T a
-first true b so = tt
-first false b so = so
-
-second : (a b : Bool) → T (a && b) → T b
-second true b so = so
-second false b so = absurd so
 
 -- ---- the keys of entries in order
 
@@ -41,12 +34,13 @@ less_apart a b so = sym (eq_by_cmp-same_key a b) ∙ by (key_cmp a b) so
 below_apart : (x : Key) (es : List (Key × Session)) → T (below_all key_cmp x es) →
     AllByRecursion (λ k. same_key x k ≡ false) (entry_keys es)
 below_apart x [] below = tt
-below_apart x (e ∷ es) below = (less_apart x e.0 (first _ _ below), below_apart x es (second _ _ below))
+below_apart x (e ∷ es) below = (less_apart x e.0 (first_holds _ _ below), below_apart x es (second_holds _ _ below))
 
 pub sorted_distinct : (es : List (Key × Session)) → T (is_sorted key_cmp es) → IsDistinct same_key (entry_keys es)
 unfolding IsDistinct
 sorted_distinct [] sorted = tt
-sorted_distinct (e ∷ es) sorted = (below_apart e.0 es (first _ _ sorted), sorted_distinct es (second _ _ sorted))
+sorted_distinct (e ∷ es) sorted =
+    (below_apart e.0 es (first_holds _ _ sorted), sorted_distinct es (second_holds _ _ sorted))
 
 pub list_any-alike : (p q : Key → Bool) → ((k : Key) → p k ≡ q k) → (ks : List Key) → list_any p ks ≡ list_any q ks
 list_any-alike p q same [] = refl

@@ -124,9 +124,9 @@ abbrev pub taken : Rules → List (Option Op) → BucketState → List Taken
 taken rules ops bucket = taken_from 0 ops bucket (change rules ops bucket)
 
 -- what is held after these calls
-abbrev pub sessions_after : Rules → Sessions → List Taken → Sessions
-sessions_after rules sessions [] = sessions
-sessions_after rules sessions (t ∷ ts) = sessions_after rules (map_after rules sessions t.op.call) ts
+abbrev pub sessions_after_taken : Rules → Sessions → List Taken → Sessions
+sessions_after_taken rules sessions [] = sessions
+sessions_after_taken rules sessions (t ∷ ts) = sessions_after_taken rules (map_after rules sessions t.op.call) ts
 
 -- each seat's reply is what the plain object, asked these calls one after the other, answers
 abbrev pub AreAnswered : Rules → Sessions → BucketState → List Taken → Type 0
@@ -162,5 +162,5 @@ FoldsAlike =
     IsGood rules seats bucket → length ops ≤ seats →
     HoldsPart rules bucket.prefix bucket.depth bucket.items sessions →
     HoldsPart rules bucket.prefix bucket.depth (change rules ops bucket).items
-    (sessions_after rules sessions (taken rules ops bucket))
+    (sessions_after_taken rules sessions (taken rules ops bucket))
     × AreAnswered rules sessions (change rules ops bucket) (taken rules ops bucket)

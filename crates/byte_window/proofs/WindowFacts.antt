@@ -1,5 +1,5 @@
 -- Parts of a list next to one another, and bytes that are gathered in turns.
-use Rattle.std.proofs.Common.{◌≡◌, ℕ, ◌+◌, ◌-◌, ◌≤◌, List, [], ◌++◌, length, take, drop, Option, Some, None, Result, Ok, Err, OnErr, sym, ap, ◌∙◌, subst, arith, append_assoc, append-nil, length-append, length-take-le, length-drop}
+use Rattle.std.proofs.Common.{◌≡◌, ℕ, ◌+◌, ◌-◌, ◌≤◌, List, [], ◌++◌, length, take, drop, Option, Some, None, sym, ap, ◌∙◌, subst, arith, append_assoc, append-nil, length-append, length-take-le, length-drop}
 use Rattle.std.specs.List.{slice_range, copy_within}
 use Rattle.std.specs.Io.KnownBytes.{Consumes, IsAtEnd, Keeps}
 use Rattle.std.proofs.Math.Seq.{take-append-add, drop-append_seam}
@@ -158,8 +158,3 @@ at_end None count exactly none = tt
 at_end (Some bytes) count exactly none = exactly.0 none
 
 -- ---- answers
-
--- a fact of an error, where it holds anyway
-pub on_err : {T E Q : Type 0} (r : Result T E) → Q → OnErr r Q
-on_err (Ok x) q = tt
-on_err (Err e) q = q

@@ -12,7 +12,7 @@ use Rattle.capture_loop.specs.declared.stop.Stop.TheVariants.{Memory, NotPut}
 use Rattle.capture_loop.specs.Input.{Begins, IsFirst, packet_limit}
 use Rattle.capture_loop.specs.Reading.{HaveCome, HaveEnded}
 use Rattle.capture_loop.specs.Batches.{AreBatches, AreWhole, IsWhole}
-use Rattle.capture_loop.specs.Leaves.{IsMet, LeavesAll, Lines, Reports}
+use Rattle.capture_loop.specs.Leaves.{IsMet, LoopLeavesAll, Lines, Reports}
 use Rattle.capture_loop.specs.Looping.{HasPut, HaveFirst, OnMemory, OnNotPut}
 use Rattle.capture_loop.proofs.ReadingLemmas.{taken_by, told_by}
 use Rattle.capture_loop.proofs.ServingLemmas.{begins_read, first_read}
@@ -29,23 +29,6 @@ AppendsFront-behind before mid after done text whole put is front =
       parts = sym is ∙ ap (λ (t : List ℕ). done ++ t) front.parts ∙ sym (append_assoc done front.front front.rest);
       appended = Appends-trans before mid after done front.front put front.appended;
     }
-
--- a text that was put is a front of a longer one
-pub AppendsFront-longer : (before after : Option (List ℕ)) (text rest : List ℕ) → AppendsFront before after text →
-    AppendsFront before after (text ++ rest)
-AppendsFront-longer before after text rest front =
-    record {
-      front = front.front;
-      rest = front.rest ++ rest;
-      parts = ap (λ (t : List ℕ). t ++ rest) front.parts ∙ append_assoc front.front front.rest rest;
-      appended = front.appended;
-    }
-
--- what was put, where some text is held besides, is a front of both
-pub HasPut-front : (before now : Option (List ℕ)) (held text : List ℕ) → HasPut before now held text →
-    AppendsFront before now text
-HasPut-front before now held text put =
-    record { front = put.done; rest = held; parts = sym put.parts; appended = put.put }
 
 -- all that is held is put, with more behind it
 pub HasPut-more : (before mid after : Option (List ℕ)) (held text more : List ℕ) → HasPut before mid held text →
@@ -188,7 +171,7 @@ HaveFirst-none first =
 
 module _ (lines : Lines) (report : Reports) (read_failed : Type 0) (first left before after : Option (List ℕ)) where
   -- nothing was put
-  pub leaves_nothing : Keeps before after → LeavesAll lines report read_failed first left before after (Err Memory)
+  pub leaves_nothing : Keeps before after → LoopLeavesAll lines report read_failed first left before after (Err Memory)
   leaves_nothing kept =
       record { told = λ bytes told. inl kept; took = (first, ([], Consumes-nil first, inl kept)) }
 
@@ -197,7 +180,7 @@ module _ (lines : Lines) (report : Reports) (read_failed : Type 0) (first left b
       (met : IsMet read_failed ending) where
     -- the whole report was put
     pub leaves_whole : report batches ending text → Appends before after text →
-        LeavesAll lines report read_failed first left before after (Ok ending)
+        LoopLeavesAll lines report read_failed first left before after (Ok ending)
     leaves_whole is put =
         record {
           told = λ bytes told. (met, (text, (packets, ended.told bytes told, (batches, cut, is)), put));
@@ -206,7 +189,7 @@ module _ (lines : Lines) (report : Reports) (read_failed : Type 0) (first left b
 
     -- or a front of it
     pub leaves_front : report batches ending text → AppendsFront before after text →
-        LeavesAll lines report read_failed first left before after (Err NotPut)
+        LoopLeavesAll lines report read_failed first left before after (Err NotPut)
     leaves_front is put =
         record {
           told = λ bytes told. inl (ending, met, (text, (packets, ended.told bytes told, (batches, cut, is)), put));
@@ -219,7 +202,7 @@ module _ (lines : Lines) (report : Reports) (read_failed : Type 0) (first left b
 
     -- or the lines of all batches
     pub leaves_less : lines batches text → Keeps before after ⊎ Appends before after text →
-        LeavesAll lines report read_failed first left before after (Err Memory)
+        LoopLeavesAll lines report read_failed first left before after (Err Memory)
     leaves_less is (inl kept) = leaves_nothing kept
     leaves_less is (inr put) =
         record {
@@ -239,7 +222,7 @@ module _ (lines : Lines) (report : Reports) (read_failed : Type 0) (first left b
   pub leaves_before : (packets : List (List ℕ)) (batches : List (List (List ℕ))) (text : List ℕ) →
       HaveFirst first packets → AreWhole packets batches → lines batches text →
       Keeps before after ⊎ Appends before after text →
-      LeavesAll lines report read_failed first left before after (Err Memory)
+      LoopLeavesAll lines report read_failed first left before after (Err Memory)
   leaves_before packets batches text firsts whole is (inl kept) = leaves_nothing kept
   leaves_before packets batches text firsts whole is (inr put) =
       record {
@@ -253,7 +236,7 @@ module _ (lines : Lines) (report : Reports) (read_failed : Type 0) (first left b
       (text : List ℕ) (come : HaveCome first left reading packets) (few : length packets ≤ packet_limit)
       (whole : AreWhole packets batches) (is : lines batches text) where
     pub leaves_some : AppendsFront before after text →
-        LeavesAll lines report read_failed first left before after (Err NotPut)
+        LoopLeavesAll lines report read_failed first left before after (Err NotPut)
     leaves_some put =
         record {
           told = λ bytes told.
@@ -277,27 +260,27 @@ module _ (lines : Lines) (report : Reports) (read_failed : Type 0) (first left b
   -- a run that stops for want of memory
   pub leaves_memory : (result : Result Ending Stop) →
       IsErr result × IsErrAnd result (λ (stop : Stop). stop ≡ Memory) →
-      LeavesAll lines report read_failed first left before after (Err Memory) →
-      LeavesAll lines report read_failed first left before after result
+      LoopLeavesAll lines report read_failed first left before after (Err Memory) →
+      LoopLeavesAll lines report read_failed first left before after result
   leaves_memory (Ok ending) is leaves = absurd (cc)
   leaves_memory (Err stop) is leaves =
-      subst (λ (s : Stop). LeavesAll lines report read_failed first left before after (Err s)) (sym is.1) leaves
+      subst (λ (s : Stop). LoopLeavesAll lines report read_failed first left before after (Err s)) (sym is.1) leaves
 
   -- and one that stops since a write failed
   pub leaves_not_put : (result : Result Ending Stop) →
       IsErr result × IsErrAnd result (λ (stop : Stop). stop ≡ NotPut) →
-      LeavesAll lines report read_failed first left before after (Err NotPut) →
-      LeavesAll lines report read_failed first left before after result
+      LoopLeavesAll lines report read_failed first left before after (Err NotPut) →
+      LoopLeavesAll lines report read_failed first left before after result
   leaves_not_put (Ok ending) is leaves = absurd (cc)
   leaves_not_put (Err stop) is leaves =
-      subst (λ (s : Stop). LeavesAll lines report read_failed first left before after (Err s)) (sym is.1) leaves
+      subst (λ (s : Stop). LoopLeavesAll lines report read_failed first left before after (Err s)) (sym is.1) leaves
 
   -- a run that stops leaves what it leaves where a write failed, and where memory ran out
   pub leaves_stop : (stop : Stop) (A B : Type 0) →
       OnNotPut {T = Unit {0}} (Err stop) A → OnMemory {T = Unit {0}} (Err stop) B →
-      (A → LeavesAll lines report read_failed first left before after (Err NotPut)) →
-      (B → LeavesAll lines report read_failed first left before after (Err Memory)) →
-      LeavesAll lines report read_failed first left before after (Err stop)
+      (A → LoopLeavesAll lines report read_failed first left before after (Err NotPut)) →
+      (B → LoopLeavesAll lines report read_failed first left before after (Err Memory)) →
+      LoopLeavesAll lines report read_failed first left before after (Err stop)
   leaves_stop Memory A B a b on_a on_b = on_b b
   leaves_stop NotPut A B a b on_a on_b = on_a a
 

@@ -3,7 +3,8 @@ use Rattle.std.proofs.Common.{◌≡◌, ◌≤◌, ◌+◌, ◌⊎◌, ℕ, Lis
 use Rattle.std.specs.List.{flat_map}
 use Rattle.std.specs.Io.KnownBytes.{Appends}
 use Rattle.std.proofs.KnownBytes.{Appends-trans}
-use Rattle.edge_traits.specs.Edge.{AppendsFront, Rose}
+use Rattle.edge_traits.specs.Edge.{AppendsFront}
+use Rattle.edge_traits.proofs.EdgeLemmas.{AppendsFront-longer}
 use Rattle.report_text.specs.declared.parts.Ending.{Ending}
 use Rattle.capture_loop.specs.declared.stop.Stop.{Stop}
 use Rattle.capture_loop.specs.declared.stop.Stop.TheVariants.{Memory, NotPut}
@@ -12,9 +13,9 @@ use Rattle.capture_loop.specs.Input.{packet_limit}
 use Rattle.pcapng_reader.specs.Reading.{Reading}
 use Rattle.capture_loop.specs.Reading.{HaveCome, HaveEnded}
 use Rattle.capture_loop.specs.Batches.{AreBatches, AreWhole}
-use Rattle.capture_loop.specs.Leaves.{IsMet, LeavesAll, Lines, Reports}
+use Rattle.capture_loop.specs.Leaves.{IsMet, LoopLeavesAll, Lines, Reports}
 use Rattle.capture_loop.specs.Looping.{HasPut, OnNotPut, Stands}
-use Rattle.capture_loop.proofs.LeavesLemmas.{AppendsFront-longer, AreBatches-last, AreBatches-whole, AreWhole-more, AreWhole-none, HaveFirst-come, HaveFirst-none, HasPut-cut, HasPut-kept, leaves_before, leaves_front, leaves_less, leaves_whole}
+use Rattle.capture_loop.proofs.LeavesLemmas.{AreBatches-last, AreBatches-whole, AreWhole-more, AreWhole-none, HaveFirst-come, HaveFirst-none, HasPut-cut, HasPut-kept, leaves_before, leaves_front, leaves_less, leaves_whole}
 
 -- all that is held is put, with more behind it
 Appends-more : (before mid after : Option (List ℕ)) (held text more : List ℕ) → HasPut before mid held text →
@@ -42,7 +43,7 @@ module _ (lines : Lines) (report : Reports) (read_failed : Type 0) (first left b
     (met : IsMet read_failed ending) where
   -- the last lines could not be made
   pub end_memory : (now : Option (List ℕ)) (held done : List ℕ) → HasPut before now held done → lines batches done →
-      LeavesAll lines report read_failed first left before now (Err Memory)
+      LoopLeavesAll lines report read_failed first left before now (Err Memory)
   end_memory now held done put is =
       leaves_less lines report read_failed first left before now all batches ending done ended cut met is
       (HasPut-kept before now held done put)
@@ -50,14 +51,14 @@ module _ (lines : Lines) (report : Reports) (read_failed : Type 0) (first left b
   -- or not be put
   pub end_front : (mid after : Option (List ℕ)) (held done rest text : List ℕ) → HasPut before mid held done →
       text ≡ held ++ rest → report batches ending (done ++ rest) → AppendsFront mid after text →
-      LeavesAll lines report read_failed first left before after (Err NotPut)
+      LoopLeavesAll lines report read_failed first left before after (Err NotPut)
   end_front mid after held done rest text put is reported front =
       leaves_front lines report read_failed first left before after all batches ending (done ++ rest) ended cut met
       reported (HasPut-cut before mid after held done rest put (subst (AppendsFront mid after) is front))
 
   pub end_whole : (mid after : Option (List ℕ)) (held done rest text : List ℕ) → HasPut before mid held done →
       text ≡ held ++ rest → report batches ending (done ++ rest) → Appends mid after text →
-      LeavesAll lines report read_failed first left before after (Ok ending)
+      LoopLeavesAll lines report read_failed first left before after (Ok ending)
   end_whole mid after held done rest text put is reported appended =
       leaves_whole lines report read_failed first left before after all batches ending (done ++ rest) ended cut met
       reported (Appends-more before mid after held done rest put (subst (Appends mid after) is appended))
@@ -65,7 +66,7 @@ module _ (lines : Lines) (report : Reports) (read_failed : Type 0) (first left b
   -- the lines of the last batch could not be put
   pub last_front : (after : Option (List ℕ)) (done : List ℕ) →
       ((rest : List ℕ) × report batches ending (done ++ rest)) → AppendsFront before after done →
-      LeavesAll lines report read_failed first left before after (Err NotPut)
+      LoopLeavesAll lines report read_failed first left before after (Err NotPut)
   last_front after done more front =
       leaves_front lines report read_failed first left before after all batches ending (done ++ more.0) ended cut met
       more.1 (AppendsFront-longer before after done more.0 front)
@@ -93,7 +94,7 @@ whole_cut all batches whole some = choose (AreBatches-whole all batches whole (o
 pub last_memory : (lines : Lines) (report : Reports) (read_failed : Type 0)
     (served : List (List (List ℕ)) → List ℕ → Type 0) (first left : Option (List ℕ)) (many : ℕ) (all : List (List ℕ))
     (before now : Option (List ℕ)) (held : List ℕ) → (stands : Stands served first many all before now held) →
-    lines stands.batches stands.text → LeavesAll lines report read_failed first left before now (Err Memory)
+    lines stands.batches stands.text → LoopLeavesAll lines report read_failed first left before now (Err Memory)
 last_memory lines report read_failed served first left many all before now held stands is =
     leaves_before lines report read_failed first left before now all stands.batches stands.text stands.firsts
     stands.whole is (HasPut-kept before now held stands.text stands.put)
@@ -117,10 +118,6 @@ pub OnNotPut-any : {T : Type 0} {P : Type 0} (result : Result T Stop) → P → 
 OnNotPut-any (Ok done) p = tt
 OnNotPut-any (Err Memory) p = tt
 OnNotPut-any (Err NotPut) p = p
-
-pub none_of : (last : List (List ℕ)) → length last ≡ 0 → last ≡ []
-none_of [] none = refl
-none_of (p ∷ last) none = absurd (omega (arith, none))
 
 -- before any batch the head line is held
 pub at_start : (served : List (List (List ℕ)) → List ℕ → Type 0) (first before now : Option (List ℕ))
@@ -156,11 +153,6 @@ Stands-more served served_then first left reading many more all last before mid 
       done = done;
       put = put;
     }
-
--- a count of faults that rose later rose from before on
-pub Rose-later : (first mid last : ℕ) → first ≤ mid → Rose mid last → Rose first last
-Rose-later first mid last still (inl rose) = inl (omega (arith, still, rose))
-Rose-later first mid last still (inr most) = inr most
 
 -- no read has failed where the input goes on
 pub none_failed : (ending : Option Ending) (before after : ℕ) → ending ≡ None → HasFailed ending before after →

@@ -53,7 +53,8 @@ count_within state offset order Interface size bytes x (inr (v, inr p)) = omega 
 count_within state offset order Enhanced size bytes x (inl p) = omega (arith, ap count_of p.1)
 count_within state offset order Enhanced size bytes x (inr (v, inl p)) = omega (arith, ap count_of p.1)
 count_within state offset order Enhanced size bytes x (inr (v, inr p)) =
-    let count : count_of x ≡ given_length (interface_at state (number order 4 (drop 8 bytes))) (number order 4 (drop 20 bytes)) =
+    let count : count_of x
+    ≡ given_length (interface_at state (number order 4 (drop 8 bytes))) (number order 4 (drop 20 bytes)) =
     ap count_of p.1 in
     omega (
       arith,
@@ -79,7 +80,8 @@ AreShort (packet ∷ packets) = (length packet ≤ 262144) × AreShort packets
 block_short : (x : Seen) (block : List ℕ) (more : List (List ℕ)) → count_of x ≤ 262144 → AreShort more →
     AreShort (packets_of x block ++ more)
 unfolding count_of
-block_short (seen.Packet size at count) block more few rest = (omega (arith, few, length-take count (drop at block)), rest)
+block_short (seen.Packet size at count) block more few rest =
+    (omega (arith, few, length-take count (drop at block)), rest)
 block_short (seen.Section size order) block more few rest = rest
 block_short (seen.Interface size interface) block more few rest = rest
 block_short (seen.Other size) block more few rest = rest

@@ -4,13 +4,13 @@ use Rattle.std.specs.Option.{IfSome}
 use Rattle.std.specs.Io.KnownBytes.{Consumes}
 use Rattle.std.proofs.KnownBytes.{Consumes-trans}
 use Rattle.std.proofs.lemmas.List.{take-append-le}
-use Rattle.pcap_reader.specs.declared.fault.CaptureFault.{CaptureFault}
-use Rattle.pcap_reader.specs.declared.fault.CaptureFault.TheVariants as capture
+use Rattle.capture_faults.specs.declared.fault.CaptureFault.{CaptureFault}
+use Rattle.capture_faults.specs.declared.fault.CaptureFault.TheVariants as capture
 use Rattle.pcap_reader.specs.Capture.{IsRemainder, ShowsFault, file_head_length}
 use Rattle.pcap_reader.specs.Reading.{Took, buffer_length}
 use Rattle.pcap_reader.proofs.CaptureFacts.{refuses_link_front, refuses_magic_front, refuses_version_front}
-use Rattle.pcapng_reader.specs.declared.fault.AnyFault.{AnyFault}
-use Rattle.pcapng_reader.specs.declared.fault.AnyFault.TheVariants as fault
+use Rattle.capture_faults.specs.declared.any_fault.AnyFault.{AnyFault}
+use Rattle.capture_faults.specs.declared.any_fault.AnyFault.TheVariants as fault
 use Rattle.pcapng_reader.specs.Input.{Input, IsPcapng}
 use Rattle.pcapng_reader.specs.Laws.{HasInput, HoldsFront}
 use Rattle.pcapng_reader.specs.Reading.{Answers, Form, GivesPacket, IsAtStart, IsEnd, IsOpenedOn, OfBlocks, OfRecords, OnRefused, Reading}
@@ -20,6 +20,7 @@ use Rattle.pcapng_reader.proofs.ReadFacts.{read_longer, read_more, read_start}
 use Rattle.report_text.specs.Report.{IsEnding}
 use Rattle.report_text.specs.declared.parts.Ending.{Ending}
 use Rattle.report_text.specs.declared.parts.Ending.TheVariants.{Done, ReadFault, Limit, Fault}
+use Rattle.list_laws.proofs.Options.{some_same}
 use Rattle.capture_loop.specs.Endings.{ending_at, ending_of}
 use Rattle.capture_loop.specs.Input.{ServesUpTo}
 use Rattle.capture_loop.specs.Reading.{HaveCome, HaveEnded, MeetsEnd}
@@ -27,17 +28,15 @@ use Rattle.capture_loop.proofs.ServingLemmas.{EndsBy, Serves-by, Serves-limit, S
 
 -- ---- what is told and what was taken
 
-some_inj : {x y : List ℕ} → Some x ≡ Some y → x ≡ y
-some_inj is = cc
-
--- A fact of the bytes of a source and of those that are left, by the bytes that were taken: where the source tells them.
+-- A fact of the bytes of a source and of those that are left, by the bytes that
+-- were taken: where the source tells them.
 pub told_by : (P : List ℕ → Option (List ℕ) → Type 0) (first now : Option (List ℕ)) (bytes taken : List ℕ) →
     first ≡ Some bytes → Consumes first now taken →
     ((others : List ℕ) → now ≡ Some others → P (taken ++ others) (Some others)) → P bytes now
 told_by P None now bytes taken is lost make = absurd (cc)
 told_by P (Some xs) None bytes taken is lost make = absurd lost
 told_by P (Some xs) (Some ys) bytes taken is lost make =
-    subst (λ (l : List ℕ). P l (Some ys)) (sym lost ∙ some_inj is) (make ys refl)
+    subst (λ (l : List ℕ). P l (Some ys)) (sym lost ∙ some_same is) (make ys refl)
 
 -- and of what was taken, as of a source that told just these
 pub taken_by : (P : List ℕ → Option (List ℕ) → Type 0) (taken : List ℕ) → P (taken ++ []) (Some []) →
@@ -49,7 +48,7 @@ still_told : (first now : Option (List ℕ)) (bytes taken : List ℕ) → first 
     (others : List ℕ) × (now ≡ Some others) × (bytes ≡ taken ++ others)
 still_told None now bytes taken is lost = absurd (cc)
 still_told (Some xs) None bytes taken is lost = absurd lost
-still_told (Some xs) (Some ys) bytes taken is lost = (ys, refl, some_inj (sym is) ∙ lost)
+still_told (Some xs) (Some ys) bytes taken is lost = (ys, refl, some_same (sym is) ∙ lost)
 
 none_of : (xs ys : List ℕ) → xs ≡ xs ++ ys → ys ≡ []
 none_of xs [] same = refl
@@ -62,7 +61,7 @@ none_left before after bytes taken others is left lost all =
     let still = still_told before after bytes taken is lost in
     let same : bytes ≡ taken = subst (λ (known : Option (List ℕ)). IfSome known (λ told. told ≡ taken)) is all in
     none_of taken others
-    (sym same ∙ still.2 ∙ ap (λ (l : List ℕ). taken ++ l) (some_inj (sym still.1 ∙ left)))
+    (sym same ∙ still.2 ∙ ap (λ (l : List ℕ). taken ++ l) (some_same (sym still.1 ∙ left)))
 
 -- ---- one packet further
 
@@ -80,7 +79,8 @@ HaveCome-more first before after old new packets come took =
 -- ---- the end
 
 -- by what was taken
-ends_by : (old new : Reading) (before after : Option (List ℕ)) (ending : Ending) → MeetsEnd old new before after ending →
+ends_by : (old new : Reading) (before after : Option (List ℕ)) (ending : Ending) →
+    MeetsEnd old new before after ending →
     (taken : List ℕ) × Consumes before after taken × EndsBy old new ending taken []
     × ((bytes others : List ℕ) → before ≡ Some bytes → after ≡ Some others → EndsBy old new ending taken others)
 ends_by old new before after (Done rest) meets = (

@@ -1,11 +1,11 @@
 -- Which packets are served of an input, of which some bytes were taken and others are left.
 use Rattle.std.proofs.Common.{◌≡◌, ◌≤◌, ◌<◌, ℕ, ◌+◌, List, [], ◌∷◌, ◌++◌, length, take, Some, Result, Ok, Err, sym, ◌∙◌, ap, subst, refl, append_assoc, append-nil, length-append, arith, inl, inr}
 use Rattle.std.proofs.Math.Seq.{take-append_seam}
-use Rattle.pcap_reader.specs.declared.fault.CaptureFault.TheVariants.{ShortHeader}
+use Rattle.capture_faults.specs.declared.fault.CaptureFault.TheVariants.{ShortHeader}
 use Rattle.pcap_reader.specs.Capture.{file_head_length}
 use Rattle.pcap_reader.specs.Reading.{buffer_length}
-use Rattle.pcapng_reader.specs.declared.fault.AnyFault.{AnyFault}
-use Rattle.pcapng_reader.specs.declared.fault.AnyFault.TheVariants as fault
+use Rattle.capture_faults.specs.declared.any_fault.AnyFault.{AnyFault}
+use Rattle.capture_faults.specs.declared.any_fault.AnyFault.TheVariants as fault
 use Rattle.pcapng_reader.specs.Input.{Input, IsPcapng}
 use Rattle.pcapng_reader.specs.Laws.{HasInput, HoldsFront, Reaches}
 use Rattle.pcapng_reader.specs.Reading.{Form, GivesPacket, HasRead, IsOpened, MeetsEnding, OfBlocks, OfRecords, Reading, beyond, head_length}

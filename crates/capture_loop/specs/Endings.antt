@@ -1,9 +1,9 @@
 -- How an input ends that could not be opened.
 use Rattle.std.specs.Prelude.{◌≡◌, ℕ, Option, Some, None}
 use Rattle.edge_traits.specs.Edge.{count_after}
-use Rattle.pcap_reader.specs.declared.fault.CaptureFault.TheVariants as capture
-use Rattle.pcapng_reader.specs.declared.fault.AnyFault.{AnyFault}
-use Rattle.pcapng_reader.specs.declared.fault.AnyFault.TheVariants as fault
+use Rattle.capture_faults.specs.declared.fault.CaptureFault.TheVariants as capture
+use Rattle.capture_faults.specs.declared.any_fault.AnyFault.{AnyFault}
+use Rattle.capture_faults.specs.declared.any_fault.AnyFault.TheVariants as fault
 use Rattle.report_text.specs.declared.parts.Ending.{Ending}
 use Rattle.report_text.specs.declared.parts.Ending.TheVariants.{ReadFault, Fault}
 use Rattle.capture_loop.specs.declared.opening.Unopened.{Unopened}

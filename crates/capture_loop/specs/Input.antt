@@ -1,10 +1,10 @@
 -- What a run serves of its input.
 -- Source: pcap-savefile(5) and draft-ietf-opsawg-pcapng, by the definition of an input.
 use Rattle.std.specs.Prelude.{◌≡◌, ℕ, ◌<◌, ◌≤◌, ◌+◌, ◌⊎◌, List, [], ◌++◌, length, take, Option, Some, Result, Ok, Err}
-use Rattle.pcap_reader.specs.declared.fault.CaptureFault.TheVariants.{ShortHeader}
+use Rattle.capture_faults.specs.declared.fault.CaptureFault.TheVariants.{ShortHeader}
 use Rattle.pcap_reader.specs.Reading.{buffer_length}
-use Rattle.pcapng_reader.specs.declared.fault.AnyFault.{AnyFault}
-use Rattle.pcapng_reader.specs.declared.fault.AnyFault.TheVariants.{Capture}
+use Rattle.capture_faults.specs.declared.any_fault.AnyFault.{AnyFault}
+use Rattle.capture_faults.specs.declared.any_fault.AnyFault.TheVariants.{Capture}
 use Rattle.pcapng_reader.specs.Input.{Input}
 use Rattle.pcapng_reader.specs.Laws.{Reaches}
 use Rattle.pcapng_reader.specs.Reading.{Form, OfBlocks, OfRecords, beyond}
@@ -29,15 +29,15 @@ HoldsMore most bytes packets =
     (all : List (List ℕ)) × (ending : Result ℕ AnyFault) × Input bytes all ending × (most < length all)
     × (packets ≡ take most all)
 
--- What may have been passed beyond the packets that are served: of a savefile nothing, and of pcapng one packet, by which
--- it is known that there are more.
+-- What may have been passed beyond the packets that are served: of a savefile nothing, and of pcapng one packet,
+-- by which it is known that there are more.
 abbrev pub MayFollow : Form → List (List ℕ) → Type 0
 MayFollow (OfRecords order) next = next ≡ []
 MayFollow (OfBlocks state) next = length next ≤ 1
 
--- The bytes that were taken are no more than what a reader keeps beyond a place up to which the input gives these
--- packets, and what may follow them. Of an input whose head shows a fault, or that was not read up to its head's end, it
--- is a buffer.
+-- The bytes that were taken are no more than what a reader keeps beyond a place up to which the input
+-- gives these packets, and what may follow them. Of an input whose head shows a fault, or that was not
+-- read up to its head's end, it is a buffer.
 abbrev pub AreFew : (bytes taken : List ℕ) → List (List ℕ) → Type 0
 AreFew bytes taken packets =
     ((packets ≡ []) × (length taken ≤ buffer_length))
@@ -52,8 +52,8 @@ pub record TakesFew (bytes : List ℕ) (left : Option (List ℕ)) (packets : Lis
   pub rest : left ≡ Some others
   pub few : AreFew bytes taken packets
 
--- An input that ends so has no fault, where more bytes may come: it ends behind its head, a record or a block, or within
--- one of these.
+-- An input that ends so has no fault, where more bytes may come: it ends behind its head, a
+-- record or a block, or within one of these.
 abbrev pub MayGoOn : Result ℕ AnyFault → Type 0
 MayGoOn ending =
     ((rest : ℕ) × (ending ≡ Ok rest)) ⊎ ((have : ℕ) × (ending ≡ Err (Capture (ShortHeader have))))

@@ -1,5 +1,5 @@
--- What a run leaves in its sink, by what it read of its source. A mode says what is printed of batches of packets: which
--- texts are the head line and their lines, and which are a whole report of them with an ending.
+-- What a run leaves in its sink, by what it read of its source. A mode says what is printed of batches of packets:
+-- which texts are the head line and their lines, and which are a whole report of them with an ending.
 use Rattle.std.specs.Prelude.{◌≡◌, ◌⊎◌, ℕ, List, [], Option, Some, Result, Ok, Err}
 use Rattle.std.specs.Io.KnownBytes.{Appends, Keeps}
 use Rattle.edge_traits.specs.Edge.{AppendsFront, count_after}
@@ -20,27 +20,27 @@ abbrev pub Reports : Type 1
 Reports = List (List (List ℕ)) → Ending → List ℕ → Type 0
 
 -- the text is a report of these packets, and the lines of whole batches of them
-abbrev pub IsReport : Reports → List (List ℕ) → Ending → List ℕ → Type 0
-IsReport report packets ending text =
+abbrev pub IsLoopReport : Reports → List (List ℕ) → Ending → List ℕ → Type 0
+IsLoopReport report packets ending text =
     (batches : List (List (List ℕ))) × AreBatches packets batches × report batches ending text
 
-abbrev pub IsFront : Lines → List (List ℕ) → List ℕ → Type 0
-IsFront lines packets text =
+abbrev pub IsLoopFront : Lines → List (List ℕ) → List ℕ → Type 0
+IsLoopFront lines packets text =
     (batches : List (List (List ℕ))) × AreWhole packets batches × lines batches text
 
-abbrev pub IsTold : Lines → List (List ℕ) → List ℕ → Type 0
-IsTold lines packets text =
+abbrev pub IsLoopTold : Lines → List (List ℕ) → List ℕ → Type 0
+IsLoopTold lines packets text =
     (batches : List (List (List ℕ))) × AreBatches packets batches × lines batches text
 
 -- of an input with these bytes, of which these are left, the text is the report, with this ending
 abbrev pub ReportsInput : Reports → List ℕ → Option (List ℕ) → Ending → List ℕ → Type 0
 ReportsInput report bytes left ending text =
-    (packets : List (List ℕ)) × Serves bytes left packets ending × IsReport report packets ending text
+    (packets : List (List ℕ)) × Serves bytes left packets ending × IsLoopReport report packets ending text
 
 -- and the text is the lines of all its batches
 abbrev pub TellsInput : Lines → List ℕ → Option (List ℕ) → Ending → List ℕ → Type 0
 TellsInput lines bytes left ending text =
-    (packets : List (List ℕ)) × Serves bytes left packets ending × IsTold lines packets text
+    (packets : List (List ℕ)) × Serves bytes left packets ending × IsLoopTold lines packets text
 
 -- a front of a text was put
 abbrev pub PutsFront : (before after : Option (List ℕ)) → (List ℕ → Type 0) → Type 0
@@ -55,14 +55,14 @@ abbrev pub IsMet : (read_failed : Type 0) → Ending → Type 0
 IsMet read_failed ending = ending ≡ ReadFault → read_failed
 
 -- The whole report was put, with this ending.
-abbrev pub PutsReport : Reports → List ℕ → Option (List ℕ) → Option (List ℕ) → Option (List ℕ) → Ending → Type 0
-PutsReport report bytes left before after ending = PutsWhole before after (ReportsInput report bytes left ending)
+abbrev pub PutsInput : Reports → List ℕ → Option (List ℕ) → Option (List ℕ) → Option (List ℕ) → Ending → Type 0
+PutsInput report bytes left before after ending = PutsWhole before after (ReportsInput report bytes left ending)
 
 -- A front of the report was put, where the ending is known, and otherwise of the lines of the batches so far.
 abbrev pub PutsSome : Lines → Reports → Type 0 → List ℕ → Option (List ℕ) → Option (List ℕ) → Option (List ℕ) → Type 0
 PutsSome lines report read_failed bytes left before after =
     ((ending : Ending) × IsMet read_failed ending × PutsFront before after (ReportsInput report bytes left ending))
-    ⊎ ((packets : List (List ℕ)) × Begins bytes left packets × PutsFront before after (IsFront lines packets))
+    ⊎ ((packets : List (List ℕ)) × Begins bytes left packets × PutsFront before after (IsLoopFront lines packets))
 
 -- Where memory ran out, nothing was put, or the lines of all batches of an input whose ending is known, or the lines of
 -- the batches so far. More of the input may have been read.
@@ -70,14 +70,14 @@ abbrev pub PutsLess : Lines → Type 0 → List ℕ → Option (List ℕ) → Op
 PutsLess lines read_failed bytes left before after =
     Keeps before after
     ⊎ (((ending : Ending) × IsMet read_failed ending × PutsWhole before after (TellsInput lines bytes left ending))
-    ⊎ ((packets : List (List ℕ)) × IsFirst bytes packets × PutsWhole before after (IsFront lines packets)))
+    ⊎ ((packets : List (List ℕ)) × IsFirst bytes packets × PutsWhole before after (IsLoopFront lines packets)))
 
 -- What a run leaves that ended so: of the input's bytes these are left, and the sink had taken `before` and has taken
 -- `after`.
 abbrev pub Leaves : Lines → Reports → Type 0 → List ℕ → Option (List ℕ) → Option (List ℕ) → Option (List ℕ) →
     Result Ending Stop → Type 0
 Leaves lines report read_failed bytes left before after (Ok ending) =
-    IsMet read_failed ending × PutsReport report bytes left before after ending
+    IsMet read_failed ending × PutsInput report bytes left before after ending
 Leaves lines report read_failed bytes left before after (Err NotPut) =
     PutsSome lines report read_failed bytes left before after
 Leaves lines report read_failed bytes left before after (Err Memory) =
@@ -92,20 +92,20 @@ TookFor (Err Memory) first left P = (between : Option (List ℕ)) × Took first 
 -- So it is for the bytes of a source, where they are told, and for those that were taken of it, as of a source that
 -- told just these: so these decide which answer it is. Of a source that tells nothing the second fact says only that
 -- there are some such bytes.
-pub record LeavesAll (lines : Lines) (report : Reports) (read_failed : Type 0) (first left before after : Option (List ℕ))
-    (answer : Result Ending Stop) : Type 0 where
+pub record LoopLeavesAll (lines : Lines) (report : Reports) (read_failed : Type 0)
+    (first left before after : Option (List ℕ)) (answer : Result Ending Stop) : Type 0 where
   pub told : (bytes : List ℕ) → first ≡ Some bytes → Leaves lines report read_failed bytes left before after answer
   pub took : TookFor answer first left (λ taken. Leaves lines report read_failed taken (Some []) before after answer)
 
 -- ---- devices that failed
 
 -- how many reads have failed in a run that ended so: the last one, where it is the ending
-abbrev pub ReadsFailed : Result Ending Stop → (before after : ℕ) → Type 0
-ReadsFailed (Ok ending) before after = HasFailed (Some ending) before after
-ReadsFailed (Err stop) before after = (after ≡ before) ⊎ (after ≡ count_after before 1)
+abbrev pub RunReads : Result Ending Stop → (before after : ℕ) → Type 0
+RunReads (Ok ending) before after = HasFailed (Some ending) before after
+RunReads (Err stop) before after = (after ≡ before) ⊎ (after ≡ count_after before 1)
 
 -- how many writes have failed: the one that ended it
-abbrev pub WritesFailed : {T : Type 0} → Result T Stop → (before after : ℕ) → Type 0
-WritesFailed (Ok done) before after = after ≡ before
-WritesFailed (Err Memory) before after = after ≡ before
-WritesFailed (Err NotPut) before after = after ≡ count_after before 1
+abbrev pub RunWrites : {T : Type 0} → Result T Stop → (before after : ℕ) → Type 0
+RunWrites (Ok done) before after = after ≡ before
+RunWrites (Err Memory) before after = after ≡ before
+RunWrites (Err NotPut) before after = after ≡ count_after before 1

@@ -12,8 +12,8 @@ use Rattle.capture_loop.specs.Input.{ServesUpTo}
 abbrev pub HaveCome : (first now : Option (List ℕ)) → Reading → List (List ℕ) → Type 0
 HaveCome first now reading packets = Took first now (λ taken. HasRead taken reading (Some []) packets)
 
--- A reader that stood at `old` met this ending, of what was taken of its source: `before` and `after` are the bytes that
--- it had left, where it tells them. Behind an end nothing is left.
+-- A reader that stood at `old` met this ending, of what was taken of its source: `before` and `after` are the bytes
+-- that it had left, where it tells them. Behind an end nothing is left.
 abbrev pub MeetsEnd : (old new : Reading) (before after : Option (List ℕ)) → Ending → Type 0
 MeetsEnd old new before after (Done rest) =
     Took before after (λ taken. MeetsEnding old new (Ok rest) taken × IfSome before (λ bytes. bytes ≡ taken))

@@ -1,5 +1,5 @@
-//! One loop for every mode that goes through a capture batch by batch: what is read, in which batches it is handed on, and
-//! what is put.
+//! One loop for every mode that goes through a capture batch by batch: what is read, in which
+//! batches it is handed on, and what is put.
 #![tactic(auto)]
 
 mod intake;

@@ -7,7 +7,7 @@ ghost use Rattle.pcapng_reader.specs.Reading.{IsAtStart};
 ghost use Rattle.report_text.specs.Report.{IsEnding};
 ghost use Rattle.capture_loop.specs.Batches.{AreBatches};
 ghost use Rattle.capture_loop.specs.Intake.{IsTaken};
-ghost use Rattle.capture_loop.specs.Leaves.{IsMet, LeavesAll, ReadsFailed, WritesFailed};
+ghost use Rattle.capture_loop.specs.Leaves.{IsMet, LoopLeavesAll, RunReads, RunWrites};
 ghost use Rattle.capture_loop.specs.Looping.{HasPut, OnMemory, OnNotPut, Stands};
 ghost use Rattle.capture_loop.specs.Reading.{HaveCome, HaveEnded};
 ghost use Rattle.capture_loop.specs.Input.{packet_limit};
@@ -39,7 +39,7 @@ pub fn run_job<R: Threads + Sync, S: Source, K: Sink, G: Gate + Sync, P, J: Job<
 ) -> Result<Ending, Stop>
     requires going { J.going job.old 0 }
     requires none { J.Pile.holds piles.old.now 0 [] }
-    ensures leaves { (plan : P) → J.done job.old plan [] text.old.items → LeavesAll (J.lines plan) (J.report plan)
+    ensures leaves { (plan : P) → J.done job.old plan [] text.old.items → LoopLeavesAll (J.lines plan) (J.report plan)
         (Rose (S.faults source.old) (S.faults source.new))
         (S.left source.old) (S.left source.new) (K.put sink.old) (K.put sink.new) result }
 
@@ -47,8 +47,8 @@ pub fn run_job<R: Threads + Sync, S: Source, K: Sink, G: Gate + Sync, P, J: Job<
     ensures ending { IfOk result IsEnding }
     ensures read_fault { result ≡ Ok Ending.ReadFault → Rose (S.faults source.old) (S.faults source.new) }
     ensures write_fault { OnNotPut result (Rose (K.faults sink.old) (K.faults sink.new)) }
-    ensures reads { ReadsFailed result (S.failed source.old) (S.failed source.new) }
-    ensures writes { WritesFailed result (K.failed sink.old) (K.failed sink.new) }
+    ensures reads { RunReads result (S.failed source.old) (S.failed source.new) }
+    ensures writes { RunWrites result (K.failed sink.old) (K.failed sink.new) }
     ensures counted { (S.faults source.old ≤ S.faults source.new) × (K.faults sink.old ≤ K.faults sink.new) }
 {
     match open(means.alloc, source) {
@@ -87,13 +87,13 @@ fn go_through<R: Threads + Sync, S: Source, K: Sink, G: Gate + Sync, P, J: Job<P
     ensures leaves { (plan : P) (first before : Option (List ℕ)) (faults : ℕ) → faults ≤ S.faults source.old →
         J.done job.old plan [] text.old.items → HasPut before (K.put sink.old) text.old.items text.old.items →
         HaveCome first (S.left source.old) reader.old [] →
-        LeavesAll (J.lines plan) (J.report plan) (Rose faults (S.faults source.new)) first (S.left source.new)
+        LoopLeavesAll (J.lines plan) (J.report plan) (Rose faults (S.faults source.new)) first (S.left source.new)
         before (K.put sink.new) result }
     ensures ending { IfOk result IsEnding }
     ensures read_fault { result ≡ Ok Ending.ReadFault → Rose (S.faults source.old) (S.faults source.new) }
     ensures write_fault { OnNotPut result (Rose (K.faults sink.old) (K.faults sink.new)) }
-    ensures reads { ReadsFailed result (S.failed source.old) (S.failed source.new) }
-    ensures writes { WritesFailed result (K.failed sink.old) (K.failed sink.new) }
+    ensures reads { RunReads result (S.failed source.old) (S.failed source.new) }
+    ensures writes { RunWrites result (K.failed sink.old) (K.failed sink.new) }
     ensures counted { (S.faults source.old ≤ S.faults source.new) × (K.faults sink.old ≤ K.faults sink.new) }
 {
     let mut packets = 0;
@@ -249,7 +249,7 @@ fn serve_one<R: Threads + Sync, K: Sink, G: Gate + Sync, P, J: Job<P>>(
         × AppendsFront before (K.put sink.new) (done ++ lines)) }
     ensures memory { OnMemory result (sink.new ≡ sink.old) }
     ensures failed { OnNotPut result (Rose (K.faults sink.old) (K.faults sink.new)) }
-    ensures writes { WritesFailed result (K.failed sink.old) (K.failed sink.new) }
+    ensures writes { RunWrites result (K.failed sink.old) (K.failed sink.new) }
     ensures counted { K.faults sink.old ≤ K.faults sink.new }
 {
     serve::<R, G, P, J, _, _>(means, job, pile, text, &mut || {})?;
@@ -276,10 +276,10 @@ fn serve_last<R: Threads + Sync, K: Sink, G: Gate + Sync, P, J: Job<P>>(
         Stands (J.done job.old plan) first many all before (K.put sink.old) text.old.items →
         J.Pile.holds pile.old many packets → length packets ≡ last.packets →
         HaveEnded packet_limit first left (all ++ packets) last.ending → IsMet (Rose faults now) last.ending →
-        LeavesAll (J.lines plan) (J.report plan) (Rose faults now) first left before (K.put sink.new) result }
+        LoopLeavesAll (J.lines plan) (J.report plan) (Rose faults now) first left before (K.put sink.new) result }
     ensures same { IfOk result (λ ending. ending ≡ last.ending) }
     ensures write_fault { OnNotPut result (Rose (K.faults sink.old) (K.faults sink.new)) }
-    ensures writes { WritesFailed result (K.failed sink.old) (K.failed sink.new) }
+    ensures writes { RunWrites result (K.failed sink.old) (K.failed sink.new) }
     ensures counted { K.faults sink.old ≤ K.faults sink.new }
 {
     if last.packets == 0 && many > 0 {
@@ -305,10 +305,10 @@ fn end_run<K: Sink, P, J: Job<P>>(
         (batches : List (List (List ℕ))) (done : List ℕ) → J.done job.now plan batches done →
         AreBatches all batches → HasPut before (K.put sink.old) text.old.items done →
         HaveEnded packet_limit first left all ending → IsMet (Rose faults now) ending →
-        LeavesAll (J.lines plan) (J.report plan) (Rose faults now) first left before (K.put sink.new) result }
+        LoopLeavesAll (J.lines plan) (J.report plan) (Rose faults now) first left before (K.put sink.new) result }
     ensures same { IfOk result (λ last. last ≡ ending) }
     ensures write_fault { OnNotPut result (Rose (K.faults sink.old) (K.faults sink.new)) }
-    ensures writes { WritesFailed result (K.failed sink.old) (K.failed sink.new) }
+    ensures writes { RunWrites result (K.failed sink.old) (K.failed sink.new) }
     ensures counted { K.faults sink.old ≤ K.faults sink.new }
 {
     if let Err(memory) = job.finish(packets, &ending, text) {

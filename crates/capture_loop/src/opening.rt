@@ -8,9 +8,10 @@ ghost use Rattle.report_text.specs.Report.{IsEnding};
 ghost use Rattle.capture_loop.specs.Endings.{ending_at, ending_of, HasFailed, OnEnds};
 ghost use Rattle.capture_loop.specs.Reading.{HaveCome, HaveEnded, MeetsEnd};
 
+use capture_faults::{AnyFault, CaptureFault};
 use edge_traits::Source;
-use pcap_reader::{CaptureFault, Item};
-use pcapng_reader::{AnyFault, AnyReader, every_input, input_front};
+use pcap_reader::Item;
+use pcapng_reader::{AnyReader, every_input, input_front};
 use report_text::Ending;
 use std::alloc::Global;
 

@@ -6,14 +6,11 @@ use Rattle.edge_traits.specs.Edge.{AppendsFront, IsEndExactly}
 use Rattle.report_reading.specs.declared.reading.TheConstants.{TEXT_LIMIT}
 use Rattle.report_told.specs.declared.verdict.Verdict.{Verdict}
 use Rattle.report_told.specs.Verdicts.{Deserves}
+use Rattle.list_laws.proofs.Options.{some_same}
 use Rattle.check_runner.specs.declared.checking.Checked.{Checked}
 use Rattle.check_runner.specs.declared.checking.Checked.TheVariants.{Judged, TooLong}
 use Rattle.check_runner.specs.declared.checking.Stop.TheVariants.{NotPut}
 use Rattle.check_runner.specs.Checked.{HasFound, IsChecked, IsWhole, LeavesChecked, Takes, line_of}
-
--- what is told is one list
-some_inj : {x y : List ℕ} → Some x ≡ Some y → x ≡ y
-some_inj is = cc
 
 -- where a read gave no byte, what was taken is all that a source told
 all_taken : (first before : Option (List ℕ)) (text : List ℕ) (count : ℕ) → count ≡ 0 → Consumes first before text →
@@ -39,10 +36,10 @@ pub found_told : (before after : Option (List ℕ)) (bytes : List ℕ) (found : 
     HasFound found before after → IsChecked bytes found
 found_told None after bytes found is has = absurd (cc)
 found_told (Some xs) after bytes (Judged v) is has =
-    subst (λ (l : List ℕ). IsChecked l (Judged v)) (sym (has.all v refl) ∙ some_inj is) has.is
+    subst (λ (l : List ℕ). IsChecked l (Judged v)) (sym (has.all v refl) ∙ some_same is) has.is
 found_told (Some xs) None bytes TooLong is has = absurd has.lost
 found_told (Some xs) (Some ys) bytes TooLong is has =
-    omega (arith, has.is, ap length has.lost, length-append has.taken ys, ap length (some_inj is))
+    omega (arith, has.is, ap length has.lost, length-append has.taken ys, ap length (some_same is))
 
 -- what was judged of a text that was read whole
 pub found_judged : (before after : Option (List ℕ)) (text : List ℕ) (verdict : Verdict) (x : Checked) →

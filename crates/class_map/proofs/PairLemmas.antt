@@ -1,11 +1,11 @@
 -- Pairs that are held, and pairs among others.
 use Rattle.std.proofs.Common.{◌≡◌, ◌⊎◌, inl, inr, ℕ, suc, ◌+◌, ◌^◌, ◌<◌, ◌≤◌, Bool, true, false, cond, List, [], ◌∷◌, map, length, get_or, Some, None, Option, refl, sym, ap, ◌∙◌, subst, arith}
-use Rattle.std.specs.Prelude.{All, MatchBool, T}
+use Rattle.std.specs.Prelude.{All, MatchBool}
 use Rattle.std.specs.Ordering.{is_eq}
 use Rattle.std.specs.FinMap.{empty, entries, entries_sorted, get, get-entries}
-use Rattle.std.specs.FinMap.Entries.{find, is_sorted, same_entries}
+use Rattle.std.specs.FinMap.Entries.{find, same_entries}
 use Rattle.std.proofs.lemmas.List.{get_or_default}
-use Rattle.std.proofs.lemmas.Bool.{cases_eq}
+use Rattle.std.proofs.lemmas.Bool.{cases_eq, cases_lt}
 use Rattle.hash_bits.specs.Prefix.{WithinPlaces}
 use Rattle.plain_map.specs.declared.keys.Key.{Key}
 use Rattle.plain_map.specs.declared.keys.Pair.{Pair}
@@ -15,6 +15,7 @@ use Rattle.plain_map.specs.Places.{IsAt, IsGapFor, IsInKeyOrder}
 use Rattle.plain_map.specs.PlainObject.{InRange, Sessions, class_of, pairs_of}
 use Rattle.plain_map.proofs.KeyLemmas.{exact_keys, hash_of_key-within, keys_total, tied}
 use Rattle.plain_map.proofs.PlaceLemmas.{find_at, find_in_gap}
+use Rattle.plain_map.proofs.SessionLemmas.{pairs_are_ordered, entries_back, pairs_back}
 use Rattle.class_map.specs.Pairs.{AreAmong, IsHeld, IsIn}
 use Rattle.class_map.specs.Rows.{Holds, row_at}
 
@@ -24,18 +25,14 @@ use Rattle.class_map.specs.Rows.{Holds, row_at}
 abbrev pub UpTo : {A : Type 0} → (A → Type 0) → List A → (i : ℕ) → Type 0
 UpTo {A} P xs i = (k : ℕ) (d : A) → k < i → k < length xs → P (get_or xs k d)
 
--- a place is at or behind another, or before it
-le_or_lt : (i k : ℕ) → (i ≤ k) ⊎ (k < i)
-le_or_lt i k = grind arith
-
 -- of one element more
 pub upto_more : {A : Type 0} (P : A → Type 0) (xs : List A) (i : ℕ) (d : A) → i < length xs → UpTo P xs i →
     P (get_or xs i d) → UpTo P xs (i + 1)
-upto_more P xs i d inside all here k e within low = elim (le_or_lt i k) [
-  | inl last ↦
+upto_more P xs i d inside all here k e within low = elim (cases_lt k i) [
+  | inr last ↦
       (let same : i ≡ k = omega arith in
       subst (λ (n : ℕ). P (get_or xs n e)) same (subst P (get_or_default xs i d e inside) here))
-  | inr before ↦ all k e before low
+  | inl before ↦ all k e before low
 ]
 
 -- and in the end of all
@@ -49,25 +46,10 @@ pair_eta : (p q : Pair) → p.key ≡ q.key → held_in p ≡ held_in q → p �
 pair_eta p q keys helds =
     ap (λ (k : Key). pair_of (k, held_in p)) keys ∙ ap (λ (h : Session). pair_of (q.key, h)) helds
 
--- pairs as entries as pairs
-pairs_back : (ps : List Pair) → map pair_of (map entry_of ps) ≡ ps
-pairs_back [] = refl
-pairs_back (p ∷ ps) = ap (λ rest. p ∷ rest) (pairs_back ps)
-
--- entries as pairs as entries
-entries_back : (es : List (Key × Session)) → map entry_of (map pair_of es) ≡ es
-entries_back [] = refl
-entries_back (e ∷ es) = ap (λ rest. e ∷ rest) (entries_back es)
-
 -- what is found among the pairs of a map is what it holds
 found_there : (m : Sessions) (q : Key) → find key_cmp q (map entry_of (pairs_of m)) ≡ get m q
 unfolding pairs_of
 found_there m q = ap (find key_cmp q) (entries_back (entries m)) ∙ sym (get-entries m q)
-
--- the pairs of a map are in the order of their keys
-pub are_ordered : (m : Sessions) → IsInKeyOrder (pairs_of m)
-unfolding pairs_of
-are_ordered m = subst (λ es. T (is_sorted key_cmp es)) (sym (entries_back (entries m))) (entries_sorted m)
 
 -- what is found is a pair of the list
 find_some : (q : Key) (ps : List Pair) (s : Session) → find key_cmp q (map entry_of ps) ≡ Some s →
@@ -193,7 +175,7 @@ all_among rows rules sessions pairs holds is class m inside k d low =
     let pair : Pair = get_or (pairs_of (get_or rows class m)) k d in
     let here : IsHeld (get_or rows class m) pair =
     sym (found_there (get_or rows class m) pair.key)
-    ∙ found_at (pairs_of (get_or rows class m)) k d (are_ordered (get_or rows class m)) low in
+    ∙ found_at (pairs_of (get_or rows class m)) k d (pairs_are_ordered (get_or rows class m)) low in
     let in_row : IsHeld row pair = subst (λ (x : Sessions). IsHeld x pair) alike here in
     let held : IsHeld sessions pair =
     row_pair rows rules sessions holds class (omega (arith, inside, holds.many)) pair in_row

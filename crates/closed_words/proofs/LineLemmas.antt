@@ -2,7 +2,7 @@
 use Rattle.std.proofs.Common.{◌≡◌, ℕ, zero, suc, ◌+◌, ◌-◌, ◌<◌, ◌≤◌, Bool, true, false, List, [], ◌∷◌, ◌++◌, Option, Some, None, sym, ap, ◌∙◌, refl, arith}
 use Rattle.std.proofs.lemmas.List.{append-nil}
 use Rattle.std.specs.Prelude.{find, if◌then◌else◌}
-use Rattle.core_model.specs.Reading.{line}
+use Rattle.table_model.specs.Reading.{line}
 use Rattle.closed_words.proofs.LoopLemmas.{grows}
 
 -- from no row on there is none

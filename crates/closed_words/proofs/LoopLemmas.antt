@@ -2,7 +2,7 @@
 use Rattle.std.proofs.Common.{◌≡◌, ℕ, ◌+◌, ◌-◌, ◌<◌, Bool, true, false, cond, List, [], ◌∷◌, ◌++◌, length, take, drop, get_or, sym, ap, ◌∙◌, append_assoc}
 use Rattle.std.specs.List.{filter}
 use Rattle.std.proofs.lemmas.List.{at_drop_more, take_rest}
-use Rattle.core_model.specs.Reading.{each_once, is_among}
+use Rattle.table_model.specs.Reading.{each_once, is_among}
 
 -- a piece goes over to what is done
 pub grows : {B : Type 0} → (done piece rest now all done_then : List B) → done_then ≡ done ++ piece →

@@ -5,9 +5,9 @@ use Rattle.std.specs.List.{filter, list_any}
 use Rattle.std.specs.declared.alloc.AllocError.{AllocError}
 use Rattle.plain_map.specs.declared.records.Pending.{Pending}
 use Rattle.word_rows.specs.Shape.{Shape}
-use Rattle.core_model.specs.SeatStates.{is_update}
-use Rattle.core_model.specs.Reading.{applied_at, bucket_rows}
-use Rattle.core_model.specs.Order.{took_effect}
+use Rattle.plain_map.specs.Calls.{is_update}
+use Rattle.table_model.specs.Reading.{applied_at, bucket_rows}
+use Rattle.table_model.specs.Order.{took_effect}
 
 -- those of the calls whose number stands in one of these rows, where these are the published ones
 pub effects-same : (shape : Shape) (words rows : List ℕ) (begun : List Pending)

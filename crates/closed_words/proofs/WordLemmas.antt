@@ -1,12 +1,12 @@
 -- A word of a part of the words.
-use Rattle.std.proofs.Common.{◌≡◌, ℕ, ◌+◌, ◌*◌, ◌<◌, ◌≤◌, List, map, take, drop, length, get_or, sym, ap, ◌∙◌, arith}
-use Rattle.std.specs.Prelude.{min, ◌-◌}
+use Rattle.std.proofs.Common.{◌≡◌, ℕ, ◌+◌, ◌*◌, ◌<◌, ◌≤◌, List, map, get_or, sym, ◌∙◌, arith}
+use Rattle.std.specs.Prelude.{◌-◌}
 use Rattle.std.specs.List.{range_with_len}
-use Rattle.std.proofs.lemmas.List.{get_or-drop, get_or_past, drop-take, drop-drop, length-take, length-drop}
+use Rattle.std.proofs.lemmas.List.{get_or-drop, get_or_past}
 use Rattle.std.proofs.lemmas.List.FromFn.{get_or-map-range_with_len, length-map-range_with_len}
 use Rattle.word_rows.specs.Shape.{Shape}
 use Rattle.word_rows.specs.BucketWords.{seat_part}
-use Rattle.core_model.specs.Reading.{applied_at, bucket_spelling}
+use Rattle.table_model.specs.Reading.{applied_at, bucket_spelling}
 use Rattle.step_counts.specs.declared.TheConstants.{ITEM_WORDS}
 
 -- the number of a seat stands at two words for each seat before
@@ -26,15 +26,3 @@ applied_at-past shape words row seat past =
     let f : ℕ → ℕ = λ s. get_or (seat_part shape.settings (bucket_spelling shape words row)) (s * 2) 0 in
     get_or_past (map f (range_with_len 0 shape.settings.seats)) seat 0
     (omega (arith, length-map-range_with_len f 0 shape.settings.seats))
-
--- the entries of a directory row are what follows its two first words
-pub entries-part : (words : List ℕ) (start many : ℕ) →
-    take many (drop (start + 2) words) ≡ drop 2 (take (2 + many) (drop start words))
-entries-part words start many = ap (take many) (sym (drop-drop 2 start words))
-    ∙ sym (drop-take 2 many (drop start words))
-
--- so many they are
-pub entries-count : (words : List ℕ) (start many : ℕ) →
-    length (drop 2 (take (2 + many) (drop start words))) ≡ min many (length words - (start + 2))
-entries-count words start many = ap (λ (xs : List ℕ). length xs) (sym (entries-part words start many))
-    ∙ length-take many (drop (start + 2) words) ∙ ap (min many) (length-drop (start + 2) words)

@@ -8,8 +8,8 @@ ghost use Rattle.word_rows.specs.Blocks.{block};
 ghost use Rattle.word_rows.specs.BucketWords.{item_part};
 ghost use Rattle.word_rows.specs.KeyWords.{pair_of_words};
 ghost use Rattle.word_rows.specs.LayoutView.{shape_of};
-ghost use Rattle.core_model.specs.Reading.{bucket_at, bucket_spelling};
-ghost use Rattle.core_model.specs.Closed.{closed_buckets, closed_leaves, closed_pairs, leaf_at};
+ghost use Rattle.table_model.specs.Reading.{bucket_at, bucket_spelling};
+ghost use Rattle.table_model.specs.Closed.{closed_buckets, closed_leaves, closed_pairs, leaf_at};
 ghost use Rattle.closed_words.specs.Views.{as_leaf};
 
 use crate::lists::each_once_first;

@@ -3,7 +3,7 @@
 //! The only error is want of memory.
 
 ghost use Rattle.std.specs.Prelude.{◌≡◌, IfOk, filter, not};
-ghost use Rattle.core_model.specs.Reading.{each_once, each_once_first, is_among};
+ghost use Rattle.table_model.specs.Reading.{each_once, each_once_first, is_among};
 
 use std::alloc::{AllocError, Global};
 

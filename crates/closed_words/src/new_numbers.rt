@@ -2,7 +2,7 @@
 
 ghost use Rattle.std.specs.Prelude.{◌≡◌};
 ghost use Rattle.word_rows.specs.LayoutView.{shape_of};
-ghost use Rattle.core_model.specs.Order.{new_number};
+ghost use Rattle.table_model.specs.Order.{new_number};
 
 use crate::{Starts, Words, applied_at, row_base};
 

@@ -4,7 +4,7 @@
 
 ghost use Rattle.std.specs.Prelude.{◌≡◌, IfOk, Some};
 ghost use Rattle.word_rows.specs.LayoutView.{shape_of};
-ghost use Rattle.core_model.specs.Reading.{
+ghost use Rattle.table_model.specs.Reading.{
   bucket_line,
   bucket_rows,
   directory_at,

@@ -5,7 +5,7 @@
 ghost use Rattle.std.specs.Prelude.{◌≡◌, ◌^◌, ◌<◌, length, min, slice_index};
 ghost use Rattle.step_counts.specs.StepCounts.{bucket_row_words};
 ghost use Rattle.word_rows.specs.LayoutView.{shape_of};
-ghost use Rattle.core_model.specs.Reading.{
+ghost use Rattle.table_model.specs.Reading.{
   applied_at,
   bucket_at,
   bucket_row,
@@ -15,7 +15,7 @@ ghost use Rattle.core_model.specs.Reading.{
   root_of,
   row_of,
 };
-ghost use Rattle.core_model.specs.Closed.{closed_depth};
+ghost use Rattle.table_model.specs.Closed.{closed_depth};
 
 use crate::{Starts, Words};
 use step_counts::{BUCKET_HEAD_WORDS, DIRECTORY_HEAD_WORDS, ITEM_WORDS, SEAT_WORDS};

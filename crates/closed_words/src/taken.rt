@@ -3,17 +3,16 @@
 ghost use Rattle.std.specs.Prelude.{◌≡◌, ◌&&◌, ◌==◌, IfOk, filter};
 ghost use Rattle.std.specs.List.{list_any};
 ghost use Rattle.word_rows.specs.LayoutView.{shape_of};
-ghost use Rattle.core_model.specs.SeatStates.{is_update};
-ghost use Rattle.core_model.specs.Reading.{applied_at};
-ghost use Rattle.core_model.specs.Order.{took_effect};
+ghost use Rattle.plain_map.specs.Calls.{is_update};
+ghost use Rattle.table_model.specs.Reading.{applied_at};
+ghost use Rattle.table_model.specs.Order.{took_effect};
 
 use crate::{Starts, Words, applied_at, bucket_rows};
 use plain_map::{Call, Pending};
 use std::alloc::{AllocError, Global};
 
-/// Of the calls that had begun the updates that took effect: those whose number is the applied number of their seat
-/// in a
-/// published row. The only error is want of memory.
+/// Of the calls that had begun the updates that took effect: those whose number is the applied number of their seat in
+/// a published row. The only error is want of memory.
 pub fn effects<W: Words>(
     alloc: Global,
     starts: &Starts,

@@ -2,7 +2,7 @@
 
 ghost use Rattle.std.specs.Prelude.{◌≡◌};
 ghost use Rattle.word_rows.specs.LayoutView.{shape_of};
-ghost use Rattle.core_model.specs.Reading.{first_row, is_exchanged};
+ghost use Rattle.table_model.specs.Reading.{first_row, is_exchanged};
 
 use crate::{Starts, Words, row_base, row_depth, row_of};
 

@@ -9,6 +9,7 @@ use Rattle.std.specs.Str.{bytes_eq}
 use Rattle.std.proofs.lemmas.List.{get_or-map, get_or_default, length-map}
 use Rattle.std.proofs.lemmas.List.Folds.{list_any-from_Any}
 use Rattle.std.proofs.lemmas.Slice.Eq.{bytes_eq-Decides}
+use Rattle.std.proofs.lemmas.Bool.{and_parts}
 use Rattle.clap.specs.Walk.{Rule, Text}
 
 -- no id comes twice
@@ -27,10 +28,6 @@ all_ids rules = reserved ++ map (λ r. r.id) rules
 abbrev pub is_apart : List Rule → Bool
 is_apart rules = ids_differ (all_ids rules)
 
-both : (a b : Bool) → (a && b) ≡ true → (a ≡ true) × (b ≡ true)
-both true b e = (refl, e)
-both false b e = cc
-
 not_true : (b : Bool) → not b ≡ true → b ≡ true → ⊥
 not_true true e f = cc
 not_true false e f = cc
@@ -48,11 +45,11 @@ same_place : (ids : List Text) → ids_differ ids ≡ true → (j k : ℕ) → j
 same_place [] apart j k lj lk e = absurd (omega arith)
 same_place (id ∷ rest) apart zero zero lj lk e = refl
 same_place (id ∷ rest) apart zero (suc k) lj lk e =
-    absurd (not_true _ (both _ _ apart).0 (found_at rest id k (omega arith) (sym e)))
+    absurd (not_true _ (and_parts _ _ apart).0 (found_at rest id k (omega arith) (sym e)))
 same_place (id ∷ rest) apart (suc j) zero lj lk e =
-    absurd (not_true _ (both _ _ apart).0 (found_at rest id j (omega arith) e))
+    absurd (not_true _ (and_parts _ _ apart).0 (found_at rest id j (omega arith) e))
 same_place (id ∷ rest) apart (suc j) (suc k) lj lk e =
-    ap suc (same_place rest (both _ _ apart).1 j k (omega arith) (omega arith) e)
+    ap suc (same_place rest (and_parts _ _ apart).1 j k (omega arith) (omega arith) e)
 
 -- the arguments' ids follow the three that are reserved
 id_at : (rules : List Rule) (k : ℕ) (d : Rule) → k < length rules

@@ -1,16 +1,13 @@
 -- The loops that read the texts of a play find what the definitions say.
 use Rattle.std.proofs.Common.{◌≡◌, ◌∙◌, ◌+◌, ◌<◌, ◌≤◌, ◌==◌, ℕ, suc, zero, Bool, true, false, cond, List, [], ◌∷◌, ◌++◌}
 use Rattle.std.proofs.Common.{Option, Some, None, ap, refl, sym, map, length, take, drop, slice_index_or, arith}
-use Rattle.std.proofs.Common.{nat_lt, Bor}
-use Rattle.std.specs.List.{after_first, before_first, filter, position_or_len, range_with_len}
-use Rattle.std.specs.Option.{MatchOption, option_map}
+use Rattle.std.specs.List.{filter, range_with_len}
+use Rattle.std.specs.Option.{option_map}
 use Rattle.std.proofs.lemmas.List.{append-nil, get_or-map, length-map, map_more, take-append-drop, take_all, take_more}
 use Rattle.std.proofs.lemmas.List.Elements.{filter-append}
 use Rattle.std.proofs.lemmas.List.FromFn.{get_or-range_with_len, length-range_with_len}
 use Rattle.std.specs.Prelude.{is_some}
-use Rattle.std.proofs.lemmas.Bool.Decides.{nat_tests}
-use Rattle.clap.specs.Walk.{Text}
-use Rattle.command_line.specs.Plays.{all_of, at_most_one, cut_at}
+use Rattle.command_line.specs.Plays.{all_of, at_most_one}
 
 -- ---- lists of which each has to be there
 
@@ -65,11 +62,6 @@ all_none f rows i d inside found =
 abbrev pub own : (seat : ℕ) → List (ℕ × ℕ) → List (ℕ × ℕ)
 own seat stops = filter (λ stop. stop.0 == seat) stops
 
-one_none : (l : List (ℕ × ℕ)) → at_most_one l ≡ Some None → l ≡ []
-one_none [] e = refl
-one_none (a ∷ []) e = cc
-one_none (a ∷ b ∷ l) e = cc
-
 too_many : (l : List (ℕ × ℕ)) (k : ℕ) (s : ℕ × ℕ) (more : List (ℕ × ℕ)) → at_most_one l ≡ Some (Some k)
     → at_most_one ((l ++ s ∷ []) ++ more) ≡ None
 too_many [] k s more e = cc
@@ -93,16 +85,7 @@ other_seat seat stops i d found inside other so_far =
     ∙ ap (λ (l : List (ℕ × ℕ)). own seat (take i stops) ++ l) (own_same seat (slice_index_or stops i d) false other)
     ∙ append-nil (own seat (take i stops))) ∙ so_far
 
--- at the first stop of the seat
-pub first_stop : (seat : ℕ) (stops : List (ℕ × ℕ)) (i : ℕ) (d : ℕ × ℕ) → i < length stops
-    → ((slice_index_or stops i d).0 == seat) ≡ true → at_most_one (own seat (take i stops)) ≡ Some None
-    → at_most_one (own seat (take (i + 1) stops)) ≡ Some (Some (slice_index_or stops i d).1)
-first_stop seat stops i d inside same so_far =
-    ap at_most_one (own_more seat stops i d inside
-    ∙ ap (λ (l : List (ℕ × ℕ)). own seat (take i stops) ++ l) (own_same seat (slice_index_or stops i d) true same)
-    ∙ ap (λ (l : List (ℕ × ℕ)). l ++ slice_index_or stops i d ∷ []) (one_none _ so_far))
-
--- at a second one
+-- at a second stop of the seat
 pub second_stop : (seat : ℕ) (stops : List (ℕ × ℕ)) (i : ℕ) (d : ℕ × ℕ) (k : ℕ) → i < length stops
     → ((slice_index_or stops i d).0 == seat) ≡ true → at_most_one (own seat (take i stops)) ≡ Some (Some k)
     → None ≡ at_most_one (own seat stops)
@@ -114,34 +97,6 @@ second_stop seat stops i d k inside same so_far =
     ∙ ap at_most_one (filter-append _ (take (i + 1) stops) (drop (i + 1) stops)
     ∙ ap (λ (l : List (ℕ × ℕ)). l ++ own seat (drop (i + 1) stops)) twice)
     ∙ too_many (own seat (take i stops)) k (slice_index_or stops i d) (own seat (drop (i + 1) stops)) so_far)
-
-pub stops_end : (seat : ℕ) (stops : List (ℕ × ℕ)) (i : ℕ) (found : Option ℕ) → length stops ≤ i
-    → at_most_one (own seat (take i stops)) ≡ Some found → Some found ≡ at_most_one (own seat stops)
-stops_end seat stops i found past so_far =
-    sym so_far ∙ ap (λ (l : List (ℕ × ℕ)). at_most_one (own seat l)) (take_all i stops past)
-
--- ---- a text that is cut once
-
-yes_test : (m n : ℕ) → m < n → nat_lt m n ≡ true
-yes_test m n less = grind (arith, nat_tests)
-
-no_test : (m n : ℕ) → m ≡ n → nat_lt m n ≡ false
-no_test m n same = grind (arith, nat_tests)
-
-pub cut_read : (c : ℕ) (text : Text) (r : Option (Bor Text × Bor Text))
-    → MatchOption r (position_or_len (λ b. b == c) text ≡ length text)
-    (λ x. (position_or_len (λ b. b == c) text < length text) × (x.0.now ≡ before_first (λ b. b == c) text)
-    × (x.1.now ≡ after_first (λ b. b == c) text))
-    → option_map (λ x. (x.0.now, x.1.now)) r ≡ cut_at c text
-cut_read c text None h =
-    ap (λ b. cond b (Some (before_first (λ b. b == c) text, after_first (λ b. b == c) text)) None)
-    (sym (no_test (position_or_len (λ b. b == c) text) (length text) h))
-cut_read c text (Some x) h =
-    let sides : (x.0.now, x.1.now) ≡ (before_first (λ b. b == c) text, after_first (λ b. b == c) text) =
-    λ i. (h.1 i, h.2 i) in
-    ap (λ p. Some p) sides
-    ∙ ap (λ b. cond b (Some (before_first (λ b. b == c) text, after_first (λ b. b == c) text)) None)
-    (sym (yes_test (position_or_len (λ b. b == c) text) (length text) h.0))
 
 -- ---- a loop over the seats
 

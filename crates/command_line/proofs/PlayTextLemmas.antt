@@ -24,7 +24,8 @@ use Rattle.command_line.specs.CommandLines.{IsAskedSegment, joined, segment_text
 use Rattle.command_line.specs.Plays.{all_of, at_most_one, colon, cut_at, most_segments, most_slots, most_steps}
 use Rattle.command_line.specs.Plays.{schedule_of}
 use Rattle.command_line.specs.Plays.{seat_of, segment_of, slots_of, star, stop_for, stop_of, stops_for, stops_of}
-use Rattle.command_line.specs.Texts.{◌>>=◌, at_most, comma, number_between, parts_at}
+use Rattle.command_line.specs.Texts.{at_most, comma, number_between, parts_at}
+use Rattle.line_fields.specs.Reading.{◌>>=◌}
 use Rattle.command_line.specs.Words.{asked_schedule, asked_stops}
 use Rattle.command_line.specs.declared.plays.Segment.{Segment}
 use Rattle.command_line.proofs.PlayLemmas.{own}

@@ -18,7 +18,8 @@ use Rattle.command_line.specs.Command.{Number, capture_number, depth, items, pac
 use Rattle.command_line.specs.CommandLines.{IsAskable, as_used, asked, default_plan, given_of, hash_text, is_in}
 use Rattle.command_line.specs.CommandLines.{line_of}
 use Rattle.command_line.specs.CommandLines.{lists_of, rows_text, seed_of, share_text, tests}
-use Rattle.command_line.specs.Texts.{◌>>=◌, AreRowsInRange}
+use Rattle.command_line.specs.Texts.{AreRowsInRange}
+use Rattle.line_fields.specs.Reading.{◌>>=◌}
 use Rattle.command_line.specs.Words.{asked_rows, asked_schedule, asked_stops, decimal, hashing_of, reads, share_of}
 use Rattle.command_line.specs.Words.{start_below}
 use Rattle.command_line.specs.declared.plan.Mode.{Mode}

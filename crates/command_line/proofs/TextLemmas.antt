@@ -1,14 +1,15 @@
 -- What the readers of single texts find is what the definitions say.
-use Rattle.std.proofs.Common.{◌≡◌, ◌≢◌, ◌∙◌, ◌<◌, ◌≤◌, ◌^◌, ◌&&◌, ℕ, Bool, true, false, cond, [], ◌∷◌, length, Some}
+use Rattle.std.proofs.Common.{◌≡◌, ◌≢◌, ◌∙◌, ◌<◌, ◌≤◌, ◌^◌, ◌&&◌, ℕ, Bool, true, false, cond, length, Some}
 use Rattle.std.proofs.Common.{None}
 use Rattle.std.proofs.Common.{Result, Ok, Err, ap, ap₂, refl, sym, get_or, arith, nat_lt}
 use Rattle.std.proofs.lemmas.Bool.Decides.{nat_tests}
-use Rattle.std.proofs.lemmas.Str.Parse.{IsNumeralModel, digits_value_short, not_in_digits, numerals_by_value}
+use Rattle.std.proofs.lemmas.Str.Parse.{IsNumeralModel, digits_value_short, numerals_by_value}
 use Rattle.std.proofs.lemmas.Str.Parse.{parse_plain, tells_all_ascii_digits}
 use Rattle.std.specs.Bool.{Decides}
 use Rattle.std.specs.Result.{OkIff, result_ok}
 use Rattle.std.specs.Str.{all_ascii_digits}
 use Rattle.std.specs.Str.Parse.{ParsesUnsigned, digits_value}
+use Rattle.std.proofs.lemmas.Bool.{and_parts, lt-ltb}
 use Rattle.clap.specs.Walk.{Text}
 use Rattle.command_line.specs.Texts.{at_most, is_number}
 
@@ -19,9 +20,6 @@ own = numerals_by_value (λ ds. all_ascii_digits ds ≡ true) tells_all_ascii_di
 pub at_most_of : (most n : ℕ) → n ≤ most → at_most most n ≡ true
 at_most_of most n low = grind (arith, nat_tests)
 
-lt_of : (m n : ℕ) → m < n → nat_lt m n ≡ true
-lt_of m n low = grind (arith, nat_tests)
-
 all_three : {a b c : Bool} → a ≡ true → b ≡ true → c ≡ true → (a && b && c) ≡ true
 all_three e f g = ap₂ (λ x y. x && y) (ap₂ (λ x y. x && y) e f) g
 
@@ -29,13 +27,9 @@ all_three e f g = ap₂ (λ x y. x && y) (ap₂ (λ x y. x && y) e f) g
 pub number_is : (text : Text) → all_ascii_digits text ≡ true → 0 < length text → length text ≤ 10
     → is_number text ≡ true
 number_is text digits some few =
-    all_three digits (lt_of 0 (length text) some) (at_most_of 10 (length text) few)
+    all_three digits (lt-ltb 0 (length text) some) (at_most_of 10 (length text) few)
 
 -- ---- a number that is read
-
-both_of : (a b : Bool) → (a && b) ≡ true → (a ≡ true) × (b ≡ true)
-both_of true b e = (refl, e)
-both_of false b e = cc
 
 at_most_says : (most n : ℕ) → at_most most n ≡ true → n ≤ most
 at_most_says most n says = grind (arith, nat_tests)
@@ -47,8 +41,8 @@ lt_says m n says = grind (arith, nat_tests)
 pub number_says : (text : Text) → is_number text ≡ true
     → (all_ascii_digits text ≡ true) × (0 < length text) × (length text ≤ 10)
 number_says text is =
-    let one = both_of _ _ is in
-    let two = both_of _ _ one.0 in
+    let one = and_parts _ _ is in
+    let two = and_parts _ _ one.0 in
     (two.0, lt_says 0 (length text) two.1, at_most_says 10 (length text) one.1)
 
 no_number : (text : Text) (b : Bool) → is_number text ≡ b → (b ≡ true → ⊥)
@@ -71,21 +65,6 @@ read_by text (Err e) few told =
 pub number_read : {E : Type 0} (text : Text) (r : Result ℕ E) → ParsesUnsigned 64 10 text r → get_or text 0 0 ≢ 43
     → length text ≤ 10 → result_ok r ≡ cond (is_number text) (Some (digits_value 10 text)) None
 number_read text r parses plain few = read_by text r few (parse_plain own 64 text r parses plain)
-
--- what is too long, or begins with a sign, is no number
-pub long_is_none : (text : Text) → 10 < length text → None ≡ cond (is_number text) (Some (digits_value 10 text)) None
-long_is_none text long =
-    no_number text (is_number text) refl (λ is. let says = number_says text is in absurd (omega arith))
-
-first_digit : (text : Text) → all_ascii_digits text ≡ true → get_or text 0 0 ≡ 43 → 0 < length text → ⊥
-first_digit [] digits plus some = absurd (omega arith)
-first_digit (c ∷ cs) digits plus some = not_in_digits own (c ∷ cs) 43 digits (λ r. absurd (omega arith)) 0 some plus
-
-pub signed_is_none : (text : Text) → get_or text 0 0 ≡ 43
-    → None ≡ cond (is_number text) (Some (digits_value 10 text)) None
-signed_is_none text plus =
-    no_number text (is_number text) refl
-    (λ is. let says = number_says text is in first_digit text says.0 plus says.1)
 
 -- a test that is false
 pub unsigned : (r : Bool) (P : Type 0) → Decides r P → r ≡ false → P → ⊥

@@ -6,7 +6,7 @@ use Rattle.clap.specs.Walk.{Text, first_of, is_empty}
 use Rattle.step_counts.specs.declared.rows.SeatRows.{SeatRows}
 use Rattle.command_line.specs.Command.{flowdir_app}
 use Rattle.command_line.specs.CommandLines.{as_used}
-use Rattle.command_line.specs.Texts.{◌>>=◌}
+use Rattle.line_fields.specs.Reading.{◌>>=◌}
 use Rattle.command_line.specs.Words.{Values, hashing_in, mode_of, plan_of, plan_with, reads, rows_for, schedule_for}
 use Rattle.command_line.specs.Words.{seats_in}
 use Rattle.command_line.specs.Words.{share_in, start_in, stops_in, text_in}

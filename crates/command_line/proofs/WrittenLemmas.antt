@@ -15,7 +15,8 @@ use Rattle.std.proofs.lemmas.Str.Parse.{digit_from_value, not_in_digits, without
 use Rattle.step_counts.specs.declared.rows.SeatRows.{SeatRows}
 use Rattle.clap.specs.Walk.{Text}
 use Rattle.command_line.specs.CommandLines.{rows_text}
-use Rattle.command_line.specs.Texts.{◌>>=◌, AreRowsInRange, at_most, comma, is_number, number_between, parts_at}
+use Rattle.command_line.specs.Texts.{AreRowsInRange, at_most, comma, is_number, number_between, parts_at}
+use Rattle.line_fields.specs.Reading.{◌>>=◌}
 use Rattle.command_line.specs.Texts.{rows_in, rows_of}
 use Rattle.command_line.specs.Words.{decimal}
 use Rattle.command_line.proofs.TextLemmas.{at_most_of, number_is, own}

@@ -13,7 +13,8 @@ use Rattle.trace_share.specs.declared.deals.Share.{Share}
 use Rattle.trace_share.specs.declared.deals.Share.TheVariants.{Round, Block, Flow}
 use Rattle.command_line.specs.Command.{Number, capture_number, depth, flowdir_app, items, packets, seats, seed, start}
 use Rattle.command_line.specs.Plays.{colon, most_segments, most_slots, most_steps, star}
-use Rattle.command_line.specs.Texts.{◌>>=◌, comma}
+use Rattle.command_line.specs.Texts.{comma}
+use Rattle.line_fields.specs.Reading.{◌>>=◌}
 use Rattle.command_line.specs.Words.{IsInRange, asked_rows, asked_schedule, asked_stops, decimal, hashing_of}
 use Rattle.command_line.specs.Words.{share_of, start_below}
 use Rattle.command_line.specs.declared.plan.Mode.{Mode}

@@ -5,7 +5,8 @@ use Rattle.std.specs.List.{after_first, before_first, filter, position_or_len, r
 use Rattle.std.specs.Option.{option_map}
 use Rattle.std.specs.Str.{bytes_eq}
 use Rattle.clap.specs.Walk.{Text}
-use Rattle.command_line.specs.Texts.{◌>>=◌, at_most, comma, number_between, parts_at}
+use Rattle.command_line.specs.Texts.{at_most, comma, number_between, parts_at}
+use Rattle.line_fields.specs.Reading.{◌>>=◌}
 use Rattle.command_line.specs.declared.plays.Segment.{Segment}
 
 -- all of them, where each is there

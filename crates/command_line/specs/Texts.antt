@@ -7,11 +7,7 @@ use Rattle.std.specs.Str.{all_ascii_digits}
 use Rattle.std.specs.Str.Parse.{digits_value}
 use Rattle.clap.specs.Walk.{Text}
 use Rattle.step_counts.specs.declared.rows.SeatRows.{SeatRows}
-
-infixl 10 ◌>>=◌
-abbrev pub ◌>>=◌ : {A B : Type 0} → Option A → (A → Option B) → Option B
-(Some x) >>= f = f x
-None >>= f = None
+use Rattle.line_fields.specs.Reading.{◌>>=◌}
 
 -- a number is at most another
 abbrev pub at_most : ℕ → ℕ → Bool

@@ -20,7 +20,8 @@ use Rattle.trace_share.specs.declared.deals.Share.{Share}
 use Rattle.trace_share.specs.declared.deals.Share.TheVariants.{Round, Block, Flow}
 use Rattle.command_line.specs.Command.{Number, capture_number, depth, flowdir_app, items, packets, seats, seed, start}
 use Rattle.command_line.specs.Plays.{schedule_of, stops_of}
-use Rattle.command_line.specs.Texts.{◌>>=◌, AreRowsInRange, at_most, rows_of}
+use Rattle.command_line.specs.Texts.{AreRowsInRange, at_most, rows_of}
+use Rattle.line_fields.specs.Reading.{◌>>=◌}
 use Rattle.command_line.specs.declared.plan.Mode.{Mode}
 use Rattle.command_line.specs.declared.plan.Mode.TheVariants as mode
 use Rattle.command_line.specs.declared.plan.Plan.{Plan}

@@ -1,26 +1,23 @@
 -- The change of a directory, step by step.
-use Rattle.std.proofs.Common.{◌≡◌, ℕ, zero, suc, ◌+◌, ◌-◌, ◌<◌, ◌≤◌, Bool, true, false, cond, List, [], ◌∷◌, length, drop, drop-cons, get_or, Option, Some, None, refl, sym, ap, subst, ◌∙◌, arith, add-one}
+use Rattle.std.proofs.Common.{◌≡◌, ℕ, zero, suc, ◌-◌, ◌<◌, Bool, true, false, cond, List, [], ◌∷◌, length, drop, drop-cons, get_or, Option, Some, None, refl, ap, subst, arith, ◌+◌, take, set, map, ◌∙◌}
 use native.Mathlib.Numerals.{unary_clauses}
 use Rattle.std.specs.List.{list_any}
-use Rattle.std.proofs.lemmas.List.{drop_all}
+use Rattle.std.proofs.lemmas.List.{map-append, take_more_set}
 use Rattle.plain_map.specs.declared.rules.Rules.{Rules}
 use Rattle.plain_map.specs.declared.calls.Call.{Call}
 use Rattle.plain_map.specs.Calls.{key_in}
 use Rattle.bucket_states.specs.declared.ops.Op.{Op}
 use Rattle.bucket_states.specs.Halves.{half}
-use Rattle.core_model.specs.Directories.{DirectoryState, bucket_of}
-use Rattle.core_model.specs.DirectoryChange.{LoadedBucket, loaded_of, comes_from, with_parts, is_frozen_without, after_op_in, leaves_after_seat, leaves_after}
-use Rattle.core_model.specs.Leaves.{NewLeaf, add_leaf, split, split_for, must_split, apply}
+use Rattle.table_model.specs.Directories.{DirectoryState, bucket_of}
+use Rattle.table_model.specs.DirectoryChange.{LoadedBucket, loaded_of, comes_from, with_parts, is_frozen_without, after_op_in, leaves_after_seat, leaves_after}
+use Rattle.table_model.specs.Leaves.{NewLeaf, add_leaf, split, split_for, must_split, apply}
+use Rattle.table_model.specs.Goes.{more}
 use Rattle.dir_states.specs.Fit.{CanSplit, AreFit}
 use Rattle.dir_states.proofs.FitLemmas.{IsFit-half, AreFit-split_for, AreFit-apply, AreFit-add_leaf}
+use Rattle.dir_states.specs.declared.values.Loaded.{Loaded}
+use Rattle.dir_states.specs.Views.{as_loaded}
 
--- no more is split where nothing must be, or no more may be
-pub split_for-end : (rules : Rules) (call : Call) (most : ℕ) (leaves : List NewLeaf) → most ≡ 0 →
-    split_for rules call most leaves ≡ leaves
-split_for-end rules call zero leaves none = refl
-split_for-end rules call (suc most) leaves none = absurd (omega arith)
-
--- nor where nothing must be
+-- no more is split where nothing must be
 pub split_for-done : (rules : Rules) (call : Call) (most : ℕ) (leaves : List NewLeaf) →
     must_split rules call leaves ≡ false → split_for rules call most leaves ≡ leaves
 split_for-done rules call zero leaves done = refl
@@ -45,11 +42,7 @@ module _ (rules : Rules) (loaded : LoadedBucket) (leaves : List NewLeaf) where
   abbrev pub both : List NewLeaf
   both = add_leaf rules (part 1) (add_leaf rules (part 0) leaves)
 
-  -- a bucket that was split is not split again
-  pub with_parts-there : list_any (comes_from loaded.bucket) leaves ≡ true → with_parts rules loaded leaves ≡ leaves
-  with_parts-there there = ap (λ b. cond b leaves both) there
-
-  -- and one that was not gives both parts
+  -- a bucket that was not split gives both parts
   pub with_parts-new : list_any (comes_from loaded.bucket) leaves ≡ false → with_parts rules loaded leaves ≡ both
   with_parts-new new = ap (λ b. cond b leaves both) new
 
@@ -78,12 +71,7 @@ module _ (rules : Rules) (seat : ℕ) (op : Op) (leaves : List NewLeaf) (loaded 
   abbrev pub split_leaves : List NewLeaf
   split_leaves = split_for rules op.call rules.depth (with_parts rules loaded leaves)
 
-  -- an op that is not taken changes nothing
-  pub after_op_in-not : is_frozen_without seat op loaded ≡ false →
-      after_op_in rules seat op leaves (Some loaded) ≡ leaves
-  after_op_in-not other = ap (λ b. cond b (apply rules seat op split_leaves) leaves) other
-
-  -- and one that is taken is answered there
+  -- an op that is taken is answered there
   pub after_op_in-here : is_frozen_without seat op loaded ≡ true →
       after_op_in rules seat op leaves (Some loaded) ≡ apply rules seat op split_leaves
   after_op_in-here is = ap (λ b. cond b (apply rules seat op split_leaves) leaves) is
@@ -122,24 +110,6 @@ module _ (depth seats : ℕ) (rules : Rules) where
         AreFit-after_seat seat op leaves (AreFit-leaves_after (suc seat) ops
         (leaves_after_seat rules directory loaded seat op leaves) fit)
 
-module _ (rules : Rules) (directory : DirectoryState) (loaded : List LoadedBucket) where
-  -- the change goes on after one seat
-  pub leaves_after-more : (seat : ℕ) (ops : List (Option Op)) (op : Option Op) (leaves : List NewLeaf) →
-      seat < length ops → op ≡ get_or ops seat op
-      → leaves_after rules directory loaded (seat + 1) (drop (seat + 1) ops)
-      (leaves_after_seat rules directory loaded seat op leaves)
-      ≡ leaves_after rules directory loaded seat (drop seat ops) leaves
-  leaves_after-more seat ops op leaves inside is =
-      let next : drop seat ops ≡ op ∷ drop (suc seat) ops =
-      drop-cons ops seat op inside ∙ ap (λ o. o ∷ drop (suc seat) ops) (sym is) in
-      rw add-one (sym (ap (λ l. leaves_after rules directory loaded seat l leaves) next))
-
-  -- after all seats nothing changes
-  pub leaves_after-end : (seat : ℕ) (ops : List (Option Op)) (leaves : List NewLeaf) → length ops ≤ seat →
-      leaves_after rules directory loaded seat (drop seat ops) leaves ≡ leaves
-  leaves_after-end seat ops leaves far = ap (λ l. leaves_after rules directory loaded seat l leaves)
-      (drop_all seat ops far)
-
 -- where all leaves of the change are fit, those after one seat are
 pub AreFit-seat : (depth seats : ℕ) (rules : Rules) (directory : DirectoryState) (loaded : List LoadedBucket)
     (seat : ℕ) (ops : List (Option Op)) (leaves : List NewLeaf)
@@ -150,3 +120,9 @@ AreFit-seat depth seats rules directory loaded seat ops leaves inside fit =
     (leaves_after_seat rules directory loaded seat (get_or ops seat None) leaves)
     (subst (λ l. AreFit depth seats (leaves_after rules directory loaded seat l leaves))
     (drop-cons ops seat None inside) fit)
+
+-- the buckets that were loaded, with one more
+pub loaded_more : (loaded : List Loaded) (i : ℕ) (x : Loaded) → i < length loaded →
+    map as_loaded (take (i + 1) (set loaded i x)) ≡ more (map as_loaded (take i loaded)) (as_loaded x)
+loaded_more loaded i x h =
+    ap (map as_loaded) (take_more_set loaded i x h) ∙ map-append as_loaded (take i loaded) (x ∷ [])

@@ -1,20 +1,21 @@
 -- Pairs counted class by class: one pair more, and the pairs of a prefix as a sum over its classes.
 use Rattle.std.proofs.Common.{◌≡◌, ◌≢◌, ℕ, zero, suc, ◌+◌, ◌-◌, ◌*◌, ◌/◌, ◌^◌, ◌<◌, ◌≤◌, ◌⊎◌, inl, inr, Bool, true, false, cond, List, [], ◌∷◌, ◌++◌, length, take, set, get_or, refl, sym, ap, subst, ◌∙◌, arith, add-one}
-use Rattle.std.specs.Prelude.{◌==◌, ◌%◌, nat_lt, replicate}
+use Rattle.std.specs.Prelude.{◌==◌, ◌%◌, nat_lt}
 use Rattle.std.proofs.Math.ListN.{length-set}
 use Rattle.std.proofs.Math.Nat.{lt-div-mul-add, mod-add-div', pow-suc}
 use Rattle.std.proofs.lemmas.Bool.{cases_lt, cases_eq, eqb-true, eqb-false, eq-eqb, lt-ltb, le-ltb}
 use Rattle.std.proofs.lemmas.Nat.{pow_pos, shr_high}
-use Rattle.std.proofs.lemmas.List.{append_assoc, append-nil, length-replicate, get_or-set_same, get_or-set_other, take_more}
+use Rattle.std.proofs.lemmas.List.{append_assoc, append-nil, get_or-set_same, get_or-set_other, take_more}
 use Rattle.hash_bits.specs.Prefix.{first_bits}
 use lib.Pow.{pow-add}
 use Rattle.plain_map.specs.declared.keys.Pair.{Pair}
 use Rattle.plain_map.specs.declared.rules.Rules.{Rules}
 use Rattle.plain_map.specs.PlainObject.{InRange, class_of}
 use Rattle.bucket_states.specs.Items.{prefix_of}
-use Rattle.core_model.specs.Setup.{classmates}
-use Rattle.core_changes.proofs.Totals.{total, one_if, many, many-count, total-append, total-alike}
-use Rattle.core_changes.proofs.Bits.{hash_in, first_bits-fewer, prefix_of-hash}
+use Rattle.table_model.specs.Setup.{classmates}
+use Rattle.list_laws.proofs.Totals.{total, one_if, many, many-count, total-append, total-alike}
+use Rattle.change_laws.proofs.Bits.{hash_in, prefix_of-hash}
+use Rattle.hash_bits.proofs.FewerBits.{first_bits-fewer}
 use Rattle.dir_states.specs.Cuts.{held, leaf_with, below, below_each}
 use Rattle.dir_states.specs.Openings.{AreCounted, class_count, span}
 use Rattle.dir_states.proofs.NumberLemmas.{fewer_places, one_shifted}
@@ -24,19 +25,6 @@ abbrev one_for : Bool → ℕ
 one_for b = cond b 1 0
 
 module _ (rules : Rules) where
-  -- no pair yet
-  pub none-counted : (counts : List ℕ) (n : ℕ) → n ≡ 2 ^ rules.depth → counts ≡ replicate n 0 →
-      AreCounted rules [] counts
-  none-counted counts n is zeros = record {
-    long = ap length zeros ∙ length-replicate n 0 ∙ is;
-    each = λ class none lt. ap (λ l. get_or l class none) zeros ∙ same_in n class none (omega (arith, is, lt));
-  }
-    where
-      same_in : (n q d : ℕ) → q < n → get_or (replicate n 0) q d ≡ 0
-      same_in zero q d lt = absurd (omega (arith, lt))
-      same_in (suc n) zero d lt = refl
-      same_in (suc n) (suc q) d lt = same_in n q d (omega (arith, lt))
-
   -- one pair more is one more of its class
   class_count-more : (pairs : List Pair) (pair : Pair) (class : ℕ) →
       class_count rules (pairs ++ pair ∷ []) class ≡ class_count rules pairs class + cond

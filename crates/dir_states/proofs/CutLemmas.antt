@@ -1,47 +1,27 @@
 -- The leaves of an opening are those that the numbers of its pairs give.
-use Rattle.std.proofs.Common.{◌≡◌, ℕ, zero, suc, ◌+◌, ◌-◌, ◌^◌, ◌<◌, ◌≤◌, ◌⊎◌, inl, inr, Bool, true, false, cond, List, [], ◌∷◌, ◌++◌, map, Some, None, refl, sym, ap, subst, ◌∙◌, arith}
+use Rattle.std.proofs.Common.{◌≡◌, ℕ, zero, suc, ◌+◌, ◌-◌, ◌^◌, ◌<◌, ◌≤◌, ◌⊎◌, inl, inr, List, [], ◌∷◌, ◌++◌, map, None, refl, sym, ap, subst, ◌∙◌, arith}
 use Rattle.std.specs.Prelude.{fold}
-use Rattle.std.specs.List.{IsDistinct, range_with_len, AllByRecursion as Each}
+use Rattle.std.specs.List.{range_with_len}
 use Rattle.std.proofs.lemmas.Bool.{cases_lt}
 use Rattle.std.proofs.lemmas.List.{append_assoc, append-nil}
 use Rattle.hash_bits.proofs.PrefixLemmas.{first_bits-within}
 use Rattle.plain_map.specs.declared.keys.Pair.{Pair}
 use Rattle.plain_map.specs.declared.rules.Rules.{Rules}
 use Rattle.plain_map.specs.PlainObject.{InRange, class_of}
-use Rattle.bucket_states.specs.Items.{prefix_of, same_key, value_at}
-use Rattle.bucket_states.specs.Parts.{keys_of, HasDistinctKeys}
-use Rattle.core_model.specs.Setup.{HaveRoom}
-use Rattle.core_model.specs.Opening.{empty_leaf, with_pair, opening_leaves}
-use Rattle.core_changes.proofs.Totals.{one_if, many, total-append}
-use Rattle.core_changes.proofs.Bits.{hash_in, hash_in-small, prefix_of-hash}
-use Rattle.core_changes.proofs.Steps.{has_key}
+use Rattle.bucket_states.specs.Items.{prefix_of, value_at}
+use Rattle.bucket_states.specs.Parts.{HasDistinctKeys}
+use Rattle.bucket_states.proofs.KeyTests.{new_key}
+use Rattle.table_model.specs.Setup.{HaveRoom}
+use Rattle.table_model.specs.Opening.{empty_leaf, with_pair, opening_leaves}
+use Rattle.list_laws.proofs.Totals.{one_if, many, total-append}
+use Rattle.change_laws.proofs.Bits.{hash_in, hash_in-small, prefix_of-hash}
+use Rattle.change_laws.proofs.Steps.{has_key}
 use Rattle.dir_states.specs.Cuts.{held, below, below_each, cut_leaves}
 use Rattle.dir_states.proofs.TreeLemmas.{put_after, put-front, put-back, below-none, below-other}
 use Rattle.dir_states.proofs.GrowLemmas.{grows, below-small}
-use Rattle.plain_map.specs.Keys.{held_in, no_pair}
+use Rattle.plain_map.specs.Keys.{no_pair}
 
 -- ---- a key that is new
-
--- where no two keys are one, none of those before is that of a later pair
-pub new-key : (front back : List Pair) (pair : Pair) → HasDistinctKeys (front ++ pair ∷ back) →
-    value_at pair.key front ≡ None
-unfolding IsDistinct
-new-key [] back pair distinct = refl
-new-key (p ∷ front) back pair distinct = go (same_key p.key pair.key) (apart front distinct.0)
-    (new-key front back pair distinct.1)
-  where
-    apart : (rest : List Pair) → Each (λ k. same_key p.key k ≡ false) (keys_of (rest ++ pair ∷ back)) →
-        same_key p.key pair.key ≡ false
-    apart [] each = each.0
-    apart (q ∷ rest) each = apart rest each.1
-
-    go : (b : Bool) → b ≡ false → value_at pair.key front ≡ None →
-        cond b (Some (held_in p)) (value_at pair.key front) ≡ None
-    go true e rest = absurd (no e)
-      where
-        no : true ≡ false → ⊥
-        no e = cc
-    go false e rest = rest
 
 -- ---- one pair more
 
@@ -159,7 +139,7 @@ module _ (rules : Rules) (seats start : ℕ) (range : InRange rules) (within : s
     unfolding prefix_of class_of
     rest-grows front [] is = ap (λ l. cut_leaves rules seats l l start) (sym (is ∙ append-nil front))
     rest-grows front (pair ∷ back) is =
-        let new = new-key front back pair (subst HasDistinctKeys is distinct) in
+        let new = new_key front back pair (subst HasDistinctKeys is distinct) in
         let free = room front back pair is in
         ap (λ l. fold (with_pair rules) l back) (one-grows front pair new free)
         ∙ rest-grows (front ++ pair ∷ []) back (is ∙ sym (append_assoc front (pair ∷ []) back))

@@ -9,16 +9,16 @@ use Rattle.plain_map.specs.declared.keys.Pair.{Pair}
 use Rattle.plain_map.specs.declared.leaves.Leaf.{Leaf}
 use Rattle.plain_map.specs.declared.rules.Rules.{Rules}
 use Rattle.bucket_states.specs.Items.{prefix_of}
-use Rattle.core_model.specs.Directories.{DirectoryState, bucket_of}
-use Rattle.core_model.specs.DirectoryChange.{depth_after, number_at, with_leaves}
-use Rattle.core_model.specs.DirectoryLaws.{takes_hash}
-use Rattle.core_model.specs.Leaves.{NewLeaf}
-use Rattle.core_model.specs.Opening.{opening_leaves, opening_directory}
-use Rattle.core_model.specs.OpeningLaws.{CanOpen, place_of}
-use Rattle.core_changes.proofs.Totals.{one_if, many, many-count, total-append, each-append}
-use Rattle.core_changes.proofs.Bits.{hash_in, hash_in-small, prefix_of-hash}
-use Rattle.core_changes.proofs.Directories.{named-some, IsNamed, now-entry, now-shallow}
-use Rattle.core_changes.proofs.Openings.{is-opening}
+use Rattle.table_model.specs.Directories.{DirectoryState, bucket_of}
+use Rattle.table_model.specs.DirectoryChange.{depth_after, number_at, with_leaves}
+use Rattle.table_model.specs.DirectoryLaws.{takes_hash}
+use Rattle.table_model.specs.Leaves.{NewLeaf}
+use Rattle.table_model.specs.Opening.{opening_leaves, opening_directory}
+use Rattle.table_model.specs.OpeningLaws.{CanOpen, place_of}
+use Rattle.list_laws.proofs.Totals.{one_if, many, many-count, total-append, each-append}
+use Rattle.change_laws.proofs.Bits.{hash_in, hash_in-small, prefix_of-hash}
+use Rattle.change_laws.proofs.Directories.{named-some, IsNamed, now-entry, now-shallow}
+use Rattle.change_laws.proofs.Openings.{is-opening}
 use Rattle.dir_states.specs.declared.values.NewLeaf.{NewLeaf as Made}
 use Rattle.dir_states.specs.Cuts.{held, leaf_with, below, below_each, cut_leaves}
 use Rattle.dir_states.specs.Views.{as_leaf}
@@ -26,6 +26,7 @@ use Rattle.dir_states.proofs.FindLemmas.{cut_at}
 use Rattle.dir_states.proofs.NumberLemmas.{depth_after-least}
 use Rattle.dir_states.proofs.TreeLemmas.{held-length}
 use Rattle.dir_states.proofs.CutLemmas.{opening-cuts}
+use Rattle.std.proofs.lemmas.Bool.{false≢true}
 
 -- ---- what rests on the places of the leaves alone
 
@@ -130,10 +131,7 @@ module _ (test : NewLeaf → Bool) (g : NewLeaf → NewLeaf)
     where
       only : (b : Bool) → b ≡ true → cond b 1 0 + many test (map as_leaf made) ≤ 1 → many test (map as_leaf made) ≡ 0
       only true t n = omega (arith, n)
-      only false t n = absurd (no t)
-        where
-          no : false ≡ true → ⊥
-          no t = cc
+      only false t n = absurd (false≢true t)
   one-changes (x ∷ made) (suc i) old new lt is e one by =
       let within : i < length made = omega (arith, lt) in
       let there : 1 ≤ many test (map as_leaf made) =

@@ -4,7 +4,7 @@ use Rattle.std.proofs.lemmas.Bool.{cases_lt}
 use Rattle.std.proofs.lemmas.List.{length-take-le, take-append-drop, length-append, append_assoc}
 use Rattle.plain_map.specs.declared.keys.Pair.{Pair}
 use Rattle.plain_map.specs.declared.rules.Rules.{Rules}
-use Rattle.core_model.specs.Setup.{HaveRoom, IsFirstWithoutRoom, classmates}
+use Rattle.table_model.specs.Setup.{HaveRoom, IsFirstWithoutRoom, classmates}
 
 -- each of the first so many pairs finds room
 abbrev pub FindRoom : Rules → List Pair → (many : ℕ) → Type 0

@@ -12,11 +12,11 @@ use Rattle.bucket_states.specs.declared.ops.Op.{Op}
 use Rattle.word_rows.specs.BucketWords.{IsBucket}
 use Rattle.bucket_states.specs.States.{state_of, row_of_state}
 use Rattle.bucket_states.specs.Halves.{half}
-use Rattle.core_model.specs.Leaves.{NewLeaf, is_in, halves, at_leaf, split, apply, must_split, split_for, add_leaf, first_class}
+use Rattle.table_model.specs.Leaves.{NewLeaf, is_in, halves, at_leaf, split, apply, must_split, split_for, add_leaf, first_class}
 use Rattle.dir_states.specs.declared.values.NewLeaf.{NewLeaf as Leaf}
 use Rattle.dir_states.specs.Views.{as_leaf}
 use Rattle.dir_states.specs.Fit.{CanSplit, IsFirst, IsFit, AreFit, MakesLeaves}
-use Rattle.dir_states.proofs.LeafLemmas.{answer_leaf, has, later, here, not_here}
+use Rattle.dir_states.proofs.LeafLemmas.{has, later, here, not_here}
 
 module _ (depth seats : ℕ) where
   -- a part that is fit is that of a leaf that is fit, and can be split
@@ -134,21 +134,6 @@ module _ (depth seats : ℕ) where
       let whole = IsFit-half rules 0 (as_leaf (get_or leaves at d)) parts.0 in
       record { depth = whole.0; prefix = whole.1.prefix; applied = whole.1.applied; replies = whole.1.replies }
 
-  -- the leaf in which an op is answered
-  pub IsFit-answered : (rules : Rules) (seat : ℕ) (op : Op) (leaves : List Leaf) (at : ℕ) (leaf : Leaf)
-      → IsFirst (has rules (key_in op.call) (answer_leaf rules seat op)) leaves at → leaf ≡ get_or leaves at leaf
-      → AreFit depth seats (apply rules seat op (map as_leaf leaves)) → IsFit depth seats (as_leaf leaf)
-  unfolding apply
-  IsFit-answered rules seat op leaves at leaf first is fit =
-      let now : AreFit depth seats (answer_leaf rules seat op (as_leaf (get_or leaves at leaf))) =
-      AreFit-in_place rules (key_in op.call) (answer_leaf rules seat op) leaves at first fit leaf in
-      subst (λ (l : Leaf). IsFit depth seats (as_leaf l)) (sym is) (record {
-        depth = now.0.depth;
-        prefix = now.0.prefix;
-        applied = sym (length-set (as_leaf (get_or leaves at leaf)).bucket.applied seat op.number) ∙ now.0.applied;
-        replies = sym (length-set (as_leaf (get_or leaves at leaf)).bucket.replies seat _) ∙ now.0.replies;
-      })
-
   -- what a step says of what it made
   pub none_made : (due : List NewLeaf) (leaves : List Leaf) (done : Bool) → MakesLeaves depth seats due leaves done →
       done ≡ false → ¬ AreFit depth seats due
@@ -158,10 +143,6 @@ module _ (depth seats : ℕ) where
   pub some_made : (due : List NewLeaf) (leaves : List Leaf) (done : Bool) → MakesLeaves depth seats due leaves done →
       done ≡ true → map as_leaf leaves ≡ due
   some_made due leaves done makes is = subst (MakesLeaves depth seats due leaves) is makes
-
--- a test that failed did not pass
-pub not_true : false ≡ true → ⊥
-not_true is = cc
 
 -- leaves that can be spelled are fit
 pub AreFit-spelled : (settings : Settings) (base : NewLeaf → Option ℕ) (leaves : List NewLeaf)

@@ -13,18 +13,16 @@ use Rattle.plain_map.specs.Keys.{Session}
 use Rattle.plain_map.specs.PlainObject.{InRange}
 use Rattle.bucket_states.specs.Halves.{half}
 use Rattle.bucket_states.specs.Items.{prefix_of, value_at, appended, overflows, has_place}
-use Rattle.core_model.specs.Leaves.{halves, split, must_split, split_for}
-use Rattle.core_model.specs.Opening.{insert_of, put_in}
-use Rattle.core_changes.proofs.Totals.{many, many-count}
-use Rattle.core_changes.proofs.Bits.{hash_in, prefix_of-hash}
-use Rattle.core_changes.proofs.Parts.{kept-value}
+use Rattle.table_model.specs.Leaves.{halves, split, must_split, split_for}
+use Rattle.table_model.specs.Opening.{insert_of, put_in}
+use Rattle.list_laws.proofs.Totals.{many, many-count}
+use Rattle.change_laws.proofs.Bits.{hash_in, prefix_of-hash}
+use Rattle.change_laws.proofs.Parts.{kept-value}
 use Rattle.dir_states.specs.Cuts.{held, leaf_with, below}
 use Rattle.dir_states.proofs.ChangeLemmas.{split_for-done}
 use Rattle.dir_states.proofs.TreeLemmas.{put_after, put-front, put-back, held-more, held-length, below-none, below-other}
-
--- no test gives both answers
-not_both : (b : Bool) → b ≡ true → b ≡ false → ⊥
-not_both b t f = cc
+use Rattle.list_laws.proofs.Truths.{not_both}
+use Rattle.std.proofs.Math.Bool.{or-false}
 
 module _ (rules : Rules) (seats : ℕ) (range : InRange rules) (front : List Pair) (pair : Pair)
     (new : value_at pair.key front ≡ None)
@@ -113,11 +111,7 @@ module _ (rules : Rules) (seats : ℕ) (range : InRange rules) (front : List Pai
         ∙ ap (λ o. (not (is_some o) && (not (has_place rules (of depth prefix)) && nat_lt depth
         rules.depth)) || false) (new-in depth prefix)
         ∙ ap (λ x. (not x && nat_lt depth rules.depth) || false) e ∙ ap (λ x. (not b && x) || false) f
-        ∙ alone (not b && c)
-      where
-        alone : (x : Bool) → (x || false) ≡ x
-        alone true = refl
-        alone false = refl
+        ∙ or-false (not b && c)
 
   -- ---- the two parts of a full leaf
 

@@ -8,10 +8,11 @@ use Rattle.bucket_states.specs.declared.ops.Op.{Op}
 use Rattle.bucket_states.specs.Change.{answered}
 use Rattle.bucket_states.specs.Halves.{half}
 use Rattle.plain_map.specs.Calls.{key_in}
-use Rattle.core_model.specs.Leaves.{NewLeaf, is_in, at_leaf, add_leaf, apply, halves}
+use Rattle.table_model.specs.Leaves.{NewLeaf, is_in, at_leaf, add_leaf, apply, halves}
 use Rattle.dir_states.specs.declared.values.NewLeaf.{NewLeaf as Leaf}
 use Rattle.dir_states.specs.Views.{as_leaf}
 use Rattle.dir_states.specs.Fit.{IsFirst, NonePasses, is_before}
+use Rattle.std.proofs.lemmas.List.{get_or_default}
 
 module _ (rules : Rules) (key : Key) (f : NewLeaf → List NewLeaf) where
   -- the leaf has the key
@@ -97,12 +98,6 @@ module _ (rules : Rules) (leaf : Leaf) where
       (add_leaf-at leaves at (omega arith) (λ k d below. before (suc k) d (omega arith))
       (λ inside d. here (omega arith) d))
 
--- what stands at a place does not rest on what is taken past the end
-pub get_or-same : {X : Type 0} (xs : List X) (at : ℕ) (d e : X) → at < length xs → get_or xs at d ≡ get_or xs at e
-get_or-same [] at d e inside = absurd (omega arith)
-get_or-same (x ∷ xs) zero d e inside = refl
-get_or-same (x ∷ xs) (suc at) d e inside = get_or-same xs at d e (omega arith)
-
 -- the two parts of the leaf at a place
 pub halves-at : (rules : Rules) (leaves : List Leaf) (at : ℕ) (leaf lower upper : Leaf) → at < length leaves →
     leaf ≡ get_or leaves at leaf
@@ -110,7 +105,7 @@ pub halves-at : (rules : Rules) (leaves : List Leaf) (at : ℕ) (leaf lower uppe
     → as_leaf upper ≡ record { from = leaf.from; bucket = half rules 1 (state_of leaf.bucket) }
     → (d : Leaf) → halves rules (as_leaf (get_or leaves at d)) ≡ as_leaf lower ∷ as_leaf upper ∷ []
 halves-at rules leaves at leaf lower upper inside is low high d =
-    ap (λ (l : Leaf). halves rules (as_leaf l)) (get_or-same leaves at d leaf inside ∙ sym is)
+    ap (λ (l : Leaf). halves rules (as_leaf l)) (get_or_default leaves at d leaf inside ∙ sym is)
     ∙ ap (λ (l : NewLeaf). l ∷ record { from = leaf.from; bucket = half rules 1 (state_of leaf.bucket) } ∷ []) (sym low)
     ∙ ap (λ (l : NewLeaf). as_leaf lower ∷ l ∷ []) (sym high)
 
@@ -134,5 +129,5 @@ module _ (rules : Rules) (seat : ℕ) (op : Op) (leaves : List Leaf) where
   apply-one at old new first is made =
       sym (at_leaf-one rules (key_in op.call) (answer_leaf rules seat op) leaves at new first
       (λ d. ap (λ (l : Leaf). answer_leaf rules seat op (as_leaf l))
-      (get_or-same leaves at d old first.in_range ∙ sym is)
+      (get_or_default leaves at d old first.in_range ∙ sym is)
       ∙ ap (λ (l : NewLeaf). l ∷ []) (sym made)))

@@ -10,4 +10,3 @@ pub mod CutLemmas
 pub mod FillLemmas
 pub mod FindLemmas
 pub mod CountLemmas
-pub mod TestLemmas

@@ -1,5 +1,5 @@
 -- The entries of a directory, one after the other, and how deep it becomes.
-use Rattle.std.proofs.Common.{◌≡◌, ℕ, zero, suc, ◌+◌, ◌-◌, ◌*◌, ◌/◌, ◌%◌, ◌^◌, ◌<◌, ◌≤◌, ◌⊎◌, inl, inr, Bool, true, false, cond, List, [], ◌∷◌, ◌++◌, length, map, drop, drop-cons, get_or, All, refl, sym, ap, subst, ◌∙◌, arith, add-one}
+use Rattle.std.proofs.Common.{◌≡◌, ℕ, zero, suc, ◌+◌, ◌-◌, ◌*◌, ◌/◌, ◌%◌, ◌^◌, ◌<◌, ◌≤◌, ◌⊎◌, inl, inr, Bool, true, false, List, [], ◌∷◌, ◌++◌, length, map, get_or, All, refl, ap, subst, ◌∙◌, arith, add-one}
 use Rattle.std.specs.Prelude.{◌==◌, fold, max}
 use Rattle.std.specs.List.{range_with_len}
 use Rattle.std.proofs.Math.Nat.{lt-div-mul-add, mod-add-div', pow-le-pow_right}
@@ -9,23 +9,18 @@ use Rattle.std.proofs.lemmas.List.{map-append}
 use Rattle.std.proofs.lemmas.List.FromFn.{fill_by_all, get_or-map-range_with_len, length-map-range_with_len}
 use lib.Pow.{pow-add}
 use Rattle.word_rows.specs.Blocks.{first_values}
-use Rattle.core_model.specs.Directories.{DirectoryState}
-use Rattle.core_model.specs.DirectoryChange.{depth_after, number_at}
-use Rattle.core_model.specs.Leaves.{NewLeaf}
+use Rattle.table_model.specs.Directories.{DirectoryState}
+use Rattle.table_model.specs.DirectoryChange.{depth_after}
+use Rattle.table_model.specs.Leaves.{NewLeaf}
 use Rattle.dir_states.specs.declared.values.NewLeaf.{NewLeaf as Made}
 use Rattle.dir_states.specs.Views.{as_leaf}
-
--- a range that is longer by one
-range-more : (from n : ℕ) → range_with_len from (suc n) ≡ range_with_len from n ++ (from + n) ∷ []
-range-more from zero = ap (λ k. k ∷ []) (omega arith)
-range-more from (suc n) = ap (λ rest. from ∷ rest) (range-more (from + 1) n
-    ∙ ap (λ k. range_with_len (from + 1) n ++ k ∷ []) (omega arith))
+use Rattle.list_laws.proofs.Numbers.{range_more}
 
 -- one value more
 pub first_values-more : {A : Type 0} (f : ℕ → A) (n : ℕ) → first_values f (n + 1) ≡ first_values f n ++ f n ∷ []
 first_values-more f n =
     ap (λ k. first_values f k) (add-one n)
-    ∙ ap (map f) (range-more 0 n)
+    ∙ ap (map f) (range_more 0 n)
     ∙ map-append f (range_with_len 0 n) ((0 + n) ∷ [])
     ∙ ap (λ k. first_values f n ++ f k ∷ []) (omega arith)
 
@@ -59,24 +54,6 @@ one_shifted d few =
     omega (arith, small, number)
 
 -- ---- from the last leaf to the first
-
--- the number at a place, with one leaf more in front
-pub number-next : (depth place fresh was left : ℕ) (leaves : List Made) (leaf : Made) → 0 < left →
-    left ≤ length leaves →
-    leaf ≡ get_or leaves (left - 1) leaf →
-    number_at depth place (fresh + (left - 1)) was (map as_leaf (drop (left - 1) leaves))
-    ≡ cond (place / 2 ^ (depth - leaf.bucket.depth) == leaf.bucket.prefix) (fresh + (left - 1))
-    (number_at depth place (fresh + left) was (map as_leaf (drop left leaves)))
-number-next depth place fresh was left leaves leaf some within is =
-    let inside : left - 1 < length leaves = omega (arith, some, within) in
-    let next : suc (left - 1) ≡ left = omega (arith, some) in
-    let there : drop (left - 1) leaves ≡ leaf ∷ drop left leaves =
-    drop-cons leaves (left - 1) leaf inside ∙ ap (λ l. l ∷ drop (suc (left - 1)) leaves) (sym is)
-    ∙ ap (λ k. leaf ∷ drop k leaves) next in
-    let number : suc (fresh + (left - 1)) ≡ fresh + left = omega (arith, some) in
-    ap (λ (l : List Made). number_at depth place (fresh + (left - 1)) was (map as_leaf l)) there
-    ∙ ap (λ k. cond (place / 2 ^ (depth - leaf.bucket.depth) == leaf.bucket.prefix) (fresh + (left - 1))
-    (number_at depth place k was (map as_leaf (drop left leaves)))) number
 
 -- a list of so many values, each of which is that of its place
 pub values-at : (f : ℕ → ℕ) (xs : List ℕ) (n : ℕ) → length xs ≡ n → ((k none : ℕ) → k < n → get_or xs k none ≡ f k) →

@@ -11,12 +11,13 @@ use Rattle.plain_map.specs.declared.keys.Pair.{Pair}
 use Rattle.plain_map.specs.declared.rules.Rules.{Rules}
 use Rattle.plain_map.specs.declared.calls.Call.{Call}
 use Rattle.bucket_states.specs.Items.{prefix_of, items_with, overflows}
-use Rattle.core_model.specs.Leaves.{NewLeaf, is_in, at_leaf, halves, split, must_split, split_for}
-use Rattle.core_model.specs.Opening.{insert_of, put_in}
-use Rattle.core_changes.proofs.Totals.{one_if, many, many-count, total-append}
-use Rattle.core_changes.proofs.Bits.{hash_in, prefix_of-hash}
-use Rattle.core_changes.proofs.Steps.{has_key, any-append}
+use Rattle.table_model.specs.Leaves.{NewLeaf, is_in, at_leaf, halves, split, must_split, split_for}
+use Rattle.table_model.specs.Opening.{insert_of, put_in}
+use Rattle.list_laws.proofs.Totals.{one_if, many, many-count, total-append}
+use Rattle.change_laws.proofs.Bits.{hash_in, prefix_of-hash}
+use Rattle.change_laws.proofs.Steps.{has_key, any-append}
 use Rattle.dir_states.specs.Cuts.{held, leaf_with, below}
+use Rattle.std.proofs.Math.Bool.{or-false}
 
 -- ---- the leaf of a key among others
 
@@ -88,11 +89,7 @@ module _ (rules : Rules) (pair : Pair) where
       must_split rules call (xs ++ ys) ≡ must_split rules call xs
   must-back xs ys none =
       any-append (λ leaf. is_in rules key leaf.bucket && overflows rules leaf.bucket.depth leaf.bucket.items call) xs ys
-      ∙ ap (λ b. must_split rules call xs || b) (must-none ys none) ∙ alone (must_split rules call xs)
-    where
-      alone : (b : Bool) → (b || false) ≡ b
-      alone true = refl
-      alone false = refl
+      ∙ ap (λ b. must_split rules call xs || b) (must-none ys none) ∙ or-false (must_split rules call xs)
 
   -- the splits for the pair, and its place
   abbrev pub put_after : (most : ℕ) → List NewLeaf → List NewLeaf

@@ -1,8 +1,8 @@
 -- What a change shows, and its room.
 use Rattle.std.specs.Prelude.{◌≡◌, ℕ, ◌≤◌, List, All, map, vec_len, vec_capacity, ◌+◌}
 use Rattle.bucket_states.specs.States.{HasRoom}
-use Rattle.core_model.specs.Directories.{DirectoryState}
-use Rattle.core_model.specs.Leaves as M
+use Rattle.table_model.specs.Directories.{DirectoryState}
+use Rattle.table_model.specs.Leaves as M
 use Rattle.dir_states.specs.declared.changes.Change.{Change}
 use Rattle.dir_states.specs.Rooms.{HasPlaces, most_leaves}
 use Rattle.dir_states.specs.Views.{as_directory, as_leaf}

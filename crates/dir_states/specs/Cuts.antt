@@ -4,7 +4,7 @@ use Rattle.plain_map.specs.declared.keys.Pair.{Pair}
 use Rattle.plain_map.specs.declared.rules.Rules.{Rules}
 use Rattle.bucket_states.specs.Items.{prefix_of}
 use Rattle.bucket_states.specs.States.{empty_state}
-use Rattle.core_model.specs.Leaves.{NewLeaf}
+use Rattle.table_model.specs.Leaves.{NewLeaf}
 
 -- how many of these pairs have the prefix
 abbrev pub held : Rules → List Pair → (depth prefix : ℕ) → ℕ

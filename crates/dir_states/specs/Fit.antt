@@ -3,8 +3,8 @@ use Rattle.std.specs.Prelude.{◌≡◌, ℕ, ◌+◌, ◌^◌, set, ◌<◌, �
 use Rattle.std.specs.List.{insert}
 use Rattle.plain_map.specs.declared.rules.Rules.{Rules}
 use Rattle.bucket_states.specs.States.{BucketState, state_of}
-use Rattle.core_model.specs.Leaves as M
-use Rattle.core_model.specs.Leaves.{first_class}
+use Rattle.table_model.specs.Leaves as M
+use Rattle.table_model.specs.Leaves.{first_class}
 use Rattle.dir_states.specs.declared.values.NewLeaf.{NewLeaf}
 use Rattle.dir_states.specs.Views.{as_leaf}
 

@@ -3,8 +3,8 @@ use Rattle.std.specs.Prelude.{◌≡◌, ℕ, zero, suc, ◌+◌, ◌^◌, ◌<�
 use Rattle.plain_map.specs.declared.keys.Pair.{Pair}
 use Rattle.plain_map.specs.declared.rules.Rules.{Rules}
 use Rattle.plain_map.specs.PlainObject.{class_of}
-use Rattle.core_model.specs.Directories.{DirectoryState}
-use Rattle.core_model.specs.Leaves as M
+use Rattle.table_model.specs.Directories.{DirectoryState}
+use Rattle.table_model.specs.Leaves as M
 use Rattle.dir_states.specs.declared.leaves.Leaves.{Leaves}
 use Rattle.dir_states.specs.declared.openings.Opening.{Opening}
 use Rattle.dir_states.specs.declared.values.NewLeaf.{NewLeaf}

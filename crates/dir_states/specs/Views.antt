@@ -2,9 +2,9 @@
 use Rattle.std.specs.Prelude.{ℕ, [], ◌∷◌, Option}
 use Rattle.plain_map.specs.Rows.{DirectoryContent}
 use Rattle.bucket_states.specs.States.{state_of}
-use Rattle.core_model.specs.Directories.{DirectoryState}
-use Rattle.core_model.specs.DirectoryChange.{LoadedBucket}
-use Rattle.core_model.specs.Leaves as M
+use Rattle.table_model.specs.Directories.{DirectoryState}
+use Rattle.table_model.specs.DirectoryChange.{LoadedBucket}
+use Rattle.table_model.specs.Leaves as M
 use Rattle.dir_states.specs.declared.directory.DirState.{DirState}
 use Rattle.dir_states.specs.declared.values.Loaded.{Loaded}
 use Rattle.dir_states.specs.declared.values.NewLeaf.{NewLeaf}

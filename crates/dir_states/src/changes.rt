@@ -5,7 +5,7 @@
 ghost use Rattle.std.specs.Prelude.{◌≡◌, ◌^◌, ◌<◌, ◌≤◌, [], All, IfOk, length, map};
 ghost use Rattle.std.specs.Bool.{OnFalse, OnTrue};
 ghost use Rattle.plain_map.specs.PlainObject.{InRange};
-ghost use Rattle.core_model.specs.DirectoryChange.{change_leaves, with_leaves};
+ghost use Rattle.table_model.specs.DirectoryChange.{change_leaves, with_leaves};
 ghost use Rattle.dir_states.specs.Fit.{AreFit, MakesLeaves};
 ghost use Rattle.dir_states.specs.Changes.{ChangeHasRoom, directory_of, items_of, leaves_of, seats_of};
 ghost use Rattle.dir_states.specs.Rooms.{AreKept, HasItems, HasRooms, IsTable, most_leaves};
@@ -155,7 +155,7 @@ fn clear(table: &Table, leaves: &mut Leaves)
 }
 
 // The leaves after the ops of all seats, one after the other. It fails only where they are not fit.
-#[tactic(auto, unfolding(core_model::specs::DirectoryChange::change_leaves))]
+#[tactic(auto, unfolding(table_model::specs::DirectoryChange::change_leaves))]
 fn walk(
     table: &Table,
     directory: &DirState,

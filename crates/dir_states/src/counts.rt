@@ -2,7 +2,7 @@
 
 ghost use Rattle.std.specs.Prelude.{◌≡◌, ◌-◌, ◌^◌, ◌<◌, ◌≤◌, nat_lt, [], MatchOption, length, vec_capacity};
 ghost use Rattle.plain_map.specs.PlainObject.{InRange};
-ghost use Rattle.core_model.specs.Setup.{HaveRoom, IsFirstWithoutRoom};
+ghost use Rattle.table_model.specs.Setup.{HaveRoom, IsFirstWithoutRoom};
 ghost use Rattle.dir_states.specs.Openings.{AreCounted, span};
 
 use crate::leaves::Table;

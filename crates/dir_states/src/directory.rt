@@ -2,7 +2,7 @@
 
 ghost use Rattle.std.specs.Prelude.{◌≡◌, ◌∷◌, ◌≤◌, [], IfOk, length, vec_capacity, vec_len};
 ghost use Rattle.plain_map.specs.Rows.{directory_content, HasDirectoryRoom};
-ghost use Rattle.core_model.specs.Directories.{bucket_of, directory_in_row};
+ghost use Rattle.table_model.specs.Directories.{bucket_of, directory_in_row};
 ghost use Rattle.dir_states.specs.Views.{as_directory, empty_directory, row_of_directory};
 ghost use Rattle.dir_states.specs.Rooms.{HasPlaces};
 

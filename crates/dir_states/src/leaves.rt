@@ -4,7 +4,7 @@ ghost use Rattle.std.specs.Prelude.{◌≡◌, ℕ, ◌+◌, ◌-◌, ◌*◌, �
 ghost use Rattle.hash_bits.specs.Prefix.{first_bits};
 ghost use Rattle.plain_map.specs.PlainObject.{InRange};
 ghost use Rattle.bucket_states.specs.States.{state_of};
-ghost use Rattle.core_model.specs.Leaves.{add_leaf, first_class, is_in, must_split, split, split_for};
+ghost use Rattle.table_model.specs.Leaves.{add_leaf, first_class, is_in, must_split, split, split_for};
 ghost use Rattle.dir_states.specs.Fit.{AreHalves, IsFirst, MakesLeaves, NonePasses, is_before};
 ghost use Rattle.dir_states.specs.Rooms.{AreKept, IsMade, IsTable};
 ghost use Rattle.dir_states.specs.Views.{as_leaf};

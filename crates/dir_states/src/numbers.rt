@@ -2,7 +2,7 @@
 
 ghost use Rattle.std.specs.Prelude.{◌≡◌, ℕ, ◌-◌, ◌/◌, ◌^◌, ◌<◌, ◌≤◌, ◌==◌, if◌then◌else◌, All, length, map, slice_index, slice_index_or, vec_capacity};
 ghost use Rattle.word_rows.specs.Blocks.{first_values};
-ghost use Rattle.core_model.specs.DirectoryChange.{depth_after, with_leaves};
+ghost use Rattle.table_model.specs.DirectoryChange.{depth_after, with_leaves};
 ghost use Rattle.dir_states.specs.Rooms.{HasPlaces};
 ghost use Rattle.dir_states.specs.Views.{as_directory, as_leaf};
 
@@ -69,7 +69,7 @@ fn name(depth: u32, leaf: &NewLeaf, number: u64, entries: &mut [u64])
 /// Becomes the directory with these leaves, which are numbered from `fresh` on.
 ///
 /// They are named from the last to the first, so that where several have a place the first one is named.
-#[tactic(auto, unfolding(core_model::specs::DirectoryChange::with_leaves))]
+#[tactic(auto, unfolding(table_model::specs::DirectoryChange::with_leaves))]
 pub(crate) fn with_leaves(
     state: &mut DirState,
     fresh: u64,

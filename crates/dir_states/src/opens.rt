@@ -7,9 +7,9 @@ ghost use Rattle.std.specs.Prelude.{◌≡◌, ◌^◌, ◌≤◌, [], IfErr, re
 ghost use Rattle.std.specs.Result.{OnOk};
 ghost use Rattle.plain_map.specs.PlainObject.{InRange};
 ghost use Rattle.bucket_states.specs.Parts.{HasDistinctKeys};
-ghost use Rattle.core_model.specs.Opening.{opening_directory, opening_leaves};
-ghost use Rattle.core_model.specs.OpeningLaws.{CanOpen};
-ghost use Rattle.core_model.specs.Setup.{HaveRoom, IsFirstWithoutRoom};
+ghost use Rattle.table_model.specs.Opening.{opening_directory, opening_leaves};
+ghost use Rattle.table_model.specs.OpeningLaws.{CanOpen};
+ghost use Rattle.table_model.specs.Setup.{HaveRoom, IsFirstWithoutRoom};
 ghost use Rattle.dir_states.specs.Cuts.{cut_leaves};
 ghost use Rattle.dir_states.specs.Openings.{OpeningHasRoom, first_directory, first_leaves, opening_seats};
 ghost use Rattle.dir_states.specs.Rooms.{HasPlaces};

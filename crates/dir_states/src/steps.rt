@@ -4,8 +4,8 @@ ghost use Rattle.std.specs.Prelude.{◌≡◌, ◌+◌, ◌<◌, ◌≤◌, ◌�
 ghost use Rattle.std.specs.List.{list_any};
 ghost use Rattle.bucket_states.specs.Change.{answered};
 ghost use Rattle.bucket_states.specs.States.{state_of};
-ghost use Rattle.core_model.specs.Leaves.{apply};
-ghost use Rattle.core_model.specs.DirectoryChange.{
+ghost use Rattle.table_model.specs.Leaves.{apply};
+ghost use Rattle.table_model.specs.DirectoryChange.{
   after_op_in,
   comes_from,
   is_frozen_without,

@@ -269,7 +269,7 @@ fn a_bucket_of_no_table_is_not_changed(rt: HostRuntime) -> Result<(), Fail> {
 }
 
 // Three pairs, whose keys have to differ.
-#[tactic(auto, using(crate::proofs::TestLemmas::three_distinct))]
+#[tactic(auto, using(bucket_states::proofs::DistinctKeys::three_distinct))]
 fn three(first: Pair, second: Pair, third: Pair) -> Option<[Pair; 3]>
     ensures { IfSome result HasDistinctKeys }
 {

@@ -1,8 +1,8 @@
 //! What a change of a directory reads and makes: buckets that were loaded, and leaves.
 
 ghost use Rattle.std.specs.Prelude.{◌≡◌, ◌<◌, MatchOption, None, Some, length, map, slice_index_or};
-ghost use Rattle.core_model.specs.DirectoryChange.{loaded_of};
-ghost use Rattle.core_model.specs.Stores.{base_of_leaf};
+ghost use Rattle.table_model.specs.DirectoryChange.{loaded_of};
+ghost use Rattle.table_model.specs.Stores.{base_of_leaf};
 ghost use Rattle.dir_states.specs.Views.{as_leaf, as_loaded};
 
 use bucket_states::Bucket;

@@ -1,6 +1,6 @@
 -- What is read as a key is a key's text, and each key's text is read so.
 use Rattle.std.proofs.Common.{◌≡◌, ◌⊎◌, inl, inr, ℕ, ◌+◌, ◌*◌, ◌^◌, ◌<◌, ◌≤◌, ◌==◌, ◌&&◌, ◌||◌, Bool, true, false, not, nat_lt, nat_le, codes, List, ◌∷◌, ◌++◌, Option, Some, None, refl, sym, ap, ◌∙◌, append_assoc, subst, arith}
-use Rattle.std.proofs.lemmas.Bool.{true≢false, eq-eqb}
+use Rattle.std.proofs.lemmas.Bool.{true≢false, eq-eqb, and_parts}
 use Rattle.std.proofs.lemmas.Option.{some_pair_parts, cond_some}
 use Rattle.plain_map.specs.declared.keys.Key.{Key}
 use Rattle.line_fields.specs.Reading.{HasNoDigit, text_at}
@@ -263,11 +263,6 @@ pub record IsFlowAt (bytes : List ℕ) (key : Key) (rest : List ℕ) : Type 0 wh
   pub text : bytes ≡ flow_text key ++ rest
   pub flow : IsFlow key
 
--- both tests hold
-both_true : (a b : Bool) → (a && b) ≡ true → (a ≡ true) × (b ≡ true)
-both_true true b is = (refl, is)
-both_true false b is = absurd (true≢false (sym is))
-
 -- two ends that were read, of one version
 takes_ends : (bytes r1 r2 r3 rest : List ℕ) (low high : End) (p : ℕ) → IsEndAt bytes low r1 → r1 ≡ 45 ∷ r2 →
     IsEndAt r2 high r3 → IsProtocolAt r3 p rest → in_order low high ≡ true →
@@ -280,7 +275,7 @@ takes_ends bytes r1 r2 r3 rest low high p one dash other name ordered =
     ap (λ (e : End). in_order e (end_of other.ipv6 other.upper other.lower other.port)) (sym low_is)
     ∙ ap (λ (e : End). in_order low e) (sym other.end_is)
     ∙ ordered in
-    let both = both_true _ _ tested in
+    let both = and_parts _ _ tested in
     let same : other.ipv6 ≡ v = sym (version_is v other.ipv6 both.0) in
     let high_is : high ≡ end_of v other.upper other.lower other.port =
     other.end_is ∙ ap (λ (b : Bool). end_of b other.upper other.lower other.port) same in

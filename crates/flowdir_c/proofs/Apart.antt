@@ -14,6 +14,7 @@ use Rattle.plain_map.proofs.KeyLemmas.{keys_total, exact_keys}
 use Rattle.bucket_states.specs.Items.{same_key}
 use Rattle.bucket_states.specs.Parts.{HasDistinctKeys, keys_of}
 use Rattle.bucket_states.proofs.KeyTests.{Decides-same_key}
+use Rattle.order_laws.proofs.KeyOrder.{sorted_tail}
 
 -- sorted by their keys
 abbrev pub IsSorted : List Pair → Type 0
@@ -60,13 +61,6 @@ all_apart key [] d each = tt
 all_apart key (p ∷ ps) d each =
     (each 0 (omega arith), all_apart key ps d (λ j h. each (suc j) (omega (arith, h))))
 
--- the others are sorted, and apart
-sorted_rest : (p : Pair) (ps : List Pair) → IsSorted (p ∷ ps) → IsSorted ps
-sorted_rest p ps sorted k d low high =
-    let next : suc k + 1 ≡ suc (k + 1) = omega arith in
-    subst (λ n. is_lt (key_cmp (get_or (p ∷ ps) n d).key (get_or ps k d).key) ≡ false) next
-    (sorted (suc k) d (omega arith) (omega arith))
-
 apart_rest : (p : Pair) (ps : List Pair) → AreApart (p ∷ ps) → AreApart ps
 apart_rest p ps apart k d h =
     let next : suc k + 1 ≡ suc (k + 1) = omega arith in
@@ -79,7 +73,7 @@ unfolding IsDistinct
 distinct_in_order [] sorted apart = tt
 distinct_in_order (p ∷ ps) sorted apart = (
   all_apart p.key ps p (first_apart p ps sorted apart),
-  distinct_in_order ps (sorted_rest p ps sorted) (apart_rest p ps apart),
+  distinct_in_order ps (sorted_tail p ps sorted) (apart_rest p ps apart),
 )
 
 -- and pairs of distinct keys are apart

@@ -1,13 +1,9 @@
 -- Pairs in another order fit alike, and lack room alike.
-use Rattle.std.proofs.Common.{ℕ, Bool, cond, List, [], ◌∷◌, ap, refl, subst, arith, eq-eqb}
+use Rattle.std.proofs.Common.{ℕ, Bool, cond, List, [], ◌∷◌, ap, refl, arith, eq-eqb}
 use Rattle.std.specs.Prelude.{All, IsPermutation, ◌==◌, count_by}
 use Rattle.std.proofs.lemmas.List.Sums.{sum_by-append}
 use Rattle.std.proofs.lemmas.List.Sorted.{All-permutation, IsPermutation-map, IsPermutation-sym, sum_by-IsPermutation}
 use Rattle.std.proofs.lemmas.Map.Keys.{IsDistinct-IsPermutation}
-use Rattle.step_counts.specs.declared.settings.Settings.{Settings}
-use Rattle.step_counts.specs.declared.settings.TheConstants.{MOST_DEPTH, MOST_ITEMS, MOST_SEATS}
-use Rattle.step_counts.specs.Made.{IsMadeOf}
-use Rattle.step_counts.specs.Ranges.{AreInRange, IsWithin}
 use Rattle.plain_map.specs.declared.keys.Pair.{Pair}
 use Rattle.plain_map.specs.declared.rules.Rules.{Rules}
 use Rattle.plain_map.specs.PlainObject.{class_of}
@@ -15,7 +11,7 @@ use Rattle.plain_map.specs.Updates.{IsSmallPair}
 use Rattle.bucket_states.specs.Items.{same_key}
 use Rattle.bucket_states.specs.Parts.{HasDistinctKeys, keys_of}
 use Rattle.bucket_states.proofs.KeyTests.{same_key-equiv}
-use Rattle.core_model.specs.Setup.{IsFirstWithoutRoom, IsPair}
+use Rattle.table_model.specs.Setup.{IsFirstWithoutRoom, IsPair}
 use Rattle.flowdir_c.specs.Fit.{AreFitPairs, LackRoom}
 
 -- pairs in another order have distinct keys
@@ -64,14 +60,3 @@ lack_at rules pairs place without =
 pub fit_back : (xs ys : List Pair) → IsPermutation xs ys → All IsPair ys → HasDistinctKeys ys → AreFitPairs xs
 fit_back xs ys moved pairs distinct = fit_moved ys xs (IsPermutation-sym xs ys moved)
     (record { small = λ k d h. (pairs k d h).small; distinct = distinct })
-
--- numbers that settings were made of are in their ranges
-pub made_in_range : (s : Settings) (seats items depth start : ℕ) → IsMadeOf s seats items depth start →
-    AreInRange seats items depth start
-made_in_range s seats items depth start made = record {
-  seats_in_range = subst (IsWithin 1 MOST_SEATS) made.seats_are s.seats_in_range;
-  items_in_range = subst (IsWithin 1 MOST_ITEMS) made.items_are s.items_in_range;
-  depth_in_range = subst (IsWithin 0 MOST_DEPTH) made.depth_is s.depth_in_range;
-  start_in_range = subst (λ (u : ℕ × ℕ). IsWithin 0 u.0 u.1) (λ i. (made.depth_is i, made.start_is i))
-      s.start_in_range;
-}

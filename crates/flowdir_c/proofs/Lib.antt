@@ -1,7 +1,6 @@
 pub mod SeatHandleValues
 pub mod ReaderHandleValues
 pub mod TableHandleValues
-pub mod FirstSeats
 pub mod Apart
 pub mod FitLemmas
 pub mod Values

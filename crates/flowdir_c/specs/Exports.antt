@@ -7,7 +7,7 @@ use Rattle.step_counts.specs.StepCounts.{automatic_rows_of, step_bound}
 use Rattle.plain_map.specs.declared.keys.Key.{Key}
 use Rattle.plain_map.specs.declared.keys.Pair.{Pair}
 use Rattle.plain_map.specs.declared.calls.Call.{Call}
-use Rattle.core_leaves.specs.Leaves.{rows_by}
+use Rattle.leaf_laws.specs.Leaves.{rows_by}
 use Rattle.shared_table.specs.Readers.{StaysReader}
 use Rattle.shared_table.specs.Values.{IsNew, IsSame}
 use Rattle.flowdir_c.specs.declared.answer.Answer.{Answer}

@@ -9,7 +9,7 @@ use Rattle.plain_map.specs.declared.rules.Rules.{Rules}
 use Rattle.plain_map.specs.Updates.{IsSmallPair}
 use Rattle.word_rows.specs.Shape.{AreBelow}
 use Rattle.bucket_states.specs.Parts.{HasDistinctKeys}
-use Rattle.core_model.specs.Setup.{classmates}
+use Rattle.table_model.specs.Setup.{classmates}
 use Rattle.flowdir_c.specs.declared.options.Options.{Options}
 use Rattle.flowdir_c.specs.Asked.{rows_of}
 

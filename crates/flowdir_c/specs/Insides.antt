@@ -3,7 +3,7 @@ use Rattle.std.specs.Prelude.{◌≡◌, Option, Some, None, All, IfSome, length
 use Rattle.std.specs.Arc.{arc_value}
 use Rattle.std.specs.declared.sync.Arc.{Arc}
 use Rattle.bucket_states.specs.Parts.{HasDistinctKeys}
-use Rattle.core_model.specs.Setup.{IsPair, seats_of}
+use Rattle.table_model.specs.Setup.{IsPair, seats_of}
 use Rattle.shared_table.specs.Values.{IsNew, IsOf, TableValue}
 use Rattle.flowdir_c.specs.declared.shelf.Shelf.TheInside as shelf
 use Rattle.flowdir_c.specs.Shelves.{ShelfValue, WasLeft}

@@ -4,7 +4,7 @@ use Rattle.hash_bits.specs.declared.hashing.Hashing.TheVariants.{Mix}
 use Rattle.step_counts.specs.declared.rows.SeatRows.{SeatRows}
 use Rattle.step_counts.specs.declared.settings.Settings.{Settings}
 use Rattle.plain_map.specs.declared.keys.Pair.{Pair}
-use Rattle.core_model.specs.Setup.{Setup}
+use Rattle.table_model.specs.Setup.{Setup}
 use Rattle.shared_table.specs.Openings.{setup_of}
 
 -- these settings and rows, the same of each seat, and these first pairs

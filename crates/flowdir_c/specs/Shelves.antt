@@ -3,8 +3,8 @@ use Rattle.std.specs.Prelude.{◌≡◌, ℕ, List, Option, IsPermutation}
 use Rattle.std.specs.List.Sorted.{IsSortedByKey}
 use Rattle.plain_map.specs.declared.keys.Pair.{Pair}
 use Rattle.plain_map.specs.Keys.{key_cmp}
-use Rattle.core_model.specs.Closed.{closed_pairs}
-use Rattle.core_model.specs.Setup.{Setup}
+use Rattle.table_model.specs.Closed.{closed_pairs}
+use Rattle.table_model.specs.Setup.{Setup}
 use Rattle.shared_table.specs.SeatValues.{SeatValue}
 use Rattle.shared_table.specs.Values.{ClosedValue, Ran, TableValue}
 

@@ -1,5 +1,5 @@
 -- What C is told of a call, by the reply of the table.
-use Rattle.std.specs.Prelude.{◌≡◌, ◌≢◌, ℕ, ◌+◌, ◌^◌, ◌-◌, ◌<◌, ◌≤◌, ◌⊎◌, List, length, None}
+use Rattle.std.specs.Prelude.{◌≡◌, ◌≢◌, ℕ, ◌^◌, ◌-◌, ◌≤◌, ◌⊎◌, None}
 use Rattle.step_counts.specs.StepCounts.{step_bound}
 use Rattle.plain_map.specs.declared.keys.Key.{Key}
 use Rattle.plain_map.specs.declared.keys.Pair.{Pair}
@@ -8,8 +8,8 @@ use Rattle.plain_map.specs.declared.calls.Reply.{Reply}
 use Rattle.plain_map.specs.declared.calls.Reply.TheVariants.{New, Old, NoRoom, Gone, Found, Absent, Sum}
 use Rattle.plain_map.specs.declared.records.Record.{Record}
 use Rattle.plain_map.specs.Serving.{IsAskable}
-use Rattle.core_model.specs.Setup.{settings_of}
-use Rattle.core_model.specs.SeatStates.{is_update}
+use Rattle.table_model.specs.Setup.{settings_of}
+use Rattle.plain_map.specs.Calls.{is_update}
 use Rattle.shared_table.specs.SeatValues.{SeatValue}
 use Rattle.shared_table.specs.Values.{Answers, refused_at}
 use Rattle.flowdir_c.specs.declared.answer.Answer.{Answer}

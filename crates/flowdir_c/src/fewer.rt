@@ -1,7 +1,7 @@
 //! How often buckets can be split, by the number of keys.
 
 ghost use Rattle.std.specs.Prelude.{◌≡◌, ◌<◌, ◌≤◌, ◌^◌};
-ghost use Rattle.core_leaves.specs.Leaves.{splits_by};
+ghost use Rattle.leaf_laws.specs.Leaves.{splits_by};
 
 use step_counts::Settings;
 

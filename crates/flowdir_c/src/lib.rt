@@ -5,18 +5,18 @@
 #![tactic(auto)]
 
 mod answer;
-mod closed_calls;
+mod closed_exports;
 mod fewer;
 mod holder;
 mod loose;
 mod opening;
 mod options;
 mod peeker;
-mod reader_calls;
+mod reader_exports;
 mod readers;
-mod seat_calls;
+mod seat_exports;
 mod seats;
 mod shelf;
 mod status;
-mod table_calls;
+mod table_exports;
 mod tables;

@@ -21,16 +21,14 @@ ghost use Rattle.std.specs.List.Sorted.{IsSortedByKey};
 ghost use Rattle.plain_map.specs.Keys.{key_cmp};
 ghost use Rattle.plain_map.specs.Updates.{IsSmallPair};
 ghost use Rattle.bucket_states.specs.Parts.{HasDistinctKeys};
-ghost use Rattle.core_model.specs.Setup.{IsPair};
+ghost use Rattle.table_model.specs.Setup.{IsPair};
 ghost use Rattle.word_rows.specs.Shape.{AreBelow};
-ghost use Rattle.shared_table.specs.Values.{IsNew, new_seats};
 ghost use Rattle.flowdir_c.specs.Told.{pair_of};
 ghost use Rattle.flowdir_c.specs.Fit.{AreFitPairs};
 ghost use Rattle.flowdir_c.specs.declared.opening.NotOpened.TheVariants.{Bad, NoRoom};
 
 use crate::answer::FlowPair;
 use plain_map::{Pair, VALUE_LIMIT};
-use shared_table::{Directory, Seat};
 use std::alloc::{AllocError, Global};
 use step_counts::SeatRows;
 
@@ -73,13 +71,6 @@ pub(crate) fn rows_of(
 {
     vec![in alloc; rows; seats as usize]
 }
-
-/// The seats of a new table have made no call, and are as many as were asked for.
-pub(crate) fn are_new(seats: &[Seat], directory: &Directory, count: u32)
-    requires { seats.now ≡ new_seats directory.now 0 count }
-    ensures new { All (IsNew directory.now) seats.now }
-    ensures many { length seats.now ≡ count }
-{}
 
 // The pairs as the table has them.
 fn copied(alloc: Global, first: &[FlowPair]) -> Result<Vec<Pair>, AllocError>

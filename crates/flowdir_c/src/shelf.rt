@@ -30,7 +30,7 @@ ghost use Rattle.std.specs.Option.{option_map};
 ghost use Rattle.flowdir_c.specs.Told.{pair_of};
 ghost use Rattle.std.specs.Arc.{arc_value};
 ghost use Rattle.bucket_states.specs.Parts.{HasDistinctKeys};
-ghost use Rattle.core_model.specs.Setup.{IsPair};
+ghost use Rattle.table_model.specs.Setup.{IsPair};
 ghost use Rattle.shared_table.specs.Values.{IsNew, IsOf, TableValue};
 ghost use Rattle.flowdir_c.specs.Opened.{IsOpened};
 ghost use Rattle.flowdir_c.specs.Shelves.{ArePairsOf, WasLeftTo};
@@ -41,10 +41,10 @@ ghost use Rattle.word_rows.specs.Shape.{AreBelow};
 
 use crate::answer::FlowPair;
 use crate::holder::Holder;
-use crate::opening::{NotOpened, are_new, rows_in_range, rows_of};
+use crate::opening::{NotOpened, rows_in_range, rows_of};
 use crate::peeker::{Peeker, peeker_of};
-use core_orders::reopen_laws;
 use hash_bits::Hashing;
+use order_laws::reopen_laws;
 use plain_map::{OpenFault, Pair};
 use shared_table::{Blank, ClosedTable, Directory, Seat};
 use std::alloc::{AllocError, Global};
@@ -116,7 +116,6 @@ pub(crate) fn shelf_of(
     let hashing = Hashing::Mix(seed);
     match Directory::open_in(alloc, blank, settings, hashing, &rows, first) {
         Ok((directory, fresh)) => {
-            are_new(&fresh, &directory, settings.seats);
             let Ok(directory) = Arc::new(alloc, directory) else {
                 return Err(NotOpened::Memory);
             };

@@ -2,8 +2,11 @@
 use Rattle.std.proofs.Common.{◌≡◌, ℕ, zero, suc, ◌+◌, ◌<◌, ◌⊎◌, Bool, true, false, cond, List, [], ◌∷◌, length, Option, Some, None, refl, inl, inr, sym, ap, ◌∙◌, subst, arith, eqb-true, eq-eqb, lt-ltb, true≢false}
 use Rattle.std.specs.Prelude.{◌&&◌, nat_lt, slice_get, filter}
 use Rattle.std.proofs.lemmas.Bool.{and_parts, and_from, cases_Bool}
-use Rattle.core_placing.proofs.Lists.{In}
+use Rattle.list_laws.proofs.Lists.{In}
 use Rattle.history_order.specs.Columns.{hits, written, after_all, numbered_from, place_of}
+use Rattle.std.proofs.Math.Numerals.{add-one}
+use Rattle.std.proofs.Math.Nat.{add-zero}
+use Rattle.list_laws.proofs.Numbers.{plus_none, plus_suc}
 
 -- a write that is meant for the place
 hit_is : (at : Option ℕ) (place : ℕ) → hits at place ≡ true → at ≡ Some place
@@ -62,24 +65,15 @@ place_number (Some (suc n)) place e = (let is : n ≡ place = cc in ap Some (one
 
 -- and its place
 pub number_place : (o : Option ℕ) (place : ℕ) → o ≡ Some (place + 1) → place_of o ≡ Some place
-number_place o place e = ap place_of (e ∙ ap Some (one place))
-  where
-    one : (a : ℕ) → a + 1 ≡ suc a
-    one a = omega arith
+number_place o place e = ap place_of (e ∙ ap Some (add-one place))
 
 -- a member with its place
 pub numbered_in : {A : Type 0} → (from : ℕ) (xs : List A) (x : ℕ × A) → In x (numbered_from from xs) →
     (i : ℕ) × (x.0 ≡ from + i) × (slice_get xs i ≡ Some x.1)
 numbered_in from [] x m = elim m [ ]
-numbered_in from (y ∷ ys) x (inl e) = (0, ap (λ p. p.0) e ∙ none from, ap (λ p. Some p.1) (sym e))
-  where
-    none : (a : ℕ) → a ≡ a + 0
-    none a = omega arith
+numbered_in from (y ∷ ys) x (inl e) = (0, ap (λ p. p.0) e ∙ plus_none from, ap (λ p. Some p.1) (sym e))
 numbered_in from (y ∷ ys) x (inr m) =
-    let r = numbered_in (from + 1) ys x m in (suc r.0, r.1 ∙ more from r.0, r.2)
-  where
-    more : (a i : ℕ) → a + 1 + i ≡ a + suc i
-    more a i = omega arith
+    let r = numbered_in (from + 1) ys x m in (suc r.0, r.1 ∙ plus_suc from r.0, r.2)
 
 -- stands there with it
 pub in_numbered : {A : Type 0} → (from : ℕ) (xs : List A) (i : ℕ) (x : A) → slice_get xs i ≡ Some x →
@@ -87,20 +81,14 @@ pub in_numbered : {A : Type 0} → (from : ℕ) (xs : List A) (i : ℕ) (x : A) 
 in_numbered from [] i x h = cc
 in_numbered {A = A} from (y ∷ ys) zero x h = (let is : y ≡ x = cc in inl (same is))
   where
-    none : (a : ℕ) → a + 0 ≡ a
-    none a = omega arith
-
     pair : ℕ → A → ℕ × A
     pair n z = (n, z)
 
     same : y ≡ x → pair (from + 0) x ≡ pair from y
-    same is = ap (λ n. pair n x) (none from) ∙ ap (pair from) (sym is)
+    same is = ap (λ n. pair n x) (add-zero from) ∙ ap (pair from) (sym is)
 in_numbered {A = A} from (y ∷ ys) (suc i) x h =
-    inr (subst (λ n. In (pair n x) (numbered_from (from + 1) ys)) (more from i) (in_numbered (from + 1) ys i x h))
+    inr (subst (λ n. In (pair n x) (numbered_from (from + 1) ys)) (plus_suc from i) (in_numbered (from + 1) ys i x h))
   where
-    more : (a i : ℕ) → a + 1 + i ≡ a + suc i
-    more a i = omega arith
-
     pair : ℕ → A → ℕ × A
     pair n z = (n, z)
 
@@ -111,12 +99,6 @@ filter_same f g [] h = refl
 filter_same f g (x ∷ xs) h =
     ap (λ b. cond b (x ∷ filter f xs) (filter f xs)) (h x (inl refl))
     ∙ ap (λ ys. cond (g x) (x ∷ ys) ys) (filter_same f g xs (λ y i. h y (inr i)))
-
--- two tests that hold together are one
-pub both_ways : (a b : Bool) → (a ≡ true → b ≡ true) → (b ≡ true → a ≡ true) → a ≡ b
-both_ways true b f g = sym (f refl)
-both_ways false true f g = g refl
-both_ways false false f g = refl
 
 -- a member stands somewhere
 pub at_in : {A : Type 0} → (xs : List A) (x : A) → In x xs → (i : ℕ) × (slice_get xs i ≡ Some x) × (i < length xs)

@@ -5,16 +5,16 @@ use Rattle.std.specs.Option.{option_map_or}
 use Rattle.std.specs.List.{list_any}
 use Rattle.std.proofs.lemmas.Bool.{cases_Bool}
 use Rattle.plain_map.specs.History.{answered}
-use Rattle.core_model.specs.Setup.{Setup}
-use Rattle.core_model.specs.Reading.{is_among}
-use Rattle.core_model.specs.Order.{Closing, Piece, ByBucketRow, ByDirectoryRow, ByLookup, Placing, calls_in, has_base, rows_with, directories_with, is_call}
-use Rattle.core_placing.proofs.Lists.{In, in_at, in_without, in_right, any_from, without_is}
-use Rattle.core_placing.proofs.Turns.{Turn, after}
-use Rattle.core_placing.proofs.Stuck.{among_in, is_call_at}
-use Rattle.core_placing.proofs.Alone.{Alone}
-use Rattle.core_reading.proofs.Book.{Book, Written}
-use Rattle.core_reading.proofs.Ledger.{Ledger}
-use Rattle.core_reading.proofs.OneReady.{Stays, stays_step}
+use Rattle.table_model.specs.Setup.{Setup}
+use Rattle.table_model.specs.Reading.{is_among}
+use Rattle.table_model.specs.Order.{Closing, Piece, ByBucketRow, ByDirectoryRow, ByLookup, Placing, calls_in, has_base, rows_with, directories_with, is_call}
+use Rattle.list_laws.proofs.Lists.{In, in_at, in_without, in_right, any_from, without_is}
+use Rattle.placing_laws.proofs.Turns.{Turn, after}
+use Rattle.placing_laws.proofs.Stuck.{among_in, is_call_at}
+use Rattle.placing_laws.proofs.Alone.{Alone}
+use Rattle.closed_laws.proofs.Book.{Book, Written}
+use Rattle.closed_laws.proofs.Ledger.{Ledger}
+use Rattle.closed_laws.proofs.OneReady.{Stays, stays_step}
 use Rattle.history_order.proofs.Candidates.{IsUnits}
 use Rattle.history_order.specs.Parts.{bases_of, version_base}
 use Rattle.history_order.proofs.Bases.{BringsNone, base_was}

@@ -7,14 +7,14 @@ use Rattle.std.proofs.lemmas.Bool.{and_parts, and_from, cases_lt}
 use Rattle.std.proofs.lemmas.Option.{slice_get_cases}
 use Rattle.plain_map.specs.declared.records.Record.{Record}
 use Rattle.plain_map.specs.declared.records.Pending.{Pending}
-use Rattle.core_model.specs.Reading.{bucket_row, is_among}
-use Rattle.core_model.specs.Order.{Closing, ByBucketRow, ByDirectoryRow, Placing, is_done, has_base}
-use Rattle.core_placing.proofs.Lists.{In, all_at, all_from, any_at, in_map, map_in, in_range, range_in}
-use Rattle.core_placing.proofs.Stuck.{among_in}
-use Rattle.core_placing.proofs.Alone.{Alone}
-use Rattle.core_reading.proofs.Book.{Book}
-use Rattle.core_reading.proofs.Read.{dir_base_is}
-use Rattle.history_order.specs.Closing.{closing_with}
+use Rattle.table_model.specs.Reading.{bucket_row, is_among}
+use Rattle.table_model.specs.Order.{Closing, ByBucketRow, ByDirectoryRow, Placing, is_done, has_base}
+use Rattle.list_laws.proofs.Lists.{In, all_at, all_from, in_map, map_in, in_range, range_in}
+use Rattle.placing_laws.proofs.Stuck.{among_in}
+use Rattle.placing_laws.proofs.Alone.{Alone}
+use Rattle.closed_laws.proofs.Book.{Book}
+use Rattle.closed_laws.proofs.Read.{dir_base_is}
+use Rattle.table_model.specs.Closing.{closing_with}
 use Rattle.history_order.specs.Told.{Told}
 use Rattle.history_order.specs.Parts.{version_base, Marks}
 use Rattle.history_order.specs.Filled.{Filled, IsVersion}
@@ -26,24 +26,15 @@ use Rattle.history_order.specs.declared.tables.Progress.{Progress}
 use Rattle.history_order.proofs.Looks.{done_from, done_to}
 use Rattle.history_order.proofs.Marks.{IsMarkedDone, base_from, version_base_to}
 use Rattle.history_order.proofs.Standing.{version_had}
-
--- two tests are one where each passes with the other
-pub same_bool : (a b : Bool) → (a ≡ true → b ≡ true) → (b ≡ true → a ≡ true) → a ≡ b
-same_bool true b f g = sym (f refl)
-same_bool false true f g = g refl
-same_bool false false f g = refl
+use Rattle.list_laws.proofs.Options.{some_same}
+use Rattle.list_laws.proofs.Truths.{both_ways}
+use Rattle.closed_laws.proofs.Lines.{among_is_in}
 
 -- a member stands at some place
 pub in_place : {A : Type 0} → (xs : List A) (x : A) → In x xs → (at : ℕ) × (slice_get xs at ≡ Some x)
 in_place [] x i = elim i [ ]
 in_place (y ∷ xs) x (inl e) = (0, ap Some (sym e))
 in_place (y ∷ xs) x (inr i) = let r = in_place xs x i in (suc r.0, r.1)
-
--- what is among rows is a member
-pub in_among : (rows : List ℕ) (row : ℕ) → is_among rows row ≡ true → In row rows
-in_among rows row h =
-    let there = any_at (λ other. other == row) rows h in
-    subst (λ r. In r rows) (eqb-true there.0 row there.2) there.1
 
 -- so many of the versions are there: the first ones
 abbrev pub first_versions : Book → (latest : ℕ) → ℕ → Bool
@@ -70,7 +61,7 @@ module _ (words : List ℕ) (logs : List (List Record)) (begun : List Pending) (
       first_versions t.book latest (t.book.dir_row v) ≡ true → v < latest
   there_version latest v few inside h =
       let i = in_map t.book.dir_row (range_with_len 0 latest) (t.book.dir_row v)
-      (in_among (map t.book.dir_row (range_with_len 0 latest)) (t.book.dir_row v) h) in
+      (among_is_in (map t.book.dir_row (range_with_len 0 latest)) (t.book.dir_row v) h) in
       let r = in_range 0 latest i.0 i.1 in
       let same = t.written.dir_once v i.0 inside (omega (arith, r.1, few)) i.2 in
       omega (arith, r.1, same)
@@ -87,7 +78,7 @@ module _ (words : List ℕ) (logs : List (List Record)) (begun : List Pending) (
     -- a row is done as it is marked
     pub done_same : (row : ℕ) →
         is_marked_done progress.placed.items progress.looks.items row ≡ is_done cl p (Some row)
-    done_same row = same_bool (is_marked_done progress.placed.items progress.looks.items row) (is_done cl p (Some row))
+    done_same row = both_ways (is_marked_done progress.placed.items progress.looks.items row) (is_done cl p (Some row))
         (λ h. let d = and_parts (is_marked progress.placed.items row) (slice_index progress.looks.items row == 0) h in
         done_from t.setup cl p row (sym (m.rows row) ∙ d.0)
         (sym (m.left row) ∙ eqb-true (slice_index progress.looks.items row) 0 d.1))
@@ -155,13 +146,10 @@ module _ (words : List ℕ) (logs : List (List Record)) (begun : List Pending) (
                 (all_at (is_marked_done progress.placed.items progress.looks.items) v.0.bases.items row parts.1
                 (subst (In row) (sym (v.2.bases one)) i));
             version = λ row e.
-                let same : t.book.dir_row (d - 1) ≡ row = some_is (sym (before_is d one inside) ∙ e) in
+                let same : t.book.dir_row (d - 1) ≡ row = some_same (sym (before_is d one inside) ∙ e) in
                 subst (λ r. first_versions t.book progress.latest r ≡ true) same
                 (version_there progress.latest (d - 1) (omega (arith, latest, one)));
           })
-        where
-          some_is : {a b : ℕ} → Some a ≡ Some b → a ≡ b
-          some_is e = cc
 
       -- and where one that is left has its base it is told so
       pub version_to : (d : ℕ) → 1 ≤ d → d ≤ t.book.dir_top → Alone t.setup cl p →

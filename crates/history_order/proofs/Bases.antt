@@ -6,14 +6,14 @@ use Rattle.std.specs.Option.{option_map_or}
 use Rattle.std.specs.List.{list_all}
 use Rattle.std.proofs.lemmas.Bool.{and_parts, and_from}
 use Rattle.plain_map.specs.declared.records.Record.{Record}
-use Rattle.core_model.specs.Setup.{Setup}
-use Rattle.core_model.specs.Reading.{directory_row, is_among}
-use Rattle.core_model.specs.Order.{Closing, Piece, ByBucketRow, ByDirectoryRow, ByLookup, Placing, first_rows, is_done, has_base, rows_with, directories_with, lookups_of, pieces_of}
-use Rattle.core_placing.proofs.Lists.{In, all_at, all_from, filter_map_in}
-use Rattle.core_placing.proofs.Turns.{after}
-use Rattle.core_placing.proofs.Alone.{among_both}
-use Rattle.core_reading.proofs.Book.{Book, Written}
-use Rattle.core_reading.proofs.Ledger.{Ledger}
+use Rattle.table_model.specs.Setup.{Setup}
+use Rattle.table_model.specs.Reading.{directory_row, is_among}
+use Rattle.table_model.specs.Order.{Closing, Piece, ByBucketRow, ByDirectoryRow, ByLookup, Placing, first_rows, is_done, has_base, rows_with, directories_with, lookups_of, pieces_of}
+use Rattle.list_laws.proofs.Lists.{In, all_at, all_from, filter_map_in}
+use Rattle.placing_laws.proofs.Turns.{after}
+use Rattle.placing_laws.proofs.Alone.{among_both}
+use Rattle.closed_laws.proofs.Book.{Book, Written}
+use Rattle.closed_laws.proofs.Ledger.{Ledger}
 use Rattle.history_order.specs.Parts.{base_of_row, bases_of, version_base}
 use Rattle.history_order.proofs.Candidates.{IsUnits}
 use Rattle.history_order.proofs.Looks.{done_from, done_to, looks_stay}

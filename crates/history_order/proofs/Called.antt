@@ -9,15 +9,15 @@ use Rattle.plain_map.specs.declared.records.Pending.{Pending}
 use Rattle.plain_map.specs.declared.full.FullKind.TheVariants.{BucketRows}
 use Rattle.plain_map.specs.History.{Placed, answered, seat_of}
 use Rattle.word_rows.specs.Shape.{count_of}
-use Rattle.core_model.specs.Setup.{seats_of}
-use Rattle.core_model.specs.Order.{Closing, Piece, ByBucketRow, ByDirectoryRow, ByLookup, Placing, calls_in, is_next, is_placed, has_base, is_ready, rank_of_calls, pieces_of, lookups_of, order_of}
-use Rattle.core_placing.proofs.Lists.{In, in_right, in_both}
-use Rattle.core_placing.proofs.Turns.{Turn, after}
-use Rattle.core_placing.proofs.Stuck.{least_in, least_ready}
-use Rattle.core_reading.proofs.Pieces.{piece_at}
-use Rattle.core_reading.proofs.OneReady.{Stays, stays_step}
+use Rattle.table_model.specs.Setup.{seats_of}
+use Rattle.table_model.specs.Order.{Closing, Piece, ByBucketRow, ByDirectoryRow, ByLookup, Placing, calls_in, is_next, is_placed, has_base, is_ready, rank_of_calls, pieces_of, lookups_of, order_of}
+use Rattle.list_laws.proofs.Lists.{In, in_right, in_both}
+use Rattle.placing_laws.proofs.Turns.{Turn, after}
+use Rattle.placing_laws.proofs.Stuck.{least_in, least_ready}
+use Rattle.closed_laws.proofs.Pieces.{piece_at}
+use Rattle.closed_laws.proofs.OneReady.{Stays, stays_step}
 use Rattle.history_order.specs.Turns.{rank_in}
-use Rattle.history_order.specs.Closing.{closing_with}
+use Rattle.table_model.specs.Closing.{closing_with}
 use Rattle.history_order.specs.Told.{Told}
 use Rattle.history_order.specs.Parts.{unit_of, base_of_row}
 use Rattle.history_order.specs.Filled.{Filled, IsUnit}
@@ -36,6 +36,7 @@ use Rattle.history_order.proofs.Nexts.{unit_facts, ready_same}
 use Rattle.history_order.proofs.Moved.{row_inside, calls_free, next_there, next_is, brought_is, row_marks, version_marks, look_marks, marked_long, marked_inside}
 use Rattle.history_order.proofs.Going.{Going, aside_of, next_version, in_next, stays, TouchesRow}
 use Rattle.history_order.proofs.Freed.{turn_of, bring_in, done_looks, version_known, version_firsts, version_bring, version_sound}
+use Rattle.list_laws.proofs.Options.{some_same}
 
 -- the first number that passes
 pub first_found : (g : ℕ → Bool) (from many q : ℕ) → find g (range_with_len from many) ≡ Some q →
@@ -43,16 +44,13 @@ pub first_found : (g : ℕ → Bool) (from many q : ℕ) → find g (range_with_
 first_found g from zero q h = cc
 first_found g from (suc many) q h = go (g from) refl (first_found g (from + 1) many q) h
   where
-    here : {a b : ℕ} → Some a ≡ Some b → a ≡ b
-    here e = cc
-
     go : (b : Bool) → g from ≡ b →
         (find g (range_with_len (from + 1) many) ≡ Some q → (g q ≡ true) × (q < from + 1 + many)
         × ((before : ℕ) → from + 1 ≤ before → before < q → g before ≡ false)) →
         (if b then Some from else find g (range_with_len (from + 1) many)) ≡ Some q →
         (g q ≡ true) × (q < from + suc many) × ((before : ℕ) → from ≤ before → before < q → g before ≡ false)
     go true e rest s =
-        let is : from ≡ q = here s in
+        let is : from ≡ q = some_same s in
         (ap g (sym is) ∙ e, omega (arith, is), λ before low less. absurd (omega (arith, is, low, less)))
     go false e rest s =
         let r = rest s in (
@@ -166,14 +164,12 @@ module _ (words : List ℕ) (logs : List (List Record)) (begun : List Pending) (
         (unit_facts words logs begun t found f) p s.reaches placed_of s.counted seat
     none_of seat inside not_ready x there rank ready = go (unit_in found seat (placed_of seat)) refl
       where
-        one : {a b : Piece} → Some a ≡ Some b → a ≡ b
-        one e = cc
-
         go : (o : Option Unit) → unit_in found seat (placed_of seat) ≡ o → ⊥
         go None e = (let bad : None ≡ Some x = sym (f.unit_none seat (placed_of seat) inside e) ∙ there in cc)
         go (Some unit) e =
             let c = chosen seat unit inside e in
-            true≢false (sym (c.same ∙ ap (is_ready t.setup.shape turns_closing p) (one (sym c.there ∙ there)) ∙ ready)
+            true≢false (
+            sym (c.same ∙ ap (is_ready t.setup.shape turns_closing p) (some_same (sym c.there ∙ there)) ∙ ready)
             ∙ not_ready)
 
     -- where no seat has one, the order is made

@@ -1,43 +1,26 @@
 -- Who comes next. A ready piece with calls is the piece of its first seat's next call, so it is found by asking each
 -- seat in turn for the piece of its next call; and where no seat has a ready one, nothing is left.
-use Rattle.std.proofs.Common.{◌≡◌, ℕ, zero, suc, ◌+◌, ◌<◌, ◌⊎◌, true, List, [], ◌∷◌, Option, Some, refl, inl, inr, sym, ap, ◌∙◌, subst, arith}
+use Rattle.std.proofs.Common.{◌≡◌, ℕ, suc, ◌+◌, ◌<◌, ◌⊎◌, true, List, [], ◌∷◌, Option, Some, refl, inl, inr, sym, ◌∙◌, subst, arith}
 use Rattle.std.specs.Prelude.{slice_get}
 use Rattle.std.proofs.lemmas.Bool.{cases_lt}
 use Rattle.plain_map.specs.History.{Placed, seat_of, number_of}
-use Rattle.core_model.specs.Setup.{Setup, seats_of}
-use Rattle.core_model.specs.Order.{Closing, Piece, Placing, is_call, calls_in, is_ready, rank_of_calls, choice, pieces_of, calls_of}
-use Rattle.core_placing.proofs.Lists.{In, in_at, any_from}
-use Rattle.core_placing.proofs.Turns.{Turn}
-use Rattle.core_placing.proofs.Stuck.{is_call_at}
-use Rattle.core_placing.proofs.Alone.{Disjoint, Apart, same_seat_same_piece}
-use Rattle.core_reading.proofs.Book.{Book, Written}
-use Rattle.core_reading.proofs.Ledger.{Ledger}
-use Rattle.core_reading.proofs.Pieces.{piece_at}
-use Rattle.core_reading.proofs.Ends.{call_there}
-use Rattle.core_reading.proofs.OneReady.{Stays, stays_step, stays_start}
+use Rattle.table_model.specs.Setup.{Setup, seats_of}
+use Rattle.table_model.specs.Order.{Closing, Piece, Placing, is_call, calls_in, is_ready, rank_of_calls, choice, pieces_of, calls_of}
+use Rattle.list_laws.proofs.Lists.{In, in_at, any_from}
+use Rattle.placing_laws.proofs.Turns.{Turn}
+use Rattle.placing_laws.proofs.Stuck.{is_call_at}
+use Rattle.placing_laws.proofs.Alone.{same_seat_same_piece}
+use Rattle.closed_laws.proofs.Book.{Book, Written}
+use Rattle.closed_laws.proofs.Ledger.{Ledger}
+use Rattle.closed_laws.proofs.Pieces.{piece_at}
+use Rattle.closed_laws.proofs.Ends.{call_there}
+use Rattle.closed_laws.proofs.OneReady.{Stays, stays_step, stays_start, one_place}
 use Rattle.history_order.specs.Turns.{Reaches, rank_in}
 use Rattle.history_order.proofs.Reaching.{reached_keeps}
 use Rattle.history_order.proofs.Choosing.{first_is_chosen}
 use Rattle.history_order.proofs.Counted.{Counted, is_the_next}
 
 module _ (setup : Setup) (closing : Closing) where
-  -- a piece with a call is not apart from itself
-  not_apart : (x y : Piece) (c : Placed) → In c (calls_in setup.shape closing x) → y ≡ x →
-      Disjoint setup closing y x → ⊥
-  not_apart x y c i is d =
-      d.calls c c (subst (λ z. In c (calls_in setup.shape closing z)) (sym is) i) i refl refl
-
-  -- so it stands at one place only
-  same_place : (xs : List Piece) (x : Piece) (c : Placed) (at other : ℕ) → Apart setup closing xs →
-      In c (calls_in setup.shape closing x) → slice_get xs at ≡ Some x → slice_get xs other ≡ Some x → at ≡ other
-  same_place [] x c at other a i h g = cc
-  same_place (y ∷ xs) x c zero zero a i h g = refl
-  same_place (y ∷ xs) x c zero (suc other) a i h g =
-      (let is : y ≡ x = cc in absurd (not_apart x y c i is (a.0 x (in_at xs other x g))))
-  same_place (y ∷ xs) x c (suc at) zero a i h g =
-      (let is : y ≡ x = cc in absurd (not_apart x y c i is (a.0 x (in_at xs at x h))))
-  same_place (y ∷ xs) x c (suc at) (suc other) a i h g = ap suc (same_place xs x c at other a.1 i h g)
-
   -- the piece of each call
   pub record IsUnits (unit_of : ℕ → ℕ → Option Piece) : Type 0 where
     pub there : (x : Piece) (c : Placed) → In x (pieces_of setup.shape closing) →
@@ -55,10 +38,6 @@ module _ (setup : Setup) (closing : Closing) where
   with_calls : (calls : List Placed) → (calls ≡ []) ⊎ ((seat : ℕ) × (rank_of_calls calls ≡ suc seat))
   with_calls [] = inl refl
   with_calls (c ∷ calls) = inr (seat_of c, refl)
-
-  -- the rank of no calls
-  rank_of_none : (calls : List Placed) → calls ≡ [] → rank_of_calls calls ≡ 0
-  rank_of_none calls e = ap rank_of_calls e
 
 module _ (setup : Setup) (closing : Closing) (k : Book) (w : Written setup closing.words k)
     (l : Ledger setup closing k) (unit_of : ℕ → ℕ → Option Piece) (u : IsUnits setup closing unit_of) where
@@ -148,7 +127,7 @@ module _ (setup : Setup) (closing : Closing) (k : Book) (w : Written setup closi
             let is : x ≡ y = same_seat_same_piece setup closing p x y c.0 d.0 s.alone i j t.ready ready c.1 d.1
             (c.2 ∙ sym d.2) (l.numbered c.0 (call_of_left p x c.0 s i c.1))
             (l.numbered d.0 (call_of_left p y d.0 s j d.1)) in
-            same_place setup closing p.left x c.0 at other s.alone.apart c.1 t.stands
+            one_place setup closing p.left x c.0 at other s.alone.apart c.1 t.stands
             (subst (λ z. slice_get p.left other ≡ Some z) (sym is) stands);
       })
 

@@ -3,9 +3,9 @@ use Rattle.std.proofs.Common.{◌≡◌, ℕ, zero, suc, ◌+◌, ◌<◌, ◌�
 use Rattle.std.specs.Prelude.{position, ◌==◌}
 use Rattle.std.specs.Option.{option_map_or}
 use Rattle.std.proofs.lemmas.Bool.{and_parts, and_from, cases_eq}
-use Rattle.core_model.specs.Setup.{Setup, seats_of}
-use Rattle.core_model.specs.Order.{Closing, Placing, is_ready, has_rank, choice_from}
-use Rattle.core_placing.proofs.Lists.{in_at, position_at, position_none}
+use Rattle.table_model.specs.Setup.{Setup, seats_of}
+use Rattle.table_model.specs.Order.{Closing, Placing, is_ready, has_rank, choice_from}
+use Rattle.list_laws.proofs.Lists.{in_at, position_at, position_none}
 use Rattle.history_order.specs.Turns.{IsFirst, FirstReadyIsChosen, rank_in}
 
 module _ (setup : Setup) (closing : Closing) (p : Placing) (at : ℕ) (f : IsFirst setup.shape closing p at) where

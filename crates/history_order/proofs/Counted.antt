@@ -5,13 +5,13 @@ use Rattle.std.specs.Prelude.{◌==◌, if◌then◌else◌}
 use Rattle.std.specs.List.{list_all, range_with_len}
 use Rattle.std.proofs.lemmas.Bool.{and_parts, and_from, cases_Bool, cases_lt}
 use Rattle.plain_map.specs.History.{Placed, seat_of, number_of, seen_of}
-use Rattle.core_model.specs.Setup.{Setup, seats_of}
-use Rattle.core_model.specs.Order.{Closing, Piece, Placing, is_call, calls_in, is_placed, are_placed, is_next, has_base, is_ready, start_of}
-use Rattle.core_model.specs.Turns.{has_call_of}
-use Rattle.core_placing.proofs.Lists.{In, all_at, all_from, any_at, any_from, in_both, in_right, in_range, range_in}
-use Rattle.core_placing.proofs.Turns.{Turn, after, turn_grows}
-use Rattle.core_placing.proofs.Stuck.{is_call_at, call_is_at}
-use Rattle.core_placing.proofs.Alone.{Alone}
+use Rattle.table_model.specs.Setup.{Setup, seats_of}
+use Rattle.table_model.specs.Order.{Closing, Piece, Placing, is_call, calls_in, is_placed, are_placed, is_next, has_base, is_ready, start_of}
+use Rattle.table_model.specs.Turns.{has_call_of}
+use Rattle.list_laws.proofs.Lists.{In, all_at, all_from, any_at, any_from, in_both, in_right, in_range, range_in}
+use Rattle.placing_laws.proofs.Turns.{Turn, after, turn_grows}
+use Rattle.placing_laws.proofs.Stuck.{is_call_at, call_is_at}
+use Rattle.placing_laws.proofs.Alone.{Alone}
 
 module _ (setup : Setup) (closing : Closing) where
   -- of each seat just the first so many calls are placed

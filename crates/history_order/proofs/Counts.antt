@@ -3,7 +3,7 @@ use Rattle.std.proofs.Common.{◌≡◌, ◌≢◌, suc, ◌+◌, Bool, true, fa
 use Rattle.std.specs.List.{count_by}
 use Rattle.std.proofs.lemmas.List.Sums.{sum_by-cons}
 use Rattle.std.proofs.lemmas.Bool.{cases_Bool}
-use Rattle.core_placing.proofs.Lists.{In, Once}
+use Rattle.list_laws.proofs.Lists.{In, Once}
 
 module _ {A : Type 0} where
   -- one that passes is counted

@@ -6,27 +6,18 @@ use Rattle.std.proofs.lemmas.Bool.{cases_Bool, cases_lt, cases_eq}
 use Rattle.std.proofs.lemmas.List.{reverse-append}
 use Rattle.plain_map.specs.declared.full.FullKind.TheVariants.{BucketRows, DirRows}
 use Rattle.word_rows.specs.Shape.{count_of}
-use Rattle.core_model.specs.Setup.{Setup}
-use Rattle.core_model.specs.Directories.{DirectoryState}
-use Rattle.core_model.specs.Reading.{bucket_row, directory_row, line, is_exchanged, is_among, each_once, directory_rows, bucket_line, leaves_beside, leaves_new_in}
-use Rattle.core_placing.proofs.Lists.{In, in_left, in_right, in_both, in_filter, filter_in, in_flat_map, flat_map_in}
-use Rattle.core_reading.proofs.Book.{Book, Written}
-use Rattle.core_reading.proofs.Lines.{among_is_in, in_is_among, each_in, in_each}
-use Rattle.core_reading.proofs.Read.{base_is, dir_base_is, directory_is, later_exchanged, first_not_exchanged, fuel, dir_fuel}
+use Rattle.table_model.specs.Setup.{Setup}
+use Rattle.table_model.specs.Directories.{DirectoryState}
+use Rattle.table_model.specs.Reading.{bucket_row, directory_row, line, is_exchanged, is_among, each_once, directory_rows, bucket_line, leaves_beside, leaves_new_in}
+use Rattle.list_laws.proofs.Lists.{In, in_left, in_right, in_both, in_filter, filter_in, in_flat_map, flat_map_in}
+use Rattle.closed_laws.proofs.Book.{Book, Written}
+use Rattle.closed_laws.proofs.Lines.{among_is_in, each_in, in_each}
+use Rattle.placing_laws.proofs.Stuck.{among_in}
+use Rattle.closed_laws.proofs.Read.{base_is, dir_base_is, directory_is, later_exchanged, first_not_exchanged, fuel, dir_fuel}
 use Rattle.history_order.specs.Filling.{entries_of, new_beside, leaves_from, while_true, exchanged_of, exchanged_in}
-use Rattle.history_order.proofs.After.{filter_same, both_ways}
-
--- a range ends with its last number
-range_ends : (a n : ℕ) → range_with_len a (suc n) ≡ range_with_len a n ++ (a + n) ∷ []
-range_ends a zero = ap (λ x. x ∷ []) (none a)
-  where
-    none : (x : ℕ) → x ≡ x + 0
-    none x = omega arith
-range_ends a (suc n) = ap (λ xs. a ∷ xs) (range_ends (a + 1) n ∙ ap (λ x. range_with_len (a + 1) n ++ x ∷ []) (more a
-    n))
-  where
-    more : (x i : ℕ) → x + 1 + i ≡ x + suc i
-    more x i = omega arith
+use Rattle.history_order.proofs.After.{filter_same}
+use Rattle.list_laws.proofs.Truths.{both_ways}
+use Rattle.list_laws.proofs.Numbers.{plus_none, plus_suc, range_more}
 
 -- a line turned round goes from the first row on
 line_turned : (base : ℕ → Option ℕ) (f : ℕ → ℕ) (top : ℕ) → ((v : ℕ) → v < top → base (f (v + 1)) ≡ Some (f v)) →
@@ -49,7 +40,7 @@ line_turned base f top based first (suc most) (suc v) o less =
     )))
     ∙ sym (map_ends (range_with_len 0 (suc v)) (suc v))
     ∙ ap (λ x. map f (range_with_len 0 (suc v) ++ x ∷ [])) (plus (suc v))
-    ∙ ap (map f) (sym (range_ends 0 (suc v)))
+    ∙ ap (map f) (sym (range_more 0 (suc v)))
   where
     plus : (n : ℕ) → n ≡ 0 + n
     plus n = omega arith
@@ -143,10 +134,10 @@ module _ (setup : Setup) (words : List ℕ) (k : Book) (w : Written setup words 
       (λ e. let r = h.from b (among_is_in known b e) in
       let early = (w.entries r.0 b (omega (arith, r.1, o)) (entry_from r.0 b (omega (arith, r.1, o)) r.2)).1 in
       elim (w.newcomers v b o (entry_from (v + 1) b (omega (arith, o)) (each_in (entries_at (v + 1)) b i))) [
-        | inl there ↦ in_is_among (entries_at v) b (entry_to v b (omega (arith, o)) there)
+        | inl there ↦ among_in (entries_at v) b (entry_to v b (omega (arith, o)) there)
         | inr late ↦ absurd (omega (arith, r.1, early, late))
       ])
-      (λ e. in_is_among known b (h.to v b (omega arith) (among_is_in (entries_at v) b e)))))
+      (λ e. among_in known b (h.to v b (omega arith) (among_is_in (entries_at v) b e)))))
       ∙ sym (ap (leaves_beside setup.shape words (k.dir_row (v + 1)))
       (dir_base_is setup words k w (v + 1) (omega (arith, o)) ∙ w.dir_bases v o))
 
@@ -160,18 +151,12 @@ module _ (setup : Setup) (words : List ℕ) (k : Book) (w : Written setup words 
       LeavesAt (from + i) (get_or (leaves_from setup.shape words known (map k.dir_row (range_with_len from many))) i [])
   leaves_at known from zero i h less = absurd (omega (arith, less))
   leaves_at known from (suc many) zero h less =
-      subst (λ n. LeavesAt n (new_beside setup.shape words known (k.dir_row from))) (none from)
+      subst (λ n. LeavesAt n (new_beside setup.shape words known (k.dir_row from))) (plus_none from)
       (record { known = known; before = h; is = refl })
-    where
-      none : (a : ℕ) → a ≡ a + 0
-      none a = omega arith
   leaves_at known from (suc many) (suc i) h less =
       subst (λ n. LeavesAt n (get_or (leaves_from setup.shape words (known ++ entries_at from)
-      (map k.dir_row (range_with_len (from + 1) many))) i [])) (more from i)
+      (map k.dir_row (range_with_len (from + 1) many))) i [])) (plus_suc from i)
       (leaves_at (known ++ entries_at from) (from + 1) many i (before_more from known h) (omega (arith, less)))
-    where
-      more : (a n : ℕ) → a + 1 + n ≡ a + suc n
-      more a n = omega arith
 
   -- each bucket of the leaves is named
   leaf_named : (known : List ℕ) (from many : ℕ) (buckets : List ℕ) (b : ℕ) → from + many ≤ suc k.dir_top →

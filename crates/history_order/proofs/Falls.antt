@@ -4,7 +4,7 @@ use Rattle.std.specs.Prelude.{◌==◌, not, sum, count_by, if◌then◌else◌,
 use Rattle.std.specs.Option.{option_map_or}
 use Rattle.std.proofs.lemmas.List.{length-set}
 use Rattle.std.proofs.lemmas.List.Sums.{sum_by-set}
-use Rattle.core_placing.proofs.Lists.{In}
+use Rattle.list_laws.proofs.Lists.{In}
 use Rattle.history_order.specs.Tables.{is_marked, is_marked_done, is_free, marked, free_next, brought, firsts_of, left_of, RowIsPlaced, LookIsPlaced, VersionIsPlaced}
 use Rattle.history_order.specs.declared.tables.Unit.TheVariants.{Row}
 use Rattle.history_order.specs.declared.tables.Version.{Version}

@@ -4,7 +4,7 @@ use Rattle.std.specs.Prelude.{flat_map, slice_set}
 use Rattle.std.specs.Option.{option_map_or}
 use Rattle.std.proofs.lemmas.List.Sums.{fold_more}
 use Rattle.std.proofs.lemmas.Option.{slice_get-get_or}
-use Rattle.core_placing.proofs.Lists.{In, in_at}
+use Rattle.list_laws.proofs.Lists.{In, in_at}
 use Rattle.history_order.specs.declared.tables.Version.{Version}
 use Rattle.history_order.specs.declared.tables.Found.{Found}
 use Rattle.history_order.specs.Tables.{brought, firsts_of, marked}

@@ -10,13 +10,13 @@ use Rattle.plain_map.specs.declared.records.Record.{Record}
 use Rattle.plain_map.specs.declared.records.Pending.{Pending}
 use Rattle.plain_map.specs.declared.full.FullKind.TheVariants.{BucketRows}
 use Rattle.word_rows.specs.Shape.{count_of}
-use Rattle.core_model.specs.Order.{Closing, Piece, ByBucketRow, ByDirectoryRow, ByLookup, Placing, calls_in, pieces_of}
-use Rattle.core_placing.proofs.Lists.{In, in_left, in_right, in_both, in_map, flat_map_in, in_flat_map}
-use Rattle.core_placing.proofs.Turns.{Turn, after}
-use Rattle.core_placing.proofs.Stuck.{Has}
-use Rattle.core_reading.proofs.Pieces.{dir_piece}
-use Rattle.core_reading.proofs.OneReady.{Stays, stays_step}
-use Rattle.history_order.specs.Closing.{closing_with}
+use Rattle.table_model.specs.Order.{Closing, Piece, ByBucketRow, ByDirectoryRow, ByLookup, Placing, calls_in, pieces_of}
+use Rattle.list_laws.proofs.Lists.{In, in_left, in_right, in_both, in_map, flat_map_in, in_flat_map}
+use Rattle.placing_laws.proofs.Turns.{Turn, after}
+use Rattle.placing_laws.proofs.Stuck.{Has}
+use Rattle.closed_laws.proofs.Pieces.{dir_piece}
+use Rattle.closed_laws.proofs.OneReady.{Stays, stays_step}
+use Rattle.table_model.specs.Closing.{closing_with}
 use Rattle.history_order.specs.Told.{Told}
 use Rattle.history_order.specs.Parts.{unit_of, base_of_row}
 use Rattle.history_order.specs.Filled.{Filled}
@@ -28,7 +28,8 @@ use Rattle.history_order.specs.declared.tables.Progress.{Progress}
 use Rattle.history_order.proofs.Standing.{Stands, free_on, free_ready}
 use Rattle.history_order.proofs.Based.{MarksOf, first_versions, row_base_same, version_from, there_version, in_place}
 use Rattle.history_order.proofs.Nexts.{unit_facts, some_passes}
-use Rattle.history_order.proofs.Moved.{row_inside, firsts_inside, firsts_found, free_calls, next_there, brought_is, row_marks, version_marks, marked_long, not_true}
+use Rattle.history_order.proofs.Moved.{row_inside, firsts_inside, firsts_found, free_calls, next_there, brought_is, row_marks, version_marks, marked_long}
+use Rattle.std.proofs.lemmas.Bool.{not-true}
 use Rattle.history_order.proofs.Going.{Going, aside_of, next_version, in_next, row_aside, stays, new_aside, TouchesRow}
 
 module _ (words : List ℕ) (logs : List (List Record)) (begun : List Pending) (t : Told words logs begun)
@@ -74,20 +75,6 @@ module _ (words : List ℕ) (logs : List (List Record)) (begun : List Pending) (
   pub done_looks : (placed : List Bool) (looks : List ℕ) (base : ℕ) → is_marked_done placed looks base ≡ true →
       (slice_index looks base == 0) ≡ true
   done_looks placed looks base h = (and_parts (is_marked placed base) (slice_index looks base == 0) h).1
-
-  -- what is kept of what was aside, where the versions are the same
-  pub kept_on : (old new : Progress) → new.latest ≡ old.latest →
-      ((row : ℕ) → In row old.aside.items → In row new.aside.items) → (x : Piece) →
-      In x (aside_of words logs begun t found f old) → In x (aside_of words logs begun t found f new)
-  kept_on old new latest rows x i = elim (in_both x (map ByBucketRow old.aside.items)
-      (next_version words logs begun t found f old.latest) i) [
-        | inl j ↦
-            let r = in_map ByBucketRow old.aside.items x j in
-            subst (λ z. In z (aside_of words logs begun t found f new)) (sym r.2)
-            (row_aside words logs begun t found f new r.0 (rows r.0 r.1))
-        | inr j ↦ in_right x (map ByBucketRow new.aside.items) (next_version words logs begun t found f new.latest)
-            (subst (λ n. In x (next_version words logs begun t found f n)) (sym latest) j)
-      ]
 
   -- a piece that is not placed is left
   pub is_left : (p : Placing) (x : Piece) → Stays t.setup closing_of_turns p →
@@ -151,7 +138,7 @@ module _ (words : List ℕ) (logs : List (List Record)) (begun : List Pending) (
 
       left : In y p.left
       left = is_left p y s known.0 (λ has. true≢false (sym (now_marks.rows row ∙ has.rows row (inl refl))
-          ∙ not_true (is_marked now.placed.items row) parts.0))
+          ∙ not-true (is_marked now.placed.items row) parts.0))
 
       at : ℕ
       at = (turn_of p y left).0

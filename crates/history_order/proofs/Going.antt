@@ -9,13 +9,13 @@ use Rattle.plain_map.specs.declared.records.TheConstants.{MOST_SEATS}
 use Rattle.plain_map.specs.declared.full.FullKind.TheVariants.{BucketRows}
 use Rattle.plain_map.specs.History.{answered}
 use Rattle.word_rows.specs.Shape.{count_of}
-use Rattle.core_model.specs.Reading.{is_among}
-use Rattle.core_model.specs.Order.{Closing, Piece, ByBucketRow, ByDirectoryRow, ByLookup, Placing, calls_in, rows_with, is_done, has_base, pieces_of, start_of}
-use Rattle.core_placing.proofs.Lists.{In, any_at, in_left, in_right, in_both, in_map, map_in}
-use Rattle.core_placing.proofs.Turns.{after}
-use Rattle.core_reading.proofs.Pieces.{piece_at}
-use Rattle.core_reading.proofs.OneReady.{Stays}
-use Rattle.history_order.specs.Closing.{closing_with}
+use Rattle.table_model.specs.Reading.{is_among}
+use Rattle.table_model.specs.Order.{Closing, Piece, ByBucketRow, ByDirectoryRow, ByLookup, Placing, calls_in, rows_with, is_done, has_base, pieces_of, start_of}
+use Rattle.list_laws.proofs.Lists.{In, any_at, in_left, in_right, in_both, in_map, map_in}
+use Rattle.placing_laws.proofs.Turns.{after}
+use Rattle.closed_laws.proofs.Pieces.{piece_at}
+use Rattle.closed_laws.proofs.OneReady.{Stays}
+use Rattle.table_model.specs.Closing.{closing_with}
 use Rattle.history_order.specs.Told.{Told}
 use Rattle.history_order.specs.Parts.{unit_of, base_of_row, bases_of}
 use Rattle.history_order.specs.Filled.{Filled, Begun}
@@ -28,7 +28,8 @@ use Rattle.history_order.proofs.Counted.{counted_start}
 use Rattle.history_order.proofs.Candidates.{reached_stays}
 use Rattle.history_order.proofs.Aside.{Touches, by_row, by_version, by_look, looks_at}
 use Rattle.history_order.proofs.Standing.{Stands, set_less, stands_same, row_had}
-use Rattle.history_order.proofs.Based.{MarksOf, first_versions, done_same, row_base_same, version_to, in_among}
+use Rattle.history_order.proofs.Based.{MarksOf, first_versions, done_same, row_base_same, version_to}
+use Rattle.closed_laws.proofs.Lines.{among_is_in}
 use Rattle.history_order.proofs.Nexts.{unit_facts}
 use Rattle.history_order.proofs.Moved.{option_in}
 
@@ -231,7 +232,7 @@ module _ (words : List ℕ) (logs : List (List Record)) (begun : List Pending) (
       (bases_of t.setup the_closing (ByBucketRow row)) h in (
         b.0,
         option_in (base_of_row t.setup the_closing row) b.0 b.1,
-        inl (in_among (rows_with t.setup.shape the_closing y) b.0 b.2),
+        inl (among_is_in (rows_with t.setup.shape the_closing y) b.0 b.2),
       )
   touched_base y row (by_version h) = absurd (true≢false (sym h))
   touched_base y row (by_look h) = looked y h
@@ -243,7 +244,7 @@ module _ (words : List ℕ) (logs : List (List Record)) (begun : List Pending) (
       looked (ByLookup r) e = (
         r.place,
         option_in (base_of_row t.setup the_closing row) r.place
-            (in_among (bases_of t.setup the_closing (ByBucketRow row)) r.place e),
+            (among_is_in (bases_of t.setup the_closing (ByBucketRow row)) r.place e),
         inr (r, refl, refl),
       )
 

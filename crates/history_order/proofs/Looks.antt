@@ -6,16 +6,16 @@ use Rattle.std.specs.List.{list_all}
 use Rattle.std.proofs.lemmas.Bool.{and_parts, and_from, cases_Bool}
 use Rattle.plain_map.specs.declared.records.Record.{Record}
 use Rattle.plain_map.specs.History.{Placed, answered, pending, seat_of, number_of}
-use Rattle.core_model.specs.Setup.{Setup}
-use Rattle.core_model.specs.SeatStates.{is_update}
-use Rattle.core_model.specs.Reading.{is_among}
-use Rattle.core_model.specs.Order.{Closing, Piece, ByLookup, Placing, is_call, calls_in, is_placed, is_done, lookups_of, pieces_of}
-use Rattle.core_placing.proofs.Lists.{In, Once, all_at, all_from, any_at, any_from, in_both, in_right, in_filter, filter_in}
-use Rattle.core_placing.proofs.Turns.{after, turn_grows}
-use Rattle.core_placing.proofs.Stuck.{is_call_at, call_is_at}
-use Rattle.core_reading.proofs.Book.{Book, Written}
-use Rattle.core_reading.proofs.Ledger.{Ledger}
-use Rattle.core_reading.proofs.Pieces.{look_piece, once_filter, once_left, once_of_map}
+use Rattle.table_model.specs.Setup.{Setup}
+use Rattle.plain_map.specs.Calls.{is_update}
+use Rattle.table_model.specs.Reading.{is_among}
+use Rattle.table_model.specs.Order.{Closing, Piece, ByLookup, Placing, is_call, calls_in, is_placed, is_done, lookups_of, pieces_of}
+use Rattle.list_laws.proofs.Lists.{In, Once, all_at, all_from, any_at, any_from, in_both, in_right, in_filter, filter_in}
+use Rattle.placing_laws.proofs.Turns.{after, turn_grows}
+use Rattle.placing_laws.proofs.Stuck.{is_call_at, call_is_at}
+use Rattle.closed_laws.proofs.Book.{Book, Written}
+use Rattle.closed_laws.proofs.Ledger.{Ledger}
+use Rattle.closed_laws.proofs.Pieces.{look_piece, once_filter, once_left, once_of_map}
 use Rattle.history_order.specs.Parts.{is_open, open_looks}
 use Rattle.history_order.proofs.Counts.{count_none, none_at, count_same, count_more}
 use Rattle.history_order.proofs.Candidates.{IsUnits}

@@ -1,53 +1,19 @@
 -- Steps of loops that make lists.
-use Rattle.std.proofs.Common.{◌≡◌, ℕ, zero, suc, ◌+◌, ◌-◌, ◌<◌, Bool, true, false, cond, not, List, [], ◌∷◌, ◌++◌, length, drop, get_or, reverse, map, Option, Some, None, refl, inl, inr, sym, ap, ◌∙◌, subst, arith, append_assoc, append-nil, Vec, Global, eqb-true, eq-eqb, true≢false}
-use Rattle.std.specs.Prelude.{◌==◌, ◌||◌, filter, filter_map, flat_map, slice_index_or}
+use Rattle.std.proofs.Common.{◌≡◌, ℕ, suc, ◌+◌, ◌-◌, ◌<◌, Bool, true, false, cond, not, List, [], ◌∷◌, ◌++◌, length, drop, get_or, reverse, map, Option, Some, None, refl, inl, inr, sym, ap, ◌∙◌, subst, arith, append-nil, Vec, Global, eqb-true, eq-eqb, true≢false}
+use Rattle.std.specs.Prelude.{◌==◌, ◌||◌, filter, flat_map, slice_index_or}
 use Rattle.std.specs.Borrow.{Bor}
-use Rattle.std.specs.List.{cons_option}
 use Rattle.std.proofs.lemmas.List.{at_drop_more, drop_more, reverse-append}
 use Rattle.std.proofs.lemmas.List.Folds.{list_any-append}
-use Rattle.std.proofs.lemmas.Bool.{cases_Bool, cases_eq}
-use Rattle.core_model.specs.Reading.{each_once, is_among, line}
+use Rattle.std.proofs.lemmas.Bool.{cases_Bool, cases_eq, ne_eqb}
+use Rattle.table_model.specs.Reading.{each_once, is_among, line}
 use Rattle.plain_map.specs.declared.records.Record.{Record}
 use Rattle.word_rows.specs.Shape.{Shape}
-use Rattle.history_order.specs.Closing.{read_in, records_there}
+use Rattle.table_model.specs.Closing.{read_in, records_there}
 use Rattle.history_order.specs.Filling.{AreMet, while_true, entries_of, new_beside, leaves_from}
+use Rattle.closed_words.proofs.LoopLemmas.{grows}
+use Rattle.closed_laws.proofs.Lines.{line_none}
 
--- a piece goes over to what is done
-pub grows : {B : Type 0} → (done piece rest now all done_then : List B) → done_then ≡ done ++ piece →
-    now ≡ piece ++ rest → done ++ now ≡ all → done_then ++ rest ≡ all
-grows done piece rest now all done_then more is were =
-    ap (λ xs. xs ++ rest) more ∙ append_assoc done piece rest ∙ ap (λ xs. done ++ xs) (sym is) ∙ were
-
--- nothing goes over
-pub stays : {B : Type 0} → (done rest now all done_then : List B) → done_then ≡ done → now ≡ rest →
-    done ++ now ≡ all → done_then ++ rest ≡ all
-stays done rest now all done_then same is were = ap (λ xs. xs ++ rest) same ∙ ap (λ xs. done ++ xs) (sym is) ∙ were
-
--- what an element gives goes over
-pub some_goes : {A B : Type 0} → (f : A → Option B) (xs : List A) (i : ℕ) (d : A) (y : B) (done all done_then : List
-    B) →
-    i < length xs → f (get_or xs i d) ≡ Some y → done_then ≡ done ++ y ∷ [] →
-    done ++ filter_map f (drop i xs) ≡ all → done_then ++ filter_map f (drop (i + 1) xs) ≡ all
-some_goes f xs i d y done all done_then inside gives more were =
-    let rest = filter_map f (drop (i + 1) xs) in
-    grows done (y ∷ []) rest (filter_map f (drop i xs)) all done_then more
-    (at_drop_more (filter_map f) xs i d inside ∙ ap (λ o. cons_option o rest) gives) were
-
--- and where it gives nothing, nothing does
-pub none_goes : {A B : Type 0} → (f : A → Option B) (xs : List A) (i : ℕ) (d : A) (done all done_then : List B) →
-    i < length xs → f (get_or xs i d) ≡ None → done_then ≡ done →
-    done ++ filter_map f (drop i xs) ≡ all → done_then ++ filter_map f (drop (i + 1) xs) ≡ all
-none_goes f xs i d done all done_then inside gives same were =
-    let rest = filter_map f (drop (i + 1) xs) in
-    stays done rest (filter_map f (drop i xs)) all done_then same
-    (at_drop_more (filter_map f) xs i d inside ∙ ap (λ o. cons_option o rest) gives) were
-
--- from no row on there is none
-line_none : (base : ℕ → Option ℕ) (most : ℕ) → line base most None ≡ []
-line_none base zero = refl
-line_none base (suc most) = refl
-
--- so the list ends there
+-- where no row comes next the list ends
 pub exchanged_ends : (test : ℕ → Bool) (base : ℕ → Option ℕ) (most : ℕ) (next : Option ℕ) (done all : List ℕ) →
     next ≡ None → done ++ while_true test (line base most next) ≡ all → done ≡ all
 exchanged_ends test base most next done all none were =
@@ -127,21 +93,15 @@ module _ (known : List ℕ) where
         ∙ sym (among_both_lists (x ∷ xs) n
         ∙ ap (λ b. is_among known n || (b || is_among xs n)) (eq-eqb x n (sym e)) ∙ last (is_among known n))
     | inr apart ↦
-        then_is n ∙ ap (λ b. b || slice_index_or marks n false) (differs n x apart)
+        then_is n ∙ ap (λ b. b || slice_index_or marks n false) (ne_eqb n x apart)
         ∙ m n ∙ among_both_lists xs n
         ∙ sym (among_both_lists (x ∷ xs) n
-        ∙ ap (λ b. is_among known n || (b || is_among xs n)) (differs x n (λ e. apart (sym e))))
+        ∙ ap (λ b. is_among known n || (b || is_among xs n)) (ne_eqb x n (λ e. apart (sym e))))
   ]
     where
       last : (a : Bool) → a || true ≡ true
       last true = refl
       last false = refl
-
-      differs : (a b : ℕ) → (a ≡ b → ⊥) → (a == b) ≡ false
-      differs a b apart = elim (cases_Bool (a == b)) [
-        | inl e ↦ absurd (apart (eqb-true a b e))
-        | inr f ↦ f
-      ]
 
   -- and with one that was marked
   pub met_still : (marks : List Bool) (x : ℕ) (xs : List ℕ) → AreMet marks (known ++ xs) →

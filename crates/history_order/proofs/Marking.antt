@@ -5,14 +5,14 @@ use Rattle.std.specs.Prelude.{◌||◌, ◌==◌}
 use Rattle.std.proofs.lemmas.Bool.{cases_eq}
 use Rattle.std.proofs.lemmas.List.Folds.{list_any-append}
 use Rattle.plain_map.specs.declared.records.Record.{Record}
-use Rattle.core_model.specs.Setup.{Setup}
-use Rattle.core_model.specs.Reading.{is_among}
-use Rattle.core_model.specs.Order.{Closing, Piece, ByLookup, Placing, rows_with, directories_with, is_placed, lookups_of, pieces_of}
-use Rattle.core_placing.proofs.Lists.{In}
-use Rattle.core_placing.proofs.Turns.{after}
-use Rattle.core_reading.proofs.Book.{Book, Written}
-use Rattle.core_reading.proofs.Ledger.{Ledger}
-use Rattle.core_reading.proofs.Pieces.{look_piece}
+use Rattle.table_model.specs.Setup.{Setup}
+use Rattle.table_model.specs.Reading.{is_among}
+use Rattle.table_model.specs.Order.{Closing, Piece, ByLookup, Placing, rows_with, directories_with, is_placed, lookups_of, pieces_of}
+use Rattle.list_laws.proofs.Lists.{In}
+use Rattle.placing_laws.proofs.Turns.{after}
+use Rattle.closed_laws.proofs.Book.{Book, Written}
+use Rattle.closed_laws.proofs.Ledger.{Ledger}
+use Rattle.closed_laws.proofs.Pieces.{look_piece}
 use Rattle.history_order.proofs.Candidates.{IsUnits}
 use Rattle.history_order.specs.Parts.{open_looks, Marks}
 use Rattle.history_order.proofs.Looks.{looks_stay, look_closes}

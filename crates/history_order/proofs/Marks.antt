@@ -4,11 +4,10 @@ use Rattle.std.proofs.Common.{◌≡◌, ℕ, Bool, true, Option, Some, None, re
 use Rattle.std.specs.Option.{option_map_or}
 use Rattle.std.specs.List.{list_all}
 use Rattle.std.proofs.lemmas.Bool.{and_parts, and_from}
-use Rattle.plain_map.specs.declared.records.Record.{Record}
-use Rattle.core_model.specs.Setup.{Setup}
-use Rattle.core_model.specs.Reading.{directory_row, is_among}
-use Rattle.core_model.specs.Order.{Closing, Piece, ByBucketRow, ByDirectoryRow, ByLookup, Placing, first_rows, is_done, has_base}
-use Rattle.core_placing.proofs.Lists.{In, all_at, all_from, filter_map_in, in_filter_map}
+use Rattle.table_model.specs.Setup.{Setup}
+use Rattle.table_model.specs.Reading.{directory_row, is_among}
+use Rattle.table_model.specs.Order.{Closing, Piece, ByBucketRow, ByDirectoryRow, ByLookup, Placing, first_rows, is_done, has_base}
+use Rattle.list_laws.proofs.Lists.{In, all_at, all_from, filter_map_in, in_filter_map}
 use Rattle.history_order.specs.Parts.{base_of_row, bases_of, version_base, open_looks, Marks}
 use Rattle.history_order.proofs.Looks.{done_from, done_to}
 use Rattle.history_order.proofs.Bases.{in_option}
@@ -71,11 +70,6 @@ module _ (setup : Setup) (closing : Closing) where
         (λ r e. h.rows r (filter_map_in (base_of_row setup closing) firsts f r i e))))
     base_from (ByLookup r) h = sym (m.rows r.place) ∙ (h.rows r.place (inl refl)).marked
 
-    -- and where it is there it is marked, but for a lookup, whose row is placed and may have others open
-    pub row_base_to : (row : ℕ) → has_base setup.shape closing p (ByBucketRow row) ≡ true → (r : ℕ) →
-        base_of_row setup closing row ≡ Some r → IsMarkedDone placed looks r
-    row_base_to row h r e = by_done (base_of_row setup closing row) r h e
-
     -- of a directory row
     pub version_base_to : (row : ℕ) → has_base setup.shape closing p (ByDirectoryRow row) ≡ true →
         IsMarked (ByDirectoryRow row)
@@ -91,7 +85,3 @@ module _ (setup : Setup) (closing : Closing) where
               (all_at (λ g. is_done closing p (base_of_row setup closing g)) firsts f.0 parts.1 f.1) f.2;
           version = λ r e. by_version (directory_row setup.shape closing.words row).base r parts.0 e;
         }
-
-    -- a lookup waits for its row alone
-    pub look_base : (r : Record) → placed r.place ≡ true → has_base setup.shape closing p (ByLookup r) ≡ true
-    look_base r h = sym (m.rows r.place) ∙ h

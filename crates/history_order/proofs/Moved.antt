@@ -1,9 +1,9 @@
 -- What a turn changes in the tables: the marks tell the placing after it, and what it brings is set aside.
-use Rattle.std.proofs.Common.{◌≡◌, ℕ, ◌+◌, ◌-◌, ◌<◌, ◌≤◌, Bool, true, false, List, [], ◌∷◌, length, map, Option, Some, None, true≢false, refl, inl, inr, sym, ap, ◌∙◌, subst, arith, eqb-true, eq-eqb}
+use Rattle.std.proofs.Common.{◌≡◌, ℕ, ◌+◌, ◌-◌, ◌<◌, ◌≤◌, Bool, true, false, List, [], ◌∷◌, length, map, Option, Some, None, true≢false, refl, inl, inr, sym, ap, ◌∙◌, subst, arith, eq-eqb}
 use Rattle.std.specs.Prelude.{◌==◌, ◌||◌, not, if◌then◌else◌, slice_index, slice_index_or, slice_set, option_to_list}
 use Rattle.std.specs.Option.{option_map_or}
 use Rattle.std.specs.List.{range_with_len}
-use Rattle.std.proofs.lemmas.Bool.{cases_Bool, cases_eq, cases_lt}
+use Rattle.std.proofs.lemmas.Bool.{cases_eq, cases_lt, not-true, ne_eqb}
 use Rattle.std.proofs.lemmas.List.{get_or-set_same, get_or-set_other, get_or_past, length-set}
 use Rattle.std.proofs.lemmas.List.Folds.{list_any-append}
 use Rattle.std.proofs.lemmas.List.FromFn.{map-range_with_len_more}
@@ -13,13 +13,13 @@ use Rattle.plain_map.specs.declared.records.TheConstants.{MOST_SEATS}
 use Rattle.plain_map.specs.declared.full.FullKind.TheVariants.{BucketRows}
 use Rattle.plain_map.specs.History.{Placed, seat_of}
 use Rattle.word_rows.specs.Shape.{count_of}
-use Rattle.core_model.specs.Reading.{is_among}
-use Rattle.core_model.specs.Order.{Closing, Piece, ByBucketRow, ByDirectoryRow, ByLookup, Placing, calls_in, first_rows, is_placed, lookups_of, pieces_of}
-use Rattle.core_model.specs.Turns.{has_call_of}
-use Rattle.core_placing.proofs.Lists.{In, all_at, all_from, any_from, range_in}
-use Rattle.core_placing.proofs.Turns.{after}
-use Rattle.core_reading.proofs.Pieces.{piece_at, first_has}
-use Rattle.history_order.specs.Closing.{closing_with}
+use Rattle.table_model.specs.Reading.{is_among}
+use Rattle.table_model.specs.Order.{Closing, Piece, ByBucketRow, ByDirectoryRow, ByLookup, Placing, calls_in, first_rows, is_placed, lookups_of, pieces_of}
+use Rattle.table_model.specs.Turns.{has_call_of}
+use Rattle.list_laws.proofs.Lists.{In, all_at, all_from, any_from, range_in}
+use Rattle.placing_laws.proofs.Turns.{after}
+use Rattle.closed_laws.proofs.Pieces.{piece_at, first_has}
+use Rattle.table_model.specs.Closing.{closing_with}
 use Rattle.history_order.specs.Told.{Told}
 use Rattle.history_order.specs.Parts.{unit_of, base_of_row}
 use Rattle.history_order.specs.Filled.{Filled, IsUnit}
@@ -33,28 +33,17 @@ use Rattle.history_order.proofs.Looks.{look_closes}
 use Rattle.history_order.proofs.Marking.{marks_on, marks_look}
 use Rattle.history_order.proofs.Based.{MarksOf, found_version, first_versions}
 use Rattle.history_order.proofs.Nexts.{seats_few, unit_facts, calls_are, calls_same}
+use Rattle.std.proofs.Math.Bool.{or-true}
 
 -- nothing is added
 none_or : (b : Bool) → b ≡ (b || false)
 none_or true = refl
 none_or false = refl
 
-or_true : (b : Bool) → (b || true) ≡ true
-or_true true = refl
-or_true false = refl
-
 or_three : (a b c : Bool) → ((a || (b || false)) || c) ≡ (a || (b || c))
 or_three true b c = refl
 or_three false true c = refl
 or_three false false c = refl
-
-pub not_true : (b : Bool) → not b ≡ true → b ≡ false
-not_true true e = sym e
-not_true false e = refl
-
--- two numbers that differ
-differ : (a b : ℕ) → (a ≡ b → ⊥) → (a == b) ≡ false
-differ a b n = elim (cases_Bool (a == b)) [ inl e ↦ absurd (n (eqb-true a b e)) | inr e ↦ e ]
 
 -- with one more mark
 mark_one : (placed : List Bool) (row r : ℕ) → row < length placed →
@@ -63,12 +52,12 @@ mark_one placed row r inside = elim (cases_eq row r) [
   | inl e ↦
       subst (λ n. slice_index_or (slice_set placed row true) n false ≡ true) e
       (get_or-set_same placed row true false inside)
-      ∙ sym (or_true (slice_index_or placed r false))
+      ∙ sym (or-true (slice_index_or placed r false))
       ∙ ap (λ b. slice_index_or placed r false || (b || false)) (sym (eq-eqb row r e))
   | inr n ↦
       get_or-set_other placed row r true false (λ e. n (sym e))
       ∙ none_or (slice_index_or placed r false)
-      ∙ ap (λ b. slice_index_or placed r false || (b || false)) (sym (differ row r n))
+      ∙ ap (λ b. slice_index_or placed r false || (b || false)) (sym (ne_eqb row r n))
 ]
 
 -- with many
@@ -137,7 +126,7 @@ module _ (words : List ℕ) (logs : List (List Record)) (begun : List Pending) (
         seats_few words logs begun t found f,
       ))
       (λ s low. sym (calls_same words logs begun t found f unit x 0 0 s known is)
-      ∙ not_true (has_call_in found unit 0 s)
+      ∙ not-true (has_call_in found unit 0 s)
       (all_at (λ z. not (has_call_in found unit 0 z)) (range_with_len 0 MOST_SEATS) s h
       (range_in 0 MOST_SEATS s (omega arith) (omega (arith, low)))))
     where

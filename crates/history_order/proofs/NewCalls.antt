@@ -4,14 +4,14 @@ use Rattle.std.specs.Prelude.{◌==◌, nat_lt, is_some}
 use Rattle.std.specs.List.{range_with_len}
 use Rattle.std.proofs.lemmas.Bool.{and_parts, and_from, cases_Bool, not-true}
 use Rattle.plain_map.specs.History.{Placed, seat_of, number_of}
-use Rattle.core_model.specs.Setup.{Setup, seats_of}
-use Rattle.core_model.specs.Order.{Closing, updates_in_rows, new_number, new_in_rows, first_rows}
-use Rattle.core_model.specs.Turns.{has_call_of}
-use Rattle.core_placing.proofs.Lists.{In, any_at, any_from, all_at, all_from, in_flat_map, flat_map_in, in_range, range_in}
-use Rattle.core_reading.proofs.Book.{Book, Written}
-use Rattle.core_reading.proofs.Ledger.{Ledger, IsCallOf, call_at, call_at_in, in_call_at, new_from, row_new, version_new}
+use Rattle.table_model.specs.Setup.{Setup, seats_of}
+use Rattle.table_model.specs.Order.{Closing, updates_in_rows, new_number, new_in_rows, first_rows}
+use Rattle.table_model.specs.Turns.{has_call_of}
+use Rattle.list_laws.proofs.Lists.{In, any_at, any_from, all_at, all_from, in_flat_map, flat_map_in, in_range, range_in}
+use Rattle.closed_laws.proofs.Book.{Book, Written}
+use Rattle.closed_laws.proofs.Ledger.{Ledger, IsCallOf, call_at, call_at_in, in_call_at, new_from, row_new, version_new}
 use Rattle.history_order.specs.Columns.{is_caller, is_free}
-use Rattle.history_order.proofs.After.{both_ways}
+use Rattle.list_laws.proofs.Truths.{both_ways}
 
 module _ (setup : Setup) (closing : Closing) (k : Book) (w : Written setup closing.words k)
     (l : Ledger setup closing k) where

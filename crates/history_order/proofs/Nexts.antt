@@ -8,14 +8,14 @@ use Rattle.plain_map.specs.declared.records.Record.{Record}
 use Rattle.plain_map.specs.declared.records.Pending.{Pending}
 use Rattle.plain_map.specs.declared.records.TheConstants.{MOST_SEATS}
 use Rattle.plain_map.specs.History.{Placed, answered, pending, seat_of, number_of, seen_of}
-use Rattle.core_model.specs.Setup.{seats_of}
-use Rattle.core_model.specs.Order.{Closing, Piece, ByBucketRow, ByDirectoryRow, ByLookup, Placing, calls_in, calls_of, is_next, has_base, is_ready, pieces_of}
-use Rattle.core_model.specs.Turns.{has_call_of}
-use Rattle.core_placing.proofs.Lists.{In, all_at, all_from, any_at, any_from, range_in}
-use Rattle.core_placing.proofs.Alone.{Alone}
-use Rattle.core_reading.proofs.Pieces.{piece_at}
-use Rattle.core_reading.proofs.Ends.{call_there}
-use Rattle.history_order.specs.Closing.{closing_with, log_of}
+use Rattle.table_model.specs.Setup.{seats_of}
+use Rattle.table_model.specs.Order.{Closing, Piece, ByBucketRow, ByDirectoryRow, ByLookup, Placing, calls_in, calls_of, is_next, has_base, is_ready, pieces_of}
+use Rattle.table_model.specs.Turns.{has_call_of}
+use Rattle.list_laws.proofs.Lists.{In, all_at, all_from, any_at, any_from, range_in}
+use Rattle.placing_laws.proofs.Alone.{Alone}
+use Rattle.closed_laws.proofs.Pieces.{piece_at}
+use Rattle.closed_laws.proofs.Ends.{call_there}
+use Rattle.table_model.specs.Closing.{closing_with, log_of}
 use Rattle.history_order.specs.Told.{Told}
 use Rattle.history_order.specs.Parts.{unit_of}
 use Rattle.history_order.specs.Filled.{Filled, IsUnit, IsVersion}
@@ -30,9 +30,12 @@ use Rattle.history_order.proofs.Candidates.{IsUnits}
 use Rattle.history_order.proofs.Counted.{Counted, next_comes, comes_next, is_the_next}
 use Rattle.history_order.proofs.Units.{units}
 use Rattle.history_order.proofs.Based as B
-use Rattle.history_order.proofs.Based.{MarksOf, version_from, version_to, row_base_same, same_bool}
+use Rattle.history_order.proofs.Based.{MarksOf, version_from, version_to, row_base_same}
+use Rattle.list_laws.proofs.Truths.{both_ways}
 use Rattle.history_order.proofs.Rising.{calls_rise, rising_one}
 use Rattle.history_order.proofs.Numbered as N
+use Rattle.list_laws.proofs.Options.{some_same}
+use Rattle.std.proofs.Math.Bool.{or-false}
 
 -- what is found and passes
 pub some_passes : {A : Type 0} → (g : A → Bool) (o : Option A) → option_map_or g o false ≡ true →
@@ -44,11 +47,6 @@ some_passes g (Some y) h = (y, refl, h)
 or_then : (a b : Bool) → (not a || b) ≡ true → a ≡ true → b ≡ true
 or_then true b h e = h
 or_then false b h e = absurd (true≢false (sym e))
-
--- nothing is added
-or_false : (b : Bool) → (b || false) ≡ b
-or_false true = refl
-or_false false = refl
 
 -- where the first does not hold, or the second does
 or_none : (a b : Bool) → a ≡ false → (not a || b) ≡ true
@@ -90,7 +88,7 @@ module _ (words : List ℕ) (logs : List (List Record)) (begun : List Pending) (
       has_call_in found unit seat other ≡ has_call_of other (calls_in t.setup.shape closing x)
   calls_same Lookup x seat at other i is =
       subst (λ z. (seat == other) ≡ has_call_of other (calls_in t.setup.shape closing z)) (sym is.2)
-      (ap (λ s. s == other) (sym (t.numbered seat at is.0 is.1).0) ∙ sym (or_false (is.0.seat == other)))
+      (ap (λ s. s == other) (sym (t.numbered seat at is.0 is.1).0) ∙ sym (or-false (is.0.seat == other)))
   calls_same (Row row) x seat at other i is =
       f.callers row other (subst (λ z. In z (pieces_of t.setup.shape closing)) is i)
       ∙ ap (λ z. has_call_of other (calls_in t.setup.shape closing z)) (sym is)
@@ -225,12 +223,9 @@ module _ (words : List ℕ) (logs : List (List Record)) (begun : List Pending) (
             sym (f.unit_none other (many other) few none) ∙ e in cc)
         told_unit other few e (Some u) some =
             let y = f.unit_some other (many other) u few some in
-            let same : y.0 ≡ x = one (sym y.2 ∙ e) in
+            let same : y.0 ≡ x = some_same (sym y.2 ∙ e) in
             same_unit unit u x seat (many seat) other (many other) is
             (subst (IsUnit words logs begun t other (many other) u) same y.1)
-          where
-            one : {a b : Piece} → Some a ≡ Some b → a ≡ b
-            one e = cc
 
         of_seat : (other : ℕ) → has_call_of other (calls_in t.setup.shape closing x) ≡ true →
             is_next_in logs begun found count unit other ≡ true
@@ -303,7 +298,7 @@ module _ (words : List ℕ) (logs : List (List Record)) (begun : List Pending) (
       ready_same e =
           ap (λ (o : Option Unit). option_map_or (λ u. has_base_in t.setup.shape words logs found progress count seat u
           && are_next_in logs begun found count seat u) o false) e
-          ∙ same_bool (has_base_in t.setup.shape words logs found progress count seat unit
+          ∙ both_ways (has_base_in t.setup.shape words logs found progress count seat unit
           && are_next_in logs begun found count seat unit) (is_ready t.setup.shape closing p x)
           (λ h.
           let parts = and_parts (has_base_in t.setup.shape words logs found progress count seat unit)

@@ -6,10 +6,10 @@ use Rattle.std.proofs.lemmas.Option.{slice_get_past, get_or_from_slice_get}
 use Rattle.plain_map.specs.declared.records.Record.{Record}
 use Rattle.plain_map.specs.declared.records.Pending.{Pending}
 use Rattle.plain_map.specs.History.{Placed, answered, pending, seat_of, number_of}
-use Rattle.core_model.specs.Order.{calls_of}
-use Rattle.core_placing.proofs.Lists.{In, in_both, in_right, in_map, map_in, in_flat_map, find_in}
-use Rattle.core_reading.proofs.Pieces.{pending_one}
-use Rattle.history_order.specs.Closing.{closing_with, log_of}
+use Rattle.table_model.specs.Order.{calls_of}
+use Rattle.list_laws.proofs.Lists.{In, in_both, in_right, in_map, map_in, in_flat_map, find_in}
+use Rattle.closed_laws.proofs.Pieces.{pending_one}
+use Rattle.table_model.specs.Closing.{closing_with, log_of}
 use Rattle.history_order.specs.Told.{Told}
 use Rattle.history_order.specs.Calls.{call_at, record_at}
 use Rattle.history_order.proofs.Units.{find_none}

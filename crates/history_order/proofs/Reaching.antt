@@ -1,11 +1,11 @@
 -- What is reached by free turns: what each turn keeps holds of it, and where nothing is left it is the one order.
 use Rattle.std.proofs.Common.{◌≡◌, ℕ, List, [], ◌∷◌, ◌++◌, refl, sym, ap, ◌∙◌, subst}
-use Rattle.core_model.specs.Setup.{Setup}
-use Rattle.core_model.specs.Order.{Closing, Piece, Placing, start_of, order_of}
-use Rattle.core_model.specs.Turns.{IsFreeTurn, AreFreeTurns}
-use Rattle.core_model.specs.Histories.{closed}
-use Rattle.core_placing.proofs.Turns.{Turn, after}
-use Rattle.core_placing.proofs.Turned.{turns_do_not_matter}
+use Rattle.table_model.specs.Setup.{Setup}
+use Rattle.table_model.specs.Order.{Closing, Piece, Placing, start_of, order_of}
+use Rattle.table_model.specs.Turns.{IsFreeTurn, AreFreeTurns}
+use Rattle.table_model.specs.Histories.{closed}
+use Rattle.placing_laws.proofs.Turns.{Turn, after}
+use Rattle.placing_laws.proofs.Turned.{turns_do_not_matter}
 use Rattle.history_order.specs.Turns.{last_of, Leads, Reaches, ReachedIsTheOrder}
 
 module _ (setup : Setup) (closing : Closing) where

@@ -1,22 +1,18 @@
 -- The calls of a piece stand in the order of their seats, one of each seat at most. So what is told seat by seat is
 -- told in their order.
-use Rattle.std.proofs.Common.{◌≡◌, ℕ, zero, suc, ◌+◌, ◌<◌, ◌≤◌, ◌⊎◌, false, List, [], ◌∷◌, ◌++◌, map, Option, Some, None, refl, inl, inr, sym, ap, ◌∙◌, subst, arith, eqb-true}
-use Rattle.std.specs.Prelude.{◌==◌, ◌||◌, flat_map, find, option_to_list}
+use Rattle.std.proofs.Common.{◌≡◌, ℕ, zero, suc, ◌+◌, ◌<◌, ◌≤◌, ◌⊎◌, false, List, [], ◌∷◌, ◌++◌, map, Option, Some, None, refl, inl, inr, sym, ap, ◌∙◌, subst, arith}
+use Rattle.std.specs.Prelude.{◌||◌, flat_map, find, option_to_list}
 use Rattle.std.specs.Option.{option_map_or}
 use Rattle.std.specs.List.{range_with_len}
-use Rattle.std.proofs.lemmas.Bool.{cases_Bool, cases_eq}
+use Rattle.std.proofs.lemmas.Bool.{cases_eq, ne_eqb}
 use Rattle.plain_map.specs.History.{Placed, seat_of}
-use Rattle.core_model.specs.Setup.{Setup, seats_of}
-use Rattle.core_model.specs.Order.{Closing, Piece, ByBucketRow, ByDirectoryRow, ByLookup, is_call, calls_in, calls_of, first_rows, new_in_rows, rank_of_calls}
-use Rattle.core_model.specs.Turns.{has_call_of}
-use Rattle.core_placing.proofs.Lists.{In}
-use Rattle.core_reading.proofs.Book.{Book, Written}
-use Rattle.core_reading.proofs.Ledger.{Ledger, call_at_in}
-use Rattle.core_reading.proofs.Ledger as L
-
--- two numbers that differ are not one
-pub not_one : (a b : ℕ) → (a ≡ b → ⊥) → (a == b) ≡ false
-not_one a b n = elim (cases_Bool (a == b)) [ inl e ↦ absurd (n (eqb-true a b e)) | inr e ↦ e ]
+use Rattle.table_model.specs.Setup.{Setup, seats_of}
+use Rattle.table_model.specs.Order.{Closing, Piece, ByBucketRow, ByDirectoryRow, ByLookup, is_call, calls_in, calls_of, first_rows, new_in_rows, rank_of_calls}
+use Rattle.table_model.specs.Turns.{has_call_of}
+use Rattle.list_laws.proofs.Lists.{In}
+use Rattle.closed_laws.proofs.Book.{Book, Written}
+use Rattle.closed_laws.proofs.Ledger.{Ledger, call_at_in}
+use Rattle.closed_laws.proofs.Ledger as L
 
 -- from this seat on the seats rise
 abbrev pub Rising : ℕ → List Placed → Type 0
@@ -57,7 +53,7 @@ rising_rank from (d ∷ cs) c r (inr i) = let rest = rising_least (suc (seat_of 
 none_before : (seat from : ℕ) (cs : List Placed) → Rising from cs → seat < from → has_call_of seat cs ≡ false
 none_before seat from [] r less = refl
 none_before seat from (c ∷ cs) r less =
-    ap (λ b. b || has_call_of seat cs) (not_one (seat_of c) seat (λ e. omega (arith, e, less, r.0)))
+    ap (λ b. b || has_call_of seat cs) (ne_eqb (seat_of c) seat (λ e. omega (arith, e, less, r.0)))
     ∙ none_before seat (suc (seat_of c)) cs r.1 (omega (arith, less, r.0))
 
 -- what is told seat by seat, one for each call and nothing for other seats, is told in the calls' order
@@ -94,7 +90,7 @@ told_in_order g h from (suc many) (c ∷ cs) r few has none =
         (rest (rising_before (suc (seat_of c)) (from + 1) cs (omega (arith, is)) r.1)
         (λ d i. omega (arith, few d (inr i))) (λ d i. has d (inr i))
         (λ seat past e. none seat (omega (arith, past))
-        (ap (λ b. b || has_call_of seat cs) (not_one (seat_of c) seat (λ s. omega (arith, s, is, past))) ∙ e)))
+        (ap (λ b. b || has_call_of seat cs) (ne_eqb (seat_of c) seat (λ s. omega (arith, s, is, past))) ∙ e)))
     here (inr n) rest again =
         let past : from + 1 ≤ seat_of c = omega (arith, r.0, n) in
         ap (λ xs. xs ++ flat_map g (range_with_len (from + 1) many))

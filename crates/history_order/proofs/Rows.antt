@@ -1,8 +1,7 @@
 -- Rows that are written one after the other, and lists by seat that are written one after the other.
 use Rattle.std.proofs.Common.{◌≡◌, ◌≢◌, ℕ, ◌+◌, ◌<◌, ◌≤◌, Bool, false, List, [], ◌∷◌, ◌++◌, Vec, Global, length, map, take, drop, get_or, Option, Some, None, refl, inl, inr, sym, ap, ◌∙◌, subst, arith}
-use Rattle.std.specs.Prelude.{◌&&◌, nat_lt, is_some, option_to_list}
+use Rattle.std.specs.Prelude.{option_to_list}
 use Rattle.std.specs.List.{cons_option}
-use Rattle.std.specs.Option.{option_map_or}
 use Rattle.std.specs.Vec.{with_items}
 use Rattle.std.proofs.Math.ListN.{set}
 use Rattle.std.proofs.Math.Seq.{take-append_seam}
@@ -10,13 +9,12 @@ use Rattle.std.proofs.lemmas.List.{at_drop_more, get_or-map, get_or-set_other, g
 use Rattle.std.proofs.lemmas.Bool.{cases_eq}
 use Rattle.plain_map.specs.declared.records.Record.{Record}
 use Rattle.word_rows.specs.Shape.{Shape}
-use Rattle.core_model.specs.Reading.{first_row}
-use Rattle.core_model.specs.Order.{new_number}
-use Rattle.history_order.specs.Closing.{log_of}
-use Rattle.history_order.specs.Columns.{IsUnitPut, after_all, is_caller, look_place, numbered_from, row_place, version_place, written}
+use Rattle.table_model.specs.Reading.{first_row}
+use Rattle.table_model.specs.Closing.{log_of}
+use Rattle.history_order.specs.Columns.{IsUnitPut, after_all, look_place, numbered_from, row_place, version_place, written}
 use Rattle.history_order.specs.Filling.{firsts_in}
 use Rattle.history_order.specs.Fills.{AreUnits}
-use Rattle.history_order.proofs.Loops.{grows}
+use Rattle.closed_words.proofs.LoopLemmas.{grows}
 use Rattle.history_order.proofs.Writes.{flag_written}
 use Rattle.history_order.specs.declared.tables.Unit.{Unit}
 use Rattle.history_order.specs.declared.tables.Unit.TheVariants.{Lookup, Row, Version as VersionAt}
@@ -136,16 +134,6 @@ first_goes shape words buckets i inside done done_then all first is more were =
     consed : (o : Option ℕ) (xs : List ℕ) → cons_option o xs ≡ option_to_list o ++ xs
     consed None xs = refl
     consed (Some x) xs = refl
-
--- of one row a seat is a caller where one of its updates is new in it
-pub caller_one : (shape : Shape) (words : List ℕ) (row seat : ℕ) → is_caller shape words (row ∷ []) seat
-    ≡ (nat_lt seat shape.settings.seats && is_some (new_number shape words seat row))
-caller_one shape words row seat =
-    ap (λ b. nat_lt seat shape.settings.seats && b) (one (new_number shape words seat row))
-  where
-    one : (o : Option ℕ) → is_some (option_map_or Some o None) ≡ is_some o
-    one None = refl
-    one (Some n) = refl
 
 -- the lists of the first seats have come to be something, and those of the others are as they were
 abbrev pub Went : {A : Type 0} → (becomes : ℕ → List A → List A → Type 0) (first : List (List A)) (count : ℕ)

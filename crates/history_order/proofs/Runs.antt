@@ -10,10 +10,10 @@ use Rattle.plain_map.specs.declared.records.CallId.{CallId}
 use Rattle.plain_map.specs.declared.records.TheConstants.{MOST_SEATS}
 use Rattle.plain_map.specs.History.{ids_of}
 use Rattle.word_rows.specs.Shape.{Shape}
-use Rattle.core_model.specs.Setup.{seats_of}
-use Rattle.core_model.specs.Order.{Placing, is_ready, start_of, order_of}
-use Rattle.core_placing.proofs.Lists.{In, in_right}
-use Rattle.history_order.specs.Closing.{closing_with}
+use Rattle.table_model.specs.Setup.{seats_of}
+use Rattle.table_model.specs.Order.{Placing, is_ready, start_of, order_of}
+use Rattle.list_laws.proofs.Lists.{In, in_right}
+use Rattle.table_model.specs.Closing.{closing_with}
 use Rattle.history_order.specs.Told.{Told}
 use Rattle.history_order.specs.Filled.{Filled}
 use Rattle.history_order.specs.Begins.{Begins}
@@ -23,7 +23,8 @@ use Rattle.history_order.specs.declared.tables.Unit.TheVariants.{Row, Version as
 use Rattle.history_order.specs.declared.tables.Found.{Found}
 use Rattle.history_order.specs.declared.tables.Progress.{Progress}
 use Rattle.history_order.proofs.Standing.{Stands}
-use Rattle.history_order.proofs.Moved.{row_inside, not_true}
+use Rattle.history_order.proofs.Moved.{row_inside}
+use Rattle.std.proofs.lemmas.Bool.{not-true}
 use Rattle.history_order.proofs.Going.{Going, going_start, going_drop}
 use Rattle.history_order.proofs.Freed.{going_same, going_row, going_version, version_is, version_firsts}
 use Rattle.history_order.proofs.Nexts.{seats_few}
@@ -118,7 +119,7 @@ module _ (shape : Shape) (words : List ℕ) (logs : List (List Record)) (begun :
         (left_of found new < left_of found now) × (length new.aside.items ≤ length now.aside.items + 1)
     row_less now new row placed aside due w = (
       row_falls found now new row w (popped_inside now row placed aside)
-          (not_true (is_marked now.placed.items row)
+          (not-true (is_marked now.placed.items row)
           (and_parts (not (is_marked now.placed.items row)) (has_marked_base shape words found now (Row row)) due).0),
       row_aside_few found now new row w,
     )

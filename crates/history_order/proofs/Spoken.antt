@@ -8,10 +8,10 @@ use Rattle.plain_map.specs.declared.records.Record.{Record}
 use Rattle.plain_map.specs.declared.records.Pending.{Pending}
 use Rattle.plain_map.specs.declared.records.TheConstants.{MOST_SEATS}
 use Rattle.plain_map.specs.History.{Placed, seat_of, number_of, id_of, ids_of}
-use Rattle.core_model.specs.Setup.{seats_of}
-use Rattle.core_model.specs.Order.{Placing, calls_in, is_ready}
-use Rattle.core_model.specs.Turns.{has_call_of}
-use Rattle.core_placing.proofs.Lists.{In, any_at, any_from}
+use Rattle.table_model.specs.Setup.{seats_of}
+use Rattle.table_model.specs.Order.{Placing, calls_in, is_ready}
+use Rattle.table_model.specs.Turns.{has_call_of}
+use Rattle.list_laws.proofs.Lists.{In, any_at, any_from}
 use Rattle.history_order.specs.Told.{Told}
 use Rattle.history_order.specs.Parts.{unit_of}
 use Rattle.history_order.specs.Filled.{Filled}

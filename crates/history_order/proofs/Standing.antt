@@ -1,24 +1,25 @@
 -- How a loop over turns stands: what it has reached, the numbers of each seat's placed calls, and the pieces without
 -- calls that are set aside. A turn of a piece without calls keeps it, and so does one of the piece that comes next; and
 -- where nothing is aside and no seat has a ready candidate, the one order is made.
-use Rattle.std.proofs.Common.{◌≡◌, ◌≢◌, ℕ, suc, ◌+◌, ◌<◌, arith, true, List, [], ◌++◌, Option, refl, inl, inr, sym, ap, ◌∙◌, subst, append-nil}
+use Rattle.std.proofs.Common.{◌≡◌, ◌≢◌, ℕ, ◌+◌, ◌<◌, arith, true, List, [], ◌++◌, Option, refl, inl, inr, sym, ap, ◌∙◌, subst, append-nil}
 use Rattle.std.proofs.lemmas.Bool.{and_parts, and_from}
 use Rattle.std.specs.List.{list_all}
-use Rattle.core_model.specs.Setup.{Setup, seats_of}
-use Rattle.core_model.specs.Reading.{is_among}
-use Rattle.core_model.specs.Order.{Closing, Piece, ByBucketRow, ByDirectoryRow, Placing, calls_in, is_next, has_base, is_ready, is_placed, start_of, order_of}
-use Rattle.core_placing.proofs.Lists.{In, in_at}
-use Rattle.core_placing.proofs.Turns.{Turn, after}
-use Rattle.core_placing.proofs.Alone.{Alone}
-use Rattle.core_reading.proofs.Book.{Book, Written}
-use Rattle.core_reading.proofs.Ledger.{Ledger}
-use Rattle.core_reading.proofs.Pieces.{piece_at}
-use Rattle.core_reading.proofs.Ends.{call_there}
+use Rattle.table_model.specs.Setup.{Setup, seats_of}
+use Rattle.table_model.specs.Reading.{is_among}
+use Rattle.table_model.specs.Order.{Closing, Piece, ByBucketRow, ByDirectoryRow, Placing, calls_in, is_next, has_base, is_ready, is_placed, start_of, order_of}
+use Rattle.list_laws.proofs.Lists.{In, in_at}
+use Rattle.placing_laws.proofs.Turns.{Turn, after}
+use Rattle.placing_laws.proofs.Alone.{Alone}
+use Rattle.closed_laws.proofs.Book.{Book, Written}
+use Rattle.closed_laws.proofs.Ledger.{Ledger}
+use Rattle.closed_laws.proofs.Pieces.{piece_at}
+use Rattle.closed_laws.proofs.Ends.{call_there}
 use Rattle.history_order.specs.Turns.{Reaches, rank_in}
 use Rattle.history_order.proofs.Reaching.{leads_on, reached_ends}
 use Rattle.history_order.proofs.Counted.{Counted, counted_step, more_of}
 use Rattle.history_order.proofs.Candidates.{IsUnits, NoneOf, NoneFree, reached_stays, comes_next, nothing_left}
 use Rattle.history_order.proofs.Aside.{AllAside, Touches, aside_on}
+use Rattle.std.proofs.Math.Numerals.{add-one}
 
 module _ (setup : Setup) (closing : Closing) where
   -- how it stands
@@ -26,17 +27,6 @@ module _ (setup : Setup) (closing : Closing) where
     pub reaches : Reaches setup.shape closing p
     pub counted : Counted setup closing many p
     pub all : AllAside setup closing (λ x. In x aside) p
-
-  -- a piece that is not left, or has not its base, need not be aside
-  pub put_away : (many : ℕ → ℕ) (aside then : List Piece) (p : Placing) (y : Piece) → Stands many aside p →
-      ((x : Piece) → x ≢ y → In x aside → In x then) →
-      (In y p.left → has_base setup.shape closing p y ≡ true → ⊥) → Stands many then p
-  put_away many aside then p y s keep out = record {
-    reaches = s.reaches;
-    counted = s.counted;
-    all = λ x i free base. keep x (λ e. out (subst (λ z. In z p.left) e i)
-        (subst (λ z. has_base setup.shape closing p z ≡ true) e base)) (s.all x i free base);
-  }
 
   -- only those that are left, have no calls and have their base need be aside
   pub set_less : (many : ℕ → ℕ) (aside then : List Piece) (p : Placing) → Stands many aside p →
@@ -143,7 +133,7 @@ module _ (setup : Setup) (closing : Closing) (k : Book) (w : Written setup closi
               left = t.stands;
               ready = t.ready;
               free = inr (comes_next setup closing k w l unit_of u p s.reaches many s.counted (none_free s) seat at y
-                  inside none t (rank ∙ one_more seat));
+                  inside none t (rank ∙ add-one seat));
               placed = refl;
             });
         counted = counted_step setup closing many p at y t i stays.alone
@@ -151,9 +141,6 @@ module _ (setup : Setup) (closing : Closing) (k : Book) (w : Written setup closi
             (piece_at setup closing k w l y (stays.kept.known y i)) m)) s.counted;
         all = aside_on setup closing k w l unit_of u (λ x. In x []) (λ x. In x then) p at y stays t s.all a.kept a.new;
       }
-    where
-      one_more : (n : ℕ) → n + 1 ≡ suc n
-      one_more n = omega arith
 
   -- and where no seat has one, the order is made
   pub order_made : (s : Stands setup closing many [] p) →

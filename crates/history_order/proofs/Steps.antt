@@ -1,15 +1,9 @@
 -- One step of the loops that tell calls and place rows.
-use Rattle.std.proofs.Common.{◌≡◌, ℕ, ◌+◌, ◌<◌, ◌≤◌, List, [], ◌∷◌, ◌++◌, length, take, get_or, inl, inr, sym, ap, ◌∙◌, subst, arith, append_assoc, append-nil}
+use Rattle.std.proofs.Common.{◌≡◌, ℕ, ◌+◌, ◌<◌, ◌≤◌, List, [], ◌∷◌, ◌++◌, length, take, get_or, inl, inr, ap, ◌∙◌, subst, arith, append-nil}
 use Rattle.std.specs.Prelude.{flat_map, slice_index, slice_set}
 use Rattle.std.proofs.lemmas.Bool.{cases_lt}
 use Rattle.std.proofs.lemmas.List.{get_or-set_same, get_or-set_other, take_more}
-use Rattle.core_placing.proofs.Lists.{flat_map_append}
-
--- a part goes over to what is done
-pub grows : {B : Type 0} → (done part rest now all done_then : List B) → done_then ≡ done ++ part →
-    now ≡ part ++ rest → done ++ now ≡ all → done_then ++ rest ≡ all
-grows done part rest now all done_then more is were =
-    ap (λ xs. xs ++ rest) more ∙ append_assoc done part rest ∙ ap (λ xs. done ++ xs) (sym is) ∙ were
+use Rattle.list_laws.proofs.Lists.{flat_map_append}
 
 -- with the number at this place set, the numbers up to it are as they are to be
 pub set_done : (wanted : ℕ → ℕ) (count then : List ℕ) (at value : ℕ) → at < length count →

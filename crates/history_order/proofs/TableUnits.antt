@@ -9,16 +9,16 @@ use Rattle.std.proofs.lemmas.List.FromFn.{get_or-map-range_with_len, length-rang
 use Rattle.plain_map.specs.declared.records.Record.{Record}
 use Rattle.plain_map.specs.declared.records.Pending.{Pending}
 use Rattle.plain_map.specs.History.{Placed, answered, pending, seat_of, number_of}
-use Rattle.core_model.specs.Setup.{seats_of}
-use Rattle.core_model.specs.SeatStates.{is_update}
-use Rattle.core_model.specs.Reading.{bucket_row, first_row}
-use Rattle.core_model.specs.Order.{Closing, Piece, ByBucketRow, ByDirectoryRow, ByLookup, calls_in, calls_of, lookups_of, pieces_of, new_number, new_in_rows, number_beside, first_rows, updates_in_rows}
-use Rattle.core_placing.proofs.Lists.{In, in_both, in_map, in_flat_map, flat_map_in, in_filter, filter_in, in_filter_map}
-use Rattle.core_reading.proofs.Read.{base_is, first_is}
-use Rattle.core_reading.proofs.Ledger.{new_from}
-use Rattle.core_reading.proofs.Ends.{call_there}
-use Rattle.core_reading.proofs.Pieces.{PieceAt, RowAt, piece_at, row_piece, dir_piece, look_piece}
-use Rattle.history_order.specs.Closing.{closing_with, log_of}
+use Rattle.table_model.specs.Setup.{seats_of}
+use Rattle.plain_map.specs.Calls.{is_update}
+use Rattle.table_model.specs.Reading.{bucket_row, first_row}
+use Rattle.table_model.specs.Order.{Closing, Piece, ByBucketRow, ByDirectoryRow, ByLookup, calls_in, calls_of, lookups_of, pieces_of, new_number, new_in_rows, number_beside, first_rows, updates_in_rows}
+use Rattle.list_laws.proofs.Lists.{In, in_both, in_map, in_flat_map, flat_map_in, in_filter, filter_in, in_filter_map}
+use Rattle.closed_laws.proofs.Read.{base_is, first_is}
+use Rattle.closed_laws.proofs.Ledger.{new_from}
+use Rattle.closed_laws.proofs.Ends.{call_there}
+use Rattle.closed_laws.proofs.Pieces.{PieceAt, RowAt, piece_at, row_piece, dir_piece, look_piece}
+use Rattle.table_model.specs.Closing.{closing_with, log_of}
 use Rattle.history_order.specs.Parts.{unit_of}
 use Rattle.history_order.specs.Told.{Told}
 use Rattle.history_order.specs.Filled.{IsUnit}
@@ -33,6 +33,8 @@ use Rattle.history_order.proofs.Units.{units}
 use Rattle.history_order.proofs.After.{after_cases, place_number, number_place, numbered_in, in_numbered, at_in}
 use Rattle.history_order.proofs.Exchanges.{rows_turned, LeavesAt, leaves_at, before_none, new_named, new_leaves_are, entry_from, exchanged_from, exchanged_to}
 use Rattle.history_order.proofs.NewCalls.{HaveCalls, row_calls, version_calls, call_new, new_call}
+use Rattle.std.proofs.Math.Nat.{zero-add}
+use Rattle.list_laws.proofs.Places.{stands_there as there}
 
 -- one value
 pub some_one : {A : Type 0} → (x y : A) → Some x ≡ Some y → x ≡ y
@@ -43,12 +45,6 @@ list_in : {A : Type 0} → (lists : List (List A)) (i : ℕ) → i < length list
 list_in [] i less = absurd (omega (arith, less))
 list_in (xs ∷ lists) zero less = inl refl
 list_in (xs ∷ lists) (suc i) less = inr (list_in lists i (omega (arith, less)))
-
--- what is there at a place below the length
-there : {A : Type 0} → (xs : List A) (i : ℕ) → i < length xs → (x : A) × (slice_get xs i ≡ Some x)
-there [] i less = absurd (omega (arith, less))
-there (x ∷ xs) zero less = (x, refl)
-there (x ∷ xs) (suc i) less = there xs i (omega (arith, less))
 
 module _ (words : List ℕ) (logs : List (List Record)) (begun : List Pending) (t : Told words logs begun) where
   abbrev pub closing : Closing
@@ -146,12 +142,9 @@ module _ (words : List ℕ) (logs : List (List Record)) (begun : List Pending) (
       subst (λ rs. LeavesAt t.setup words t.book t.written v (get_or (leaves_from t.setup.shape words [] rs) v []))
       (sym (rows_turned t.setup words t.book t.written))
       (subst (λ n. LeavesAt t.setup words t.book t.written n (get_or (leaves_from t.setup.shape words []
-      (map t.book.dir_row (range_with_len 0 (suc t.book.dir_top)))) v [])) (none v)
+      (map t.book.dir_row (range_with_len 0 (suc t.book.dir_top)))) v [])) (zero-add v)
       (leaves_at t.setup words t.book t.written [] 0 (suc t.book.dir_top) v
       (before_none t.setup words t.book t.written) (omega (arith, o))))
-    where
-      none : (n : ℕ) → 0 + n ≡ n
-      none n = omega arith
 
   -- the first rows of a later version
   pub firsts_are : (v : ℕ) → v < t.book.dir_top →
@@ -316,7 +309,7 @@ module _ (words : List ℕ) (logs : List (List Record)) (begun : List Pending) (
                 | inl wrote ↦
                     let v = numbered_in 0 found.versions.items wrote.by wrote.there in
                     let same : VersionAt v.0 ≡ unit =
-                    ap VersionAt (sym (v.1 ∙ none v.0))
+                    ap VersionAt (sym (v.1 ∙ zero-add v.0))
                     ∙ some_one (VersionAt wrote.by.0) unit (sym wrote.is ∙ sym kept.is ∙ e) in
                     subst (Has seat place) same
                     (version_unit seat place v.0 wrote.by.1 inside v.2 wrote.here)
@@ -331,9 +324,6 @@ module _ (words : List ℕ) (logs : List (List Record)) (begun : List Pending) (
                     ]
               ]
         ]
-      where
-        none : (n : ℕ) → 0 + n ≡ n
-        none n = omega arith
 
     -- where none was written there is none
     pub no_unit : (seat place : ℕ) (x : Piece) (c : Placed) → seat < seats_of t.setup →

@@ -8,14 +8,15 @@ use Rattle.plain_map.specs.declared.records.Record.{Record}
 use Rattle.plain_map.specs.declared.records.Pending.{Pending}
 use Rattle.plain_map.specs.declared.full.FullKind.TheVariants.{BucketRows}
 use Rattle.word_rows.specs.Shape.{Shape, count_of}
-use Rattle.core_model.specs.Reading.{first_row, is_among}
-use Rattle.core_model.specs.Order.{Piece, ByBucketRow, ByDirectoryRow, ByLookup, calls_in, lookups_of, pieces_of, first_rows, rows_with, start_of}
-use Rattle.core_model.specs.Turns.{has_call_of}
-use Rattle.core_placing.proofs.Lists.{In, in_filter, filter_in, filter_map_in}
-use Rattle.core_reading.proofs.Lines.{among_is_in, in_is_among}
-use Rattle.core_reading.proofs.Read.{first_is}
-use Rattle.core_reading.proofs.Ledger.{base_then}
-use Rattle.core_reading.proofs.Pieces.{PieceAt, RowAt, piece_at, look_piece, first_has, start_row, in_start_rows, start_dir, in_start_dirs}
+use Rattle.table_model.specs.Reading.{first_row, is_among}
+use Rattle.table_model.specs.Order.{Piece, ByBucketRow, ByDirectoryRow, ByLookup, calls_in, lookups_of, pieces_of, first_rows, rows_with, start_of}
+use Rattle.table_model.specs.Turns.{has_call_of}
+use Rattle.list_laws.proofs.Lists.{In, in_filter, filter_in, filter_map_in}
+use Rattle.closed_laws.proofs.Lines.{among_is_in}
+use Rattle.placing_laws.proofs.Stuck.{among_in}
+use Rattle.closed_laws.proofs.Read.{first_is}
+use Rattle.closed_laws.proofs.Ledger.{base_then}
+use Rattle.closed_laws.proofs.Pieces.{PieceAt, RowAt, piece_at, look_piece, first_has, start_row, in_start_rows, start_dir, in_start_dirs}
 use Rattle.history_order.specs.Parts.{is_open, open_looks}
 use Rattle.history_order.specs.Told.{Told}
 use Rattle.history_order.specs.Filled.{IsVersion, Filled, Begun}
@@ -28,7 +29,8 @@ use Rattle.history_order.specs.declared.tables.Found.{Found}
 use Rattle.history_order.specs.declared.tables.Progress.{Progress}
 use Rattle.history_order.proofs.Loops.{length_leaves}
 use Rattle.history_order.proofs.Counts.{count_same, count_none}
-use Rattle.history_order.proofs.After.{after_cases, both_ways}
+use Rattle.history_order.proofs.After.{after_cases}
+use Rattle.list_laws.proofs.Truths.{both_ways}
 use Rattle.history_order.proofs.Exchanges.{Before, new_born}
 use Rattle.history_order.proofs.NewCalls.{callers_are, version_calls, free_none, none_free}
 use Rattle.history_order.proofs.TableUnits.{closing, some_one, row_of_piece, piece_of_row, row_has_piece, row_have, rows_many, row_at, leaf_at, opening_first, version_few, version_firsts, some_unit, none_unit}
@@ -285,7 +287,7 @@ module _ (words : List ℕ) (logs : List (List Record)) (begun : List Pending) (
               (in_start_dirs t.setup (closing words logs begun t) t.book t.written t.ledger)
           | inr none ↦ elim none [ ]
         ])
-        (λ h. in_is_among (t.book.dir_row 0 ∷ []) row
+        (λ h. among_in (t.book.dir_row 0 ∷ []) row
         (inl (start_dir t.setup (closing words logs begun t) t.book t.written t.ledger row h)))
 
     -- and all lookups are open

@@ -3,32 +3,34 @@ use Rattle.std.proofs.Common.{◌≡◌, ℕ, zero, suc, ◌+◌, ◌<◌, List,
 use Rattle.std.specs.Prelude.{flat_map, slice_get}
 use Rattle.std.specs.List.{enumerate_from}
 use Rattle.std.proofs.lemmas.Bool.{cases_lt}
-use Rattle.std.proofs.lemmas.List.{get_or_past, get_or-map}
+use Rattle.std.proofs.lemmas.List.{get_or_past, get_or-map, length-map}
 use Rattle.std.proofs.lemmas.Option.{get_or_from_slice_get, slice_get_within}
 use Rattle.plain_map.specs.declared.records.Record.{Record}
 use Rattle.plain_map.specs.declared.records.Pending.{Pending}
 use Rattle.word_rows.specs.Shape.{Shape}
-use Rattle.core_model.specs.declared.events.Event.{Event}
-use Rattle.core_model.specs.Setup.{Setup, seats_of}
-use Rattle.core_model.specs.Phases.{Phase}
-use Rattle.core_model.specs.SeatStates.{SeatState, Stand, Idle, InFlight, Flight, pending_of, fresh_seat}
-use Rattle.core_model.specs.Worlds.{World, IsRun, world_after, seat_in}
-use Rattle.core_model.specs.Closed.{begun_by, begun_of}
-use Rattle.core_model.specs.Order.{Closing}
-use Rattle.core_model.specs.Histories.{closed}
-use Rattle.core_placing.proofs.Lists.{In, in_flat_map, with_it}
-use Rattle.core_placing.proofs.Stuck.{Ranked}
-use Rattle.core_reading.proofs.Ledger.{Ledger}
-use Rattle.core_reading.proofs.Ends.{Stamps, place_of, ranked}
-use Rattle.core_reading.proofs.Places.{stamped, stamps}
-use Rattle.core_answers.proofs.AllRuns.{all_tell}
-use Rattle.core_orders.proofs.Promised.{run_known}
-use Rattle.core_bounds.proofs.Ends.{records_are_numbered, flights_are_numbered}
-use Rattle.history_order.specs.Closing.{closing_with, log_of, IsOfARun}
+use Rattle.table_model.specs.declared.events.Event.{Event}
+use Rattle.table_model.specs.Setup.{Setup, seats_of}
+use Rattle.table_model.specs.SeatStates.{SeatState, fresh_seat}
+use Rattle.table_model.specs.Worlds.{World, IsRun, world_after, seat_in}
+use Rattle.table_model.specs.Closed.{begun_by, begun_of}
+use Rattle.table_model.specs.Order.{Closing}
+use Rattle.table_model.specs.Histories.{closed}
+use Rattle.list_laws.proofs.Lists.{In, in_flat_map, with_it}
+use Rattle.placing_laws.proofs.Stuck.{Ranked}
+use Rattle.closed_laws.proofs.Ledger.{Ledger}
+use Rattle.closed_laws.proofs.Ends.{Stamps, place_of, ranked}
+use Rattle.closed_laws.proofs.Places.{stamped, stamps}
+use Rattle.order_laws.proofs.AllRuns.{all_tell}
+use Rattle.order_laws.proofs.Promised.{run_known}
+use Rattle.order_laws.proofs.Calls.{begun_one}
+use Rattle.bound_laws.proofs.Ends.{records_are_numbered, flights_are_numbered}
+use Rattle.table_model.specs.Closing.{closing_with, log_of, IsOfARun}
 use Rattle.history_order.specs.Told.{Told}
+use Rattle.std.proofs.Math.Nat.{zero-add}
+use Rattle.list_laws.proofs.Numbers.{plus_none, plus_suc}
 
 -- the records of all seats, by their lists
-joined : (seats : List SeatState) →
+pub joined : (seats : List SeatState) →
     flat_map (λ (state : SeatState). state.account.records) seats
     ≡ flat_map (λ (log : List Record). log) (map (λ (state : SeatState). state.account.records) seats)
 joined [] = refl
@@ -39,15 +41,9 @@ numbered_at : (from : ℕ) (seats : List SeatState) (x : ℕ × SeatState) → I
     (i : ℕ) × (x.0 ≡ from + i) × (slice_get seats i ≡ Some x.1)
 numbered_at from [] x m = elim m [ ]
 numbered_at from (y ∷ ys) x (inl e) =
-    (0, ap (λ (p : ℕ × SeatState). p.0) e ∙ none from, ap (λ (p : ℕ × SeatState). Some p.1) (sym e))
-  where
-    none : (a : ℕ) → a ≡ a + 0
-    none a = omega arith
+    (0, ap (λ (p : ℕ × SeatState). p.0) e ∙ plus_none from, ap (λ (p : ℕ × SeatState). Some p.1) (sym e))
 numbered_at from (y ∷ ys) x (inr m) =
-    let r = numbered_at (from + 1) ys x m in (suc r.0, r.1 ∙ more from r.0, r.2)
-  where
-    more : (a i : ℕ) → a + 1 + i ≡ a + suc i
-    more a i = omega arith
+    let r = numbered_at (from + 1) ys x m in (suc r.0, r.1 ∙ plus_suc from r.0, r.2)
 
 -- so many were taken
 length_taken : {A : Type 0} → (xs : List A) (i : ℕ) → i < length xs → length (take i xs) ≡ i
@@ -86,7 +82,7 @@ module _ (setup : Setup) (events : List Event) (run : IsRun setup events) where
     | inr past ↦
         (let none : None ≡ Some r =
         sym (ap (λ (xs : List Record). slice_get xs i) (get_or_past logs seat []
-        (omega (arith, past, length_map world.seats)))) ∙ e in cc)
+        (omega (arith, past, length-map world.seats (λ (state : SeatState). state.account.records))))) ∙ e in cc)
     | inl less ↦
         let records = (seat_in world seat).account.records in
         let at : slice_get records i ≡ Some r = ap (λ xs. slice_get xs i) (sym (log_is seat less)) ∙ e in
@@ -94,18 +90,6 @@ module _ (setup : Setup) (events : List Event) (run : IsRun setup events) where
         (omega (arith, less, long)) (with_it records i r at) in
         (n.1, n.0 ∙ ap (λ k. k + 1) (length_taken records i (slice_get_within records i r at)))
   ]
-    where
-      length_map : (seats : List SeatState) →
-          length (map (λ (state : SeatState). state.account.records) seats) ≡ length seats
-      length_map [] = refl
-      length_map (state ∷ seats) = ap suc (length_map seats)
-
-  -- a call that a seat had begun is the one in flight
-  begun_one : (p : Pending) (seat : ℕ) (stand : Stand) → In p (begun_by seat stand) →
-      (flight : Flight) × ((phase : Phase) × (stand ≡ InFlight flight phase) × (p ≡ pending_of seat flight))
-  begun_one p seat Idle m = elim m [ ]
-  begun_one p seat (InFlight flight phase) (inl e) = (flight, (phase, refl, e))
-  begun_one p seat (InFlight flight phase) (inr m) = elim m [ ]
 
   -- and has the next number
   next : (p : Pending) → In p (begun_of world) → p.number ≡ length (log_of logs p.seat) + 1
@@ -113,7 +97,7 @@ module _ (setup : Setup) (events : List Event) (run : IsRun setup events) where
       let s = in_flat_map (λ (x : ℕ × SeatState). begun_by x.0 x.1.stand) (enumerate_from 0 world.seats) p m in
       let q = numbered_at 0 world.seats s.0 s.1 in
       let less = slice_get_within world.seats q.0 s.0.1 q.2 in
-      let seat : s.0.0 ≡ q.0 = q.1 ∙ zero_plus q.0 in
+      let seat : s.0.0 ≡ q.0 = q.1 ∙ zero-add q.0 in
       let state : seat_in world q.0 ≡ s.0.1 = get_or_from_slice_get world.seats q.0 s.0.1 fresh_seat q.2 in
       let f = begun_one p s.0.0 s.0.1.stand s.2 in
       let number = flights_are_numbered setup events q.0 f.0 f.1.0 run (omega (arith, less, long))
@@ -121,9 +105,6 @@ module _ (setup : Setup) (events : List Event) (run : IsRun setup events) where
       ap (λ (u : Pending). u.number) f.1.2 ∙ number
       ∙ ap (λ (xs : List Record). length xs + 1) (sym (log_is q.0 less))
       ∙ ap (λ n. length (log_of logs n) + 1) (sym seat ∙ sym (ap (λ (u : Pending). u.seat) f.1.2))
-    where
-      zero_plus : (n : ℕ) → 0 + n ≡ n
-      zero_plus n = omega arith
 
   -- so all is told
   told_after : Told world.words logs (begun_of world)
@@ -139,15 +120,10 @@ module _ (setup : Setup) (events : List Event) (run : IsRun setup events) where
         place = place_of t;
         ranked = subst (λ z. Ranked setup z (place_of t)) closing_is
             (ranked setup (closed setup events) k.book k.written k.ledger t s);
-        seats = length_map world.seats ∙ long;
+        seats = length-map world.seats (λ (state : SeatState). state.account.records) ∙ long;
         numbered = numbered;
         next = next;
       }
-    where
-      length_map : (seats : List SeatState) →
-          length (map (λ (state : SeatState). state.account.records) seats) ≡ length seats
-      length_map [] = refl
-      length_map (state ∷ seats) = ap suc (length_map seats)
 
 -- of whatever a run left
 pub told_of_run : (shape : Shape) (words : List ℕ) (logs : List (List Record)) (begun : List Pending) →

@@ -4,14 +4,14 @@ use Rattle.std.specs.Prelude.{find}
 use Rattle.std.specs.List.{list_any}
 use Rattle.std.proofs.lemmas.Bool.{cases_Bool}
 use Rattle.plain_map.specs.History.{Placed, seat_of, number_of}
-use Rattle.core_model.specs.Setup.{Setup}
-use Rattle.core_model.specs.Order.{Closing, Piece, is_call, calls_in, pieces_of}
-use Rattle.core_placing.proofs.Lists.{In, any_at, any_from, find_in}
-use Rattle.core_placing.proofs.Stuck.{is_call_at, call_is_at}
-use Rattle.core_placing.proofs.Alone.{Apart}
-use Rattle.core_reading.proofs.Book.{Book, Written}
-use Rattle.core_reading.proofs.Ledger.{Ledger}
-use Rattle.core_reading.proofs.Pieces.{separate}
+use Rattle.table_model.specs.Setup.{Setup}
+use Rattle.table_model.specs.Order.{Closing, Piece, is_call, calls_in, pieces_of}
+use Rattle.list_laws.proofs.Lists.{In, any_at, any_from, find_in}
+use Rattle.placing_laws.proofs.Stuck.{is_call_at, call_is_at}
+use Rattle.placing_laws.proofs.Alone.{Apart}
+use Rattle.closed_laws.proofs.Book.{Book, Written}
+use Rattle.closed_laws.proofs.Ledger.{Ledger}
+use Rattle.closed_laws.proofs.Pieces.{separate}
 use Rattle.history_order.specs.Parts.{unit_of}
 use Rattle.history_order.proofs.Candidates.{IsUnits}
 

@@ -1,21 +1,11 @@
 -- Steps of loops that write columns.
-use Rattle.std.proofs.Common.{◌≡◌, ℕ, zero, suc, ◌+◌, ◌-◌, ◌<◌, ◌≤◌, ◌⊎◌, Bool, true, false, cond, List, [], ◌∷◌, ◌++◌, length, drop, get_or, replicate, Option, Some, refl, inl, inr, sym, ap, ◌∙◌, arith, lt-ltb, ltb-true}
+use Rattle.std.proofs.Common.{◌≡◌, ℕ, zero, suc, ◌+◌, ◌-◌, ◌<◌, ◌≤◌, ◌⊎◌, Bool, true, false, cond, List, [], ◌∷◌, ◌++◌, length, get_or, replicate, Option, Some, refl, inl, inr, sym, ap, ◌∙◌, arith, lt-ltb, ltb-true}
 use Rattle.std.specs.Prelude.{◌&&◌, nat_lt, slice_get}
 use Rattle.std.specs.List.{list_all, range_with_len}
 use Rattle.std.proofs.Math.ListN.{set}
-use Rattle.std.proofs.lemmas.List.{at_drop_more, get_or-set_same, get_or-set_other, get_or_past}
+use Rattle.std.proofs.lemmas.List.{get_or-set_same, get_or-set_other, get_or_past}
 use Rattle.std.proofs.lemmas.Bool.{cases_Bool, cases_eq, cases_lt}
-use Rattle.history_order.specs.Columns.{hits, written, after_all}
-
--- a write more
-pub after_goes : {A B : Type 0} → (at : B → Option ℕ) (value : B → A) (place many : ℕ) (xs : List B) (i : ℕ) (d : B)
-    (before before_then all : A) → i < length xs →
-    before_then ≡ written place many (at (get_or xs i d)) (value (get_or xs i d)) before →
-    after_all at value place many (drop i xs) before ≡ all →
-    after_all at value place many (drop (i + 1) xs) before_then ≡ all
-after_goes at value place many xs i d before before_then all inside is were =
-    ap (after_all at value place many (drop (i + 1) xs)) is
-    ∙ sym (at_drop_more (λ ys. after_all at value place many ys before) xs i d inside) ∙ were
+use Rattle.history_order.specs.Columns.{hits, written}
 
 -- a column of flags reads what was written, or what it read
 pub flag_written : (place many : ℕ) (at : Option ℕ) (value before : List Bool) (seat : ℕ) →

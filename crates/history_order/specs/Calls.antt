@@ -5,7 +5,7 @@ use Rattle.plain_map.specs.declared.records.Record.{Record}
 use Rattle.plain_map.specs.declared.records.Pending.{Pending}
 use Rattle.plain_map.specs.declared.records.Seen.{Seen}
 use Rattle.plain_map.specs.History.{Placed, answered, pending}
-use Rattle.history_order.specs.Closing.{log_of}
+use Rattle.table_model.specs.Closing.{log_of}
 
 -- the record at this place of the seat's log
 abbrev pub record_at : List (List Record) → (seat at : ℕ) → Option Record

@@ -3,9 +3,9 @@ use Rattle.std.specs.Prelude.{◌≡◌, ℕ, zero, suc, ◌+◌, ◌==◌, ◌&
 use Rattle.std.specs.List.{list_all, count_by, range_with_len}
 use Rattle.plain_map.specs.declared.records.Record.{Record}
 use Rattle.word_rows.specs.Shape.{Shape}
-use Rattle.core_model.specs.SeatStates.{is_update}
-use Rattle.core_model.specs.Reading.{bucket_row}
-use Rattle.core_model.specs.Order.{new_number, new_in_rows}
+use Rattle.plain_map.specs.Calls.{is_update}
+use Rattle.table_model.specs.Reading.{bucket_row}
+use Rattle.table_model.specs.Order.{new_number, new_in_rows}
 use Rattle.history_order.specs.Filling.{firsts_in, bases_in}
 use Rattle.history_order.specs.declared.tables.Unit.{Unit}
 use Rattle.history_order.specs.declared.tables.Unit.TheVariants.{Lookup, Row, Version as VersionAt}

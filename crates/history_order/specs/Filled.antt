@@ -4,12 +4,12 @@ use Rattle.plain_map.specs.declared.records.Record.{Record}
 use Rattle.plain_map.specs.declared.records.Pending.{Pending}
 use Rattle.plain_map.specs.declared.full.FullKind.TheVariants.{BucketRows}
 use Rattle.word_rows.specs.Shape.{count_of}
-use Rattle.core_model.specs.Setup.{seats_of}
-use Rattle.core_model.specs.Reading.{bucket_row, is_among}
-use Rattle.core_model.specs.Order.{Closing, Piece, ByBucketRow, ByDirectoryRow, ByLookup, calls_in, pieces_of, first_rows, start_of}
-use Rattle.core_model.specs.Turns.{has_call_of}
-use Rattle.core_placing.proofs.Lists.{In}
-use Rattle.history_order.specs.Closing.{closing_with, log_of}
+use Rattle.table_model.specs.Setup.{seats_of}
+use Rattle.table_model.specs.Reading.{bucket_row, is_among}
+use Rattle.table_model.specs.Order.{Closing, Piece, ByBucketRow, ByDirectoryRow, ByLookup, calls_in, pieces_of, first_rows, start_of}
+use Rattle.table_model.specs.Turns.{has_call_of}
+use Rattle.list_laws.proofs.Lists.{In}
+use Rattle.table_model.specs.Closing.{closing_with, log_of}
 use Rattle.history_order.specs.Told.{Told}
 use Rattle.history_order.specs.declared.tables.Unit.{Unit}
 use Rattle.history_order.specs.declared.tables.Unit.TheVariants.{Lookup, Row, Version as VersionAt}

@@ -1,7 +1,7 @@
 -- What the tables are filled with, list by list.
 use Rattle.std.specs.Prelude.{◌≡◌, ℕ, Bool, false, not, if◌then◌else◌, List, [], ◌∷◌, ◌++◌, Some, slice_index_or, flat_map, filter, filter_map}
 use Rattle.word_rows.specs.Shape.{Shape}
-use Rattle.core_model.specs.Reading.{bucket_row, directory_at, is_among, each_once, bucket_line, row_of, is_exchanged, first_row}
+use Rattle.table_model.specs.Reading.{bucket_row, directory_at, is_among, each_once, bucket_line, row_of, is_exchanged, first_row}
 
 -- the marks are set at these numbers
 abbrev pub AreMet : (marks : List Bool) (numbers : List ℕ) → Type 0

@@ -3,8 +3,8 @@ use Rattle.std.specs.Prelude.{◌≡◌, ℕ, ◌+◌, ◌<◌, true, false, Lis
 use Rattle.plain_map.specs.declared.records.Record.{Record}
 use Rattle.plain_map.specs.declared.full.FullKind.TheVariants.{BucketRows}
 use Rattle.word_rows.specs.Shape.{Shape, count_of}
-use Rattle.core_model.specs.Reading.{directory_rows}
-use Rattle.history_order.specs.Closing.{log_of}
+use Rattle.table_model.specs.Reading.{directory_rows}
+use Rattle.table_model.specs.Closing.{log_of}
 use Rattle.history_order.specs.Filling.{leaves_from, exchanged_in, firsts_in}
 use Rattle.history_order.specs.Columns.{IsMade, after_all, base_in, is_caller, is_free, looks_in, row_place, unit_at}
 use Rattle.history_order.specs.declared.tables.Version.{Version}

@@ -1,5 +1,4 @@
 pub mod Turns
-pub mod Closing
 pub mod Parts
 pub mod Filling
 pub mod Columns

@@ -2,9 +2,9 @@
 use Rattle.std.specs.Prelude.{◌≡◌, ℕ, ◌==◌, ◌&&◌, Bool, not, List, [], ◌∷◌, Option, None, option_to_list, filter_map, find}
 use Rattle.std.specs.List.{list_any, count_by}
 use Rattle.plain_map.specs.declared.records.Record.{Record}
-use Rattle.core_model.specs.Setup.{Setup}
-use Rattle.core_model.specs.Reading.{bucket_row, directory_row, is_among}
-use Rattle.core_model.specs.Order.{Closing, Piece, ByBucketRow, ByDirectoryRow, ByLookup, Placing, is_call, calls_in, first_rows, is_placed, lookups_of, pieces_of}
+use Rattle.table_model.specs.Setup.{Setup}
+use Rattle.table_model.specs.Reading.{bucket_row, directory_row, is_among}
+use Rattle.table_model.specs.Order.{Closing, Piece, ByBucketRow, ByDirectoryRow, ByLookup, Placing, is_call, calls_in, first_rows, is_placed, lookups_of, pieces_of}
 
 module _ (setup : Setup) (closing : Closing) where
   -- the piece with the seat's call of the number

@@ -8,8 +8,8 @@ use Rattle.plain_map.specs.declared.records.Pending.{Pending}
 use Rattle.plain_map.specs.declared.records.CallId.{CallId}
 use Rattle.plain_map.specs.History.{number_of, id_of}
 use Rattle.word_rows.specs.Shape.{Shape}
-use Rattle.core_placing.proofs.Lists.{In}
-use Rattle.core_model.specs.Reading.{bucket_row}
+use Rattle.list_laws.proofs.Lists.{In}
+use Rattle.table_model.specs.Reading.{bucket_row}
 use Rattle.history_order.specs.Calls.{call_at, record_at, seen_in}
 use Rattle.history_order.specs.declared.tables.Unit.{Unit}
 use Rattle.history_order.specs.declared.tables.Unit.TheVariants.{Lookup, Row, Version}

@@ -4,13 +4,13 @@ use Rattle.std.specs.Prelude.{◌≡◌, ℕ, ◌+◌, List, length, Some, slice
 use Rattle.plain_map.specs.declared.records.Record.{Record}
 use Rattle.plain_map.specs.declared.records.Pending.{Pending}
 use Rattle.word_rows.specs.Shape.{Shape}
-use Rattle.core_model.specs.Setup.{Setup, seats_of}
-use Rattle.core_model.specs.Order.{Piece}
-use Rattle.core_placing.proofs.Lists.{In}
-use Rattle.core_placing.proofs.Stuck.{Ranked}
-use Rattle.core_reading.proofs.Book.{Book, Written}
-use Rattle.core_reading.proofs.Ledger.{Ledger}
-use Rattle.history_order.specs.Closing.{closing_with, log_of}
+use Rattle.table_model.specs.Setup.{Setup, seats_of}
+use Rattle.table_model.specs.Order.{Piece}
+use Rattle.list_laws.proofs.Lists.{In}
+use Rattle.placing_laws.proofs.Stuck.{Ranked}
+use Rattle.closed_laws.proofs.Book.{Book, Written}
+use Rattle.closed_laws.proofs.Ledger.{Ledger}
+use Rattle.table_model.specs.Closing.{closing_with, log_of}
 
 -- all that is told
 pub record Told (words : List ℕ) (logs : List (List Record)) (begun : List Pending) : Type 0 where

@@ -1,12 +1,12 @@
 -- Placings that are reached by free turns, and what comes next in one.
 use Rattle.std.specs.Prelude.{◌≡◌, ℕ, ◌≤◌, true, List, [], fold, Some, slice_get}
 use Rattle.word_rows.specs.Shape.{Shape}
-use Rattle.core_model.specs.declared.events.Event.{Event}
-use Rattle.core_model.specs.Setup.{Setup}
-use Rattle.core_model.specs.Worlds.{IsRun}
-use Rattle.core_model.specs.Order.{Closing, Piece, Placing, calls_in, rank_of_calls, is_ready, choice, start_of, order_of}
-use Rattle.core_model.specs.Turns.{AreFreeTurns}
-use Rattle.core_model.specs.Histories.{closed}
+use Rattle.table_model.specs.declared.events.Event.{Event}
+use Rattle.table_model.specs.Setup.{Setup}
+use Rattle.table_model.specs.Worlds.{IsRun}
+use Rattle.table_model.specs.Order.{Closing, Piece, Placing, calls_in, rank_of_calls, is_ready, choice, start_of, order_of}
+use Rattle.table_model.specs.Turns.{AreFreeTurns}
+use Rattle.table_model.specs.Histories.{closed}
 
 -- the last of these placings, where the first comes before them
 abbrev pub last_of : Placing → List Placing → Placing

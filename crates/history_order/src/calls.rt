@@ -2,7 +2,7 @@
 
 ghost use Rattle.std.specs.Prelude.{◌≡◌, ◌==◌, find, option_map};
 ghost use Rattle.plain_map.specs.History.{id_of, pending};
-ghost use Rattle.history_order.specs.Closing.{read_in};
+ghost use Rattle.table_model.specs.Closing.{read_in};
 ghost use Rattle.history_order.specs.Calls.{call_at, record_at, seen_in};
 
 use closed_words::Starts;

@@ -4,12 +4,12 @@
 
 ghost use Rattle.std.specs.Prelude.{◌≡◌, ℕ, ◌+◌, ◌<◌, [], ◌∷◌, IfOk, OnOk, Some, not, filter, flat_map, false, length, slice_index_or, true};
 ghost use Rattle.plain_map.specs.declared.full.FullKind.TheVariants.{BucketRows};
-ghost use Rattle.core_placing.proofs.Lists.{In};
+ghost use Rattle.list_laws.proofs.Lists.{In};
 ghost use Rattle.word_rows.specs.Shape.{count_of};
 ghost use Rattle.word_rows.specs.LayoutView.{shape_of};
-ghost use Rattle.core_model.specs.Order.{new_in_rows};
-ghost use Rattle.core_model.specs.SeatStates.{is_update};
-ghost use Rattle.history_order.specs.Closing.{records_there};
+ghost use Rattle.table_model.specs.Order.{new_in_rows};
+ghost use Rattle.plain_map.specs.Calls.{is_update};
+ghost use Rattle.table_model.specs.Closing.{records_there};
 ghost use Rattle.history_order.specs.Columns.{
   after_all,
   is_caller,

@@ -6,8 +6,8 @@ ghost use Rattle.std.specs.Prelude.{◌≡◌, [], IfOk, List, map, reverse, sli
 ghost use Rattle.std.specs.Option.{option_map_or};
 ghost use Rattle.plain_map.specs.declared.records.Pending.{Pending};
 ghost use Rattle.word_rows.specs.LayoutView.{shape_of};
-ghost use Rattle.core_model.specs.Reading.{directory_rows};
-ghost use Rattle.history_order.specs.Closing.{read_in};
+ghost use Rattle.table_model.specs.Reading.{directory_rows};
+ghost use Rattle.table_model.specs.Closing.{read_in};
 ghost use Rattle.history_order.specs.Filling.{leaves_from};
 ghost use Rattle.history_order.specs.Fills.{IsBegun, IsFound, exchanged_rows};
 ghost use Rattle.history_order.specs.Tables.{HasBases};

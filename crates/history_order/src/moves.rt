@@ -4,9 +4,9 @@
 
 ghost use Rattle.std.specs.Prelude.{◌≡◌, ℕ, ◌+◌, ◌-◌, ◌<◌, ◌++◌, [], if◌then◌else◌, true, false, IfOk, flat_map, length, slice_index, slice_index_or, slice_set};
 ghost use Rattle.std.specs.List.{range_with_len};
-ghost use Rattle.core_placing.proofs.Lists.{In};
+ghost use Rattle.list_laws.proofs.Lists.{In};
 ghost use Rattle.plain_map.specs.declared.records.TheConstants.{MOST_SEATS};
-ghost use Rattle.history_order.specs.Closing.{read_in};
+ghost use Rattle.table_model.specs.Closing.{read_in};
 ghost use Rattle.history_order.specs.Tables.{
   CanBePlaced,
   IsPlaced,

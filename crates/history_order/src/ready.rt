@@ -3,11 +3,11 @@
 ghost use Rattle.std.specs.Prelude.{◌≡◌, ℕ, ◌<◌, ◌==◌, None, true, false, slice_index_or};
 ghost use Rattle.std.specs.List.{list_all};
 ghost use Rattle.std.specs.Option.{option_map_or};
-ghost use Rattle.history_order.specs.Closing.{read_in};
+ghost use Rattle.table_model.specs.Closing.{read_in};
 ghost use Rattle.history_order.specs.Calls.{call_at, seen_in};
 ghost use Rattle.word_rows.specs.LayoutView.{shape_of};
 ghost use Rattle.plain_map.specs.declared.records.TheConstants.{MOST_SEATS};
-ghost use Rattle.core_model.specs.Reading.{bucket_row};
+ghost use Rattle.table_model.specs.Reading.{bucket_row};
 ghost use Rattle.history_order.specs.Tables.{
   HasBases,
   are_next_in,

@@ -3,8 +3,8 @@
 ghost use Rattle.std.specs.Prelude.{◌≡◌, ◌≢◌, ℕ, ◌<◌, ◌∷◌, ◌++◌, [], IfOk, OnOk, List, false, length, map, slice_index_or};
 ghost use Rattle.plain_map.specs.declared.records.Record.{Record};
 ghost use Rattle.word_rows.specs.LayoutView.{shape_of};
-ghost use Rattle.core_model.specs.Order.{new_number};
-ghost use Rattle.history_order.specs.Closing.{read_in};
+ghost use Rattle.table_model.specs.Order.{new_number};
+ghost use Rattle.table_model.specs.Closing.{read_in};
 ghost use Rattle.history_order.specs.Columns.{IsUnitPut, base_in, is_caller, row_place};
 ghost use Rattle.history_order.specs.Fills.{AreUnits, AreWritten};
 ghost use Rattle.history_order.specs.declared.tables.Unit.TheVariants.{Row};

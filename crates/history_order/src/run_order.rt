@@ -3,8 +3,8 @@
 ghost use Rattle.std.specs.Prelude.{◌≡◌, IfOk};
 ghost use Rattle.word_rows.specs.LayoutView.{shape_of};
 ghost use Rattle.plain_map.specs.History.{ids_of};
-ghost use Rattle.core_model.specs.Order.{order_of};
-ghost use Rattle.history_order.specs.Closing.{IsOfARun, closing_with, read_in};
+ghost use Rattle.table_model.specs.Order.{order_of};
+ghost use Rattle.table_model.specs.Closing.{IsOfARun, closing_with, read_in};
 
 use crate::calls::Closed;
 use crate::finding::fill;

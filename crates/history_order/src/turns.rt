@@ -7,8 +7,8 @@ ghost use Rattle.std.specs.List.{range_with_len};
 ghost use Rattle.word_rows.specs.LayoutView.{shape_of};
 ghost use Rattle.plain_map.specs.declared.records.TheConstants.{MOST_SEATS};
 ghost use Rattle.plain_map.specs.History.{ids_of};
-ghost use Rattle.core_model.specs.Order.{order_of};
-ghost use Rattle.history_order.specs.Closing.{closing_with, read_in};
+ghost use Rattle.table_model.specs.Order.{order_of};
+ghost use Rattle.table_model.specs.Closing.{closing_with, read_in};
 ghost use Rattle.history_order.specs.Begins.{Begins};
 ghost use Rattle.history_order.specs.Tables.{HasBases, is_ready_in};
 

@@ -2,7 +2,7 @@
 
 ghost use Rattle.std.specs.Prelude.{◌≡◌, ℕ, ◌<◌, [], List, None, Some, length, map, slice_index_or};
 ghost use Rattle.word_rows.specs.LayoutView.{shape_of};
-ghost use Rattle.history_order.specs.Closing.{log_of, read_in, records_there};
+ghost use Rattle.table_model.specs.Closing.{log_of, read_in, records_there};
 ghost use Rattle.history_order.specs.Columns.{
   after_all,
   look_place,

@@ -5,7 +5,7 @@
 ghost use Rattle.std.specs.Prelude.{◌≡◌, ℕ, ◌++◌, [], IfOk, OnOk, List, Some, flat_map, length, map, option_to_list, slice_get, slice_index_or};
 ghost use Rattle.plain_map.specs.declared.records.Record.{Record};
 ghost use Rattle.word_rows.specs.LayoutView.{shape_of};
-ghost use Rattle.core_model.specs.Reading.{first_row};
+ghost use Rattle.table_model.specs.Reading.{first_row};
 ghost use Rattle.history_order.specs.Columns.{IsMade};
 ghost use Rattle.history_order.specs.Filling.{exchanged_in, exchanged_of, firsts_in};
 ghost use Rattle.history_order.specs.Fills.{AreWritten};

@@ -10,10 +10,11 @@ use Rattle.word_rows.specs.declared.addresses.Address.TheVariants.{BucketRowWord
 use Rattle.word_rows.specs.BucketWords.{words_of_bucket}
 use Rattle.word_rows.proofs.BucketLemmas.{length-bucket}
 use Rattle.bucket_states.specs.States.{row_of_state}
-use Rattle.core_model.specs.declared.events.Put.{Put}
-use Rattle.core_model.specs.Leaves.{NewLeaf}
-use Rattle.core_model.specs.Directories.{DirectoryState}
-use Rattle.core_model.specs.Stores.{with_puts, row_puts, directory_words}
+use Rattle.table_model.specs.declared.events.Put.{Put}
+use Rattle.table_model.specs.Leaves.{NewLeaf}
+use Rattle.table_model.specs.Directories.{DirectoryState}
+use Rattle.table_model.specs.Stores.{with_puts, row_puts, directory_words}
+use Rattle.list_laws.proofs.Cuts.{zero_at}
 use Rattle.opening_words.specs.Written.{words_with, written}
 use Rattle.opening_words.proofs.Dirt.{IsAmong, IsBlankBut, IsOfLeaf, IsOfLeaves, IsOfOpening}
 use Rattle.opening_words.proofs.WritingLemmas.{blank_words, directory_places, leaves_from, one_leaf, row_written, with_leaf}
@@ -27,12 +28,6 @@ zero_here (word ∷ words) (suc i) = zero_here words i
 -- so many words that are 0
 abbrev zeros : ℕ → List ℕ
 zeros n = replicate n 0
-
--- words that are all 0 are so at each place
-zero_at : (n j : ℕ) → get_or (zeros n) j 0 ≡ 0
-zero_at zero j = refl
-zero_at (suc n) zero = refl
-zero_at (suc n) (suc j) = zero_at n j
 
 -- and words that are so at each place are all 0
 pub all_zero : (words : List ℕ) → ((j : ℕ) → get_or words j 0 ≡ 0) → words ≡ replicate (length words) 0

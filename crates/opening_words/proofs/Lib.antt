@@ -2,4 +2,3 @@ mod Dirt
 mod WritingLemmas
 mod ClearingLemmas
 mod SetupLemmas
-mod TestLemmas

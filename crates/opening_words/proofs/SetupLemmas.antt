@@ -10,17 +10,17 @@ use Rattle.word_rows.specs.declared.addresses.Address.TheVariants.{BucketRowWord
 use Rattle.word_rows.specs.BucketWords.{IsBucket, words_of_bucket}
 use Rattle.bucket_states.specs.Parts.{HasDistinctKeys}
 use Rattle.bucket_states.specs.States.{row_of_state}
-use Rattle.core_model.specs.declared.events.Put.{Put}
-use Rattle.core_model.specs.Setup.{HaveRoom, IsPair, Setup, IsSetup, seats_of, rules_of}
-use Rattle.core_model.specs.Directories.{DirectoryState}
-use Rattle.core_model.specs.Leaves.{NewLeaf}
-use Rattle.core_model.specs.Opening.{opening_directory, opening_leaves}
-use Rattle.core_model.specs.Stores.{with_puts, leaf_puts, row_puts, directory_words}
-use Rattle.core_model.specs.Worlds.{first_leaves, opening_words}
-use Rattle.core_changes.proofs.Directories.{now-shallow, now-long}
-use Rattle.core_changes.proofs.Openings.{opening-apart}
-use Rattle.core_history.proofs.RowLemmas.{bucket_row_sound}
-use Rattle.core_rounds.proofs.Opened.{can, opens}
+use Rattle.table_model.specs.declared.events.Put.{Put}
+use Rattle.table_model.specs.Setup.{HaveRoom, IsPair, Setup, IsSetup, seats_of, rules_of}
+use Rattle.table_model.specs.Directories.{DirectoryState}
+use Rattle.table_model.specs.Leaves.{NewLeaf}
+use Rattle.table_model.specs.Opening.{opening_directory, opening_leaves}
+use Rattle.table_model.specs.Stores.{with_puts, leaf_puts, row_puts, directory_words}
+use Rattle.table_model.specs.Worlds.{first_leaves, opening_words}
+use Rattle.change_laws.proofs.Directories.{now-shallow, now-long}
+use Rattle.change_laws.proofs.Openings.{opening-apart}
+use Rattle.run_invariant.proofs.RowLemmas.{bucket_row_sound}
+use Rattle.change_laws.proofs.FirstLeaves.{first_can_open, first_opens}
 use Rattle.opening_words.specs.Written.{FitIn, setup_at, spelling, words_with}
 use Rattle.opening_words.specs.Rooms.{rules_for}
 use Rattle.opening_words.proofs.WritingLemmas.{no_base}
@@ -56,7 +56,7 @@ module _ (setup : Setup) where
     leaves_spelled = λ i d h.
         (bucket_row_sound setup (get_or leaves i d).bucket.prefix (get_or leaves i d).bucket.depth None
         (get_or leaves i d).bucket tt
-        ((opens setup s).good i d h).0 ((opens setup s).small (λ k e lt. (s.pairs k e lt).small) i d h) refl
+        ((first_opens setup s).good i d h).0 ((first_opens setup s).small (λ k e lt. (s.pairs k e lt).small) i d h) refl
         refl).spells.0
 
     -- the directory before they are put in
@@ -65,18 +65,22 @@ module _ (setup : Setup) where
 
     -- and so can the directory
     directory_shallow : directory.depth ≤ setup.shape.settings.depth
-    directory_shallow = now-shallow (rules_of setup) (can setup s).range before (can setup s).within 0 leaves
-        (opening-apart (rules_of setup) (seats_of setup) setup.shape.settings.start setup.first (can setup s)).shallow
+    directory_shallow = now-shallow (rules_of setup) (first_can_open setup s).range before
+        (first_can_open setup s).within 0 leaves
+        (opening-apart (rules_of setup) (seats_of setup) setup.shape.settings.start setup.first
+        (first_can_open setup s)).shallow
 
     -- and it has a place for each prefix of its depth
     directory_long : length directory.entries ≡ 2 ^ directory.depth
-    directory_long = now-long (rules_of setup) (can setup s).range before (can setup s).within 0 leaves
-        (opening-apart (rules_of setup) (seats_of setup) setup.shape.settings.start setup.first (can setup s)).shallow
+    directory_long = now-long (rules_of setup) (first_can_open setup s).range before
+        (first_can_open setup s).within 0 leaves
+        (opening-apart (rules_of setup) (seats_of setup) setup.shape.settings.start setup.first
+        (first_can_open setup s)).shallow
 
     -- all of them find room
     pub opening_fits : FitIn setup.shape leaves directory
     opening_fits = record {
-      few = (opens setup s).few;
+      few = (first_opens setup s).few;
       spelled = leaves_spelled;
       shallow = directory_shallow;
       long = directory_long;

@@ -4,18 +4,17 @@ use Rattle.std.specs.Prelude.{None, Option}
 use Rattle.std.proofs.lemmas.List.{get_or-map, length-map}
 use Rattle.std.proofs.lemmas.List.Sums.{fold-append}
 use Rattle.std.proofs.Math.Pow.{pow_mono}
-use Rattle.plain_map.specs.declared.full.FullKind.TheVariants.{BucketRows, BucketWords, DirRows}
-use Rattle.word_rows.specs.Shape.{Shape, count_of, number_after}
+use Rattle.word_rows.specs.Shape.{Shape}
 use Rattle.word_rows.specs.Places.{IsAddress, place, word_count}
 use Rattle.word_rows.specs.PlaceLaws.{PlacesAreWithin}
 use Rattle.word_rows.specs.declared.addresses.Address.{Address}
 use Rattle.word_rows.specs.declared.addresses.Address.TheVariants.{BucketRowWord, BucketWord, DirectoryWord}
 use Rattle.word_rows.specs.BucketWords.{words_of_bucket}
 use Rattle.bucket_states.specs.States.{row_of_state}
-use Rattle.core_model.specs.declared.events.Put.{Put}
-use Rattle.core_model.specs.Directories.{DirectoryState}
-use Rattle.core_model.specs.Leaves.{NewLeaf}
-use Rattle.core_model.specs.Stores.{with_puts, leaf_puts, row_puts, directory_words}
+use Rattle.table_model.specs.declared.events.Put.{Put}
+use Rattle.table_model.specs.Directories.{DirectoryState}
+use Rattle.table_model.specs.Leaves.{NewLeaf}
+use Rattle.table_model.specs.Stores.{with_puts, leaf_puts, row_puts, directory_words}
 use Rattle.dir_states.specs.declared.values.NewLeaf as D
 use Rattle.dir_states.specs.Views.{as_leaf}
 use Rattle.opening_words.specs.Written.{spelling, words_with, written}
@@ -113,21 +112,6 @@ module _ (shape : Shape) where
       ∙ sym (row_written shape (DirectoryWord 0) (directory_places shape 0)
       (with_puts shape blank_words (leaves_from 0 leaves)) 0 row)
       ∙ sym (fold-append f blank_words (leaves_from 0 leaves) (row_puts (DirectoryWord 0) 0 row))
-
--- the opening has numbers of its own, which come before those of the seats
-pub words_there : (shape : Shape) → 2 ^ shape.settings.depth ≤ count_of shape BucketWords
-unfolding number_after
-words_there shape = omega arith
-
--- so many bucket rows too
-pub rows_there : (shape : Shape) → 2 ^ shape.settings.depth ≤ count_of shape BucketRows
-unfolding number_after
-rows_there shape = omega arith
-
--- and one directory row
-pub directory_there : (shape : Shape) → 0 < count_of shape DirRows
-unfolding number_after
-directory_there shape = omega arith
 
 -- a directory of the table finds room in the first directory row
 pub directory_fits : (shape : Shape) (depth : ℕ) → PlacesAreWithin → depth ≤ shape.settings.depth →

@@ -8,10 +8,10 @@ use Rattle.word_rows.specs.Places.{word_count}
 use Rattle.word_rows.specs.declared.addresses.Address.TheVariants.{DirectoryWord}
 use Rattle.word_rows.specs.BucketWords.{IsBucket}
 use Rattle.bucket_states.specs.States.{row_of_state}
-use Rattle.core_model.specs.Setup.{Setup}
-use Rattle.core_model.specs.Directories.{DirectoryState}
-use Rattle.core_model.specs.Leaves.{NewLeaf}
-use Rattle.core_model.specs.Stores.{directory_words, leaf_puts, row_puts, with_puts}
+use Rattle.table_model.specs.Setup.{Setup}
+use Rattle.table_model.specs.Directories.{DirectoryState}
+use Rattle.table_model.specs.Leaves.{NewLeaf}
+use Rattle.table_model.specs.Stores.{directory_words, leaf_puts, row_puts, with_puts}
 
 -- a table of this shape, with this hashing and these first pairs
 abbrev pub setup_at : Shape → Hashing → List Pair → Setup

@@ -6,8 +6,8 @@ ghost use Rattle.bucket_states.specs.Parts.{HasDistinctKeys};
 ghost use Rattle.word_rows.specs.Shape.{AreBelow};
 ghost use Rattle.word_rows.specs.LayoutView.{shape_of};
 ghost use Rattle.word_rows.specs.Places.{word_count};
-ghost use Rattle.core_model.specs.Setup.{IsFirstWithoutRoom, IsPair, IsSetup, rules_of};
-ghost use Rattle.core_model.specs.Worlds.{opening_words};
+ghost use Rattle.table_model.specs.Setup.{IsFirstWithoutRoom, IsPair, IsSetup, rules_of};
+ghost use Rattle.table_model.specs.Worlds.{opening_words};
 ghost use Rattle.opening_words.specs.Written.{setup_at};
 ghost use Rattle.opening_words.specs.Openers.{settings_in};
 

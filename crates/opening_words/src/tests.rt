@@ -2,7 +2,7 @@
 
 ghost use Rattle.std.specs.Prelude.{◌≡◌, All, IfSome};
 ghost use Rattle.bucket_states.specs.Parts.{HasDistinctKeys};
-ghost use Rattle.core_model.specs.Setup.{IsPair};
+ghost use Rattle.table_model.specs.Setup.{IsPair};
 
 use crate::{Opener, first_words};
 use hash_bits::Hashing;
@@ -50,7 +50,7 @@ fn no_pairs() -> [Pair; 0]
 }
 
 // Three pairs, whose keys have to differ.
-#[tactic(auto, using(crate::proofs::TestLemmas::three_distinct))]
+#[tactic(auto, using(bucket_states::proofs::DistinctKeys::three_distinct))]
 fn three(first: Pair, second: Pair, third: Pair) -> Option<[Pair; 3]>
     requires pairs { IsPair first × IsPair second × IsPair third }
     ensures distinct { IfSome result HasDistinctKeys }

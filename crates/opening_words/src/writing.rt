@@ -7,7 +7,7 @@ ghost use Rattle.word_rows.specs.Places.{IsAddress, place, word_count};
 ghost use Rattle.word_rows.specs.declared.addresses.Address.TheVariants.{BucketRowWord, BucketWord, DirectoryWord};
 ghost use Rattle.word_rows.specs.BucketWords.{IsBucket, words_of_bucket};
 ghost use Rattle.bucket_states.specs.States.{row_of_state, state_of};
-ghost use Rattle.core_model.specs.Stores.{directory_words};
+ghost use Rattle.table_model.specs.Stores.{directory_words};
 ghost use Rattle.dir_states.specs.Openings.{first_directory, first_leaves};
 ghost use Rattle.dir_states.specs.Views.{as_directory};
 ghost use Rattle.opening_words.specs.Written.{FitIn, words_with, written};

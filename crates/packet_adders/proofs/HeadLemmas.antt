@@ -1,5 +1,5 @@
 -- The first bytes of a packet have its heads, since no rule looks at a byte behind them.
-use Rattle.std.proofs.Common.{◌≡◌, ◌≢◌, ◌↔◌, ◌≤◌, ◌<◌, ◌+◌, ◌*◌, ◌%◌, ◌/◌, ◌^◌, ℕ, List, Option, length, take, drop, min, slice_index, inl, inr, refl, sym, ap, subst, ◌∙◌, arith}
+use Rattle.std.proofs.Common.{◌≡◌, ◌≤◌, ◌<◌, ◌+◌, ◌*◌, ◌%◌, ◌/◌, ◌^◌, ℕ, List, Option, length, take, drop, slice_index, inl, inr, refl, sym, ap, subst, ◌∙◌, arith}
 use Rattle.std.proofs.Math.Nat.{mod-lt}
 use Rattle.std.proofs.lemmas.List.{drop-take, get_or-take, length-take}
 use Rattle.byteorder.specs.Endian.{big_from}
@@ -7,8 +7,8 @@ use Rattle.byteorder.specs.Numbers.{big_from-take}
 use Rattle.packet_heads.specs.declared.packet.Heads.{Heads}
 use Rattle.packet_heads.specs.declared.packet.Protocol.{Protocol}
 use Rattle.packet_heads.specs.declared.packet.Protocol.TheVariants.{Tcp, Udp}
-use Rattle.packet_heads.specs.Ethernet.{Carries, IsPlain, IsTagged}
-use Rattle.packet_heads.specs.Ipv4.{HasHead, HasIpv4, IsFirstFragment}
+use Rattle.packet_heads.specs.Ethernet.{Carries}
+use Rattle.packet_heads.specs.Ipv4.{HasHead, HasIpv4}
 use Rattle.packet_heads.specs.Ipv6.{HasIpv6}
 use Rattle.packet_heads.specs.Transport.{HasFields, HasPorts, HasProtocol, HasRoom, count_behind, need_of, payload_behind}
 use Rattle.packet_heads.specs.Heads.{HasHeads, HasNetwork}
@@ -143,7 +143,8 @@ module _ (k : ℕ) (p : List ℕ) (enough : 74 ≤ k) where
         first_fragment = ap (λ (n : ℕ). n % 2 ^ 13) (sym (big_from-take 6 2 k p (omega (arith, enough))))
             ∙ has.first_fragment;
         protocol = protocol_up has.head (slice_index (take k p) 9) (slice_index p 9)
-            (count_behind (big_from 2 2 (take k p)) has.head) (count_behind (big_from 2 2 p) has.head) heads.protocol few
+            (count_behind (big_from 2 2 (take k p)) has.head) (count_behind (big_from 2 2 p) has.head)
+            heads.protocol few
             (byte_in k 9 p (omega (arith, enough))) (ap (λ (n : ℕ). count_behind n has.head) total_length) has.protocol;
         source_at_12 = sym (big_from-take 12 4 k p (omega (arith, enough))) ∙ has.source_at_12;
         target_at_16 = sym (big_from-take 16 4 k p (omega (arith, enough))) ∙ has.target_at_16;
@@ -157,9 +158,11 @@ module _ (k : ℕ) (p : List ℕ) (enough : 74 ≤ k) where
         version = has.version;
         head = has.head;
         head_length = head_down has.head has.head_length;
-        first_fragment = ap (λ (n : ℕ). n % 2 ^ 13) (big_from-take 6 2 k p (omega (arith, enough))) ∙ has.first_fragment;
+        first_fragment =
+            ap (λ (n : ℕ). n % 2 ^ 13) (big_from-take 6 2 k p (omega (arith, enough))) ∙ has.first_fragment;
         protocol = protocol_down has.head (slice_index p 9) (slice_index (take k p) 9)
-            (count_behind (big_from 2 2 p) has.head) (count_behind (big_from 2 2 (take k p)) has.head) heads.protocol few
+            (count_behind (big_from 2 2 p) has.head) (count_behind (big_from 2 2 (take k p)) has.head)
+            heads.protocol few
             (sym (byte_in k 9 p (omega (arith, enough)))) (ap (λ (n : ℕ). count_behind n has.head) (sym total_length))
             has.protocol;
         source_at_12 = big_from-take 12 4 k p (omega (arith, enough)) ∙ has.source_at_12;

@@ -1,6 +1,6 @@
 -- The class of a packet: 0 for TCP, 1 for UDP, 2 where it has no heads that are known.
 -- Source: this project's own; the heads are those of packet_heads.
-use Rattle.std.specs.Prelude.{◌≡◌, ◌⊎◌, ◌↔◌, ◌≤◌, ℕ, List, take}
+use Rattle.std.specs.Prelude.{◌≡◌, ◌⊎◌, ◌↔◌, ℕ, List, take}
 use Rattle.packet_heads.specs.declared.packet.Heads.{Heads}
 use Rattle.packet_heads.specs.declared.packet.Protocol.{Protocol}
 use Rattle.packet_heads.specs.declared.packet.Protocol.TheVariants.{Tcp, Udp}

@@ -3,8 +3,8 @@ use Rattle.std.proofs.Common.{◌≡◌, ℕ, ◌+◌, ◌≤◌, ◌⊎◌, Boo
 use Rattle.std.specs.Io.KnownBytes.{Consumes, prepend_known}
 use Rattle.std.proofs.lemmas.List.{drop-append-le, drop_all}
 use Rattle.pcap_reader.specs.declared.order.Order.{Order}
-use Rattle.pcap_reader.specs.declared.fault.CaptureFault.{CaptureFault}
-use Rattle.pcap_reader.specs.declared.fault.CaptureFault.TheVariants.{ReadFault, ShortHeader, Magic, Version, LinkType, RecordLength, Memory}
+use Rattle.capture_faults.specs.declared.fault.CaptureFault.{CaptureFault}
+use Rattle.capture_faults.specs.declared.fault.CaptureFault.TheVariants.{ReadFault, ShortHeader, Magic, Version, LinkType, RecordLength, Memory}
 use Rattle.pcap_reader.specs.declared.head.TheConstants.{FILE_HEAD}
 use Rattle.pcap_reader.specs.Capture.{HasFileHead, ShowsFault, IsCut, IsOverlong, bytes_of}
 use Rattle.pcap_reader.specs.Reading.{Reading, to_come, OfInput, OnInputFault, GivesRecord, Took, buffer_length}
@@ -157,17 +157,6 @@ cut_shows_none order bytes (inl short) (inl (captured, whole)) = omega (arith, s
 cut_shows_none order bytes (inl short) (inr (found, overlong)) = omega (arith, short, overlong.head)
 cut_shows_none order bytes (inr cut) (inl (captured, whole)) = omega (arith, cut.shorter, whole.whole, whole.shown)
 cut_shows_none order bytes (inr cut) (inr (found, overlong)) = omega (arith, cut.within, overlong.above)
-
--- and nothing but these two is left: what is no whole record is cut or overlong
-pub cut_not_whole : (order : Order) (bytes : List ℕ) (captured : ℕ) → IsCut order bytes →
-    BeginsRecord order bytes captured → ⊥
-cut_not_whole order bytes captured cut whole = cut_shows_none order bytes cut (inl (captured, whole))
-
--- an overlong record is not whole
-pub overlong_not_whole : (order : Order) (bytes : List ℕ) (found captured : ℕ) → IsOverlong order bytes found →
-    BeginsRecord order bytes captured → ⊥
-overlong_not_whole order bytes found captured overlong whole =
-    omega (arith, overlong.above, whole.shown, whole.within)
 
 -- a fact where the record is cut, if it holds anyway
 pub on_cut : {P : Type 0} (seen : Shown) → P → OnCut seen P

@@ -9,8 +9,9 @@ ghost use Rattle.pcap_reader.specs.Record.{BeginsRecord, IsShown, OnCut, ShowsNe
 
 use crate::head::file_head;
 use crate::record::{Shown, look};
-use crate::{CaptureFault, FILE_HEAD, Order, RECORD_HEAD};
+use crate::{FILE_HEAD, Order, RECORD_HEAD};
 use byte_window::Window;
+use capture_faults::CaptureFault;
 use edge_traits::{Failed, Source};
 use std::alloc::Global;
 use std::marker::Model;

@@ -2,11 +2,11 @@
 use Rattle.std.proofs.Common.{◌≡◌, ◌≤◌, ℕ, ◌+◌, ◌-◌, true, false, List, [], ◌∷◌, ◌++◌, length, take, drop, Option, IfSome, Result, Ok, Err, refl, sym, ap, ◌∙◌, subst, inl, inr, arith, append_assoc, append-nil, length-append, length-drop, length-take-le, take-append-drop}
 use Rattle.std.proofs.lemmas.List.{drop-append-le, take-append-le}
 use Rattle.pcap_reader.specs.declared.order.Order.{Order}
-use Rattle.pcap_reader.specs.declared.fault.CaptureFault.{CaptureFault}
-use Rattle.pcap_reader.specs.declared.fault.CaptureFault.TheVariants as capture
+use Rattle.capture_faults.specs.declared.fault.CaptureFault.{CaptureFault}
+use Rattle.capture_faults.specs.declared.fault.CaptureFault.TheVariants as capture
 use Rattle.pcap_reader.specs.Reading.{Took, buffer_length}
-use Rattle.pcapng_reader.specs.declared.fault.AnyFault.{AnyFault}
-use Rattle.pcapng_reader.specs.declared.fault.AnyFault.TheVariants as fault
+use Rattle.capture_faults.specs.declared.any_fault.AnyFault.{AnyFault}
+use Rattle.capture_faults.specs.declared.any_fault.AnyFault.TheVariants as fault
 use Rattle.pcapng_reader.specs.declared.block.Kind.{Kind}
 use Rattle.pcapng_reader.specs.declared.block.Kind.TheVariants.{Section, Interface, Enhanced, Simple, Other}
 use Rattle.pcapng_reader.specs.declared.block.Seen.{Seen}
@@ -249,12 +249,6 @@ pub no_capture_fault : (state : State) (offset : ℕ) (bytes : List ℕ) (found 
     Sees state offset bytes (seen.Fault (fault.Capture found)) → ⊥
 no_capture_fault state offset bytes found shows =
     sees_shows state offset bytes (seen.Fault (fault.Capture found)) shows
-
--- so it is no failed read
-pub no_read_fault : (state : State) (offset : ℕ) (bytes : List ℕ) (found : AnyFault) →
-    Sees state offset bytes (seen.Fault found) → found ≡ fault.Capture capture.ReadFault → ⊥
-no_read_fault state offset bytes found shows is =
-    subst IsOfBlocks is (sees_shows state offset bytes (seen.Fault found) shows)
 
 -- of a cut block
 meets_cut : (old new : Reading) (state last : State) (held : List ℕ) (place dropped : ℕ) (taken : List ℕ) →

@@ -5,16 +5,16 @@ use Rattle.std.proofs.lemmas.Grind.{common_steps}
 use Rattle.std.proofs.lemmas.List.{nil_from_length}
 use Rattle.std.proofs.lemmas.List.Elements.{All-cons}
 use Rattle.pcap_reader.specs.declared.order.Order.{Order}
-use Rattle.pcap_reader.specs.declared.fault.CaptureFault.{CaptureFault}
-use Rattle.pcap_reader.specs.declared.fault.CaptureFault.TheVariants as capture
+use Rattle.capture_faults.specs.declared.fault.CaptureFault.{CaptureFault}
+use Rattle.capture_faults.specs.declared.fault.CaptureFault.TheVariants as capture
 use Rattle.pcap_reader.specs.declared.reader.Item.{Item}
 use Rattle.pcap_reader.specs.declared.reader.Item.TheVariants.{Packet, End, Rest}
 use Rattle.pcap_reader.specs.Capture.{Saved, bytes_of, IsCut, IsRemainder, IsSaved}
 use Rattle.pcap_reader.specs.Reading.{GivesNone, GivesRecord, IfEnding, MatchPacket, OnReadFault, Took, to_come}
 use Rattle.pcap_reader.specs.Reading.{Reading as OneFile}
 use Rattle.pcap_reader.specs.Record.{BeginsRecord}
-use Rattle.pcapng_reader.specs.declared.fault.AnyFault.{AnyFault}
-use Rattle.pcapng_reader.specs.declared.fault.AnyFault.TheVariants as fault
+use Rattle.capture_faults.specs.declared.any_fault.AnyFault.{AnyFault}
+use Rattle.capture_faults.specs.declared.any_fault.AnyFault.TheVariants as fault
 use Rattle.pcapng_reader.specs.Input.{any_ending}
 use Rattle.pcapng_reader.specs.Inner.{of_savefile}
 use Rattle.pcapng_reader.specs.Reading.{Answers, AreParts, Form, GivesPacket, HoldsPacket, MeetsEnding, OfRecords, Reading}

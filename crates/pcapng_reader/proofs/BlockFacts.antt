@@ -8,7 +8,7 @@ use Rattle.pcapng_reader.specs.declared.block.Kind.{Kind}
 use Rattle.pcapng_reader.specs.declared.block.Kind.TheVariants.{Section, Interface, Enhanced, Simple, Other}
 use Rattle.pcapng_reader.specs.declared.block.Seen.{Seen}
 use Rattle.pcapng_reader.specs.declared.block.Seen.TheVariants as seen
-use Rattle.pcapng_reader.specs.declared.fault.AnyFault.TheVariants as fault
+use Rattle.capture_faults.specs.declared.any_fault.AnyFault.TheVariants as fault
 use Rattle.pcapng_reader.specs.Section.{State}
 use Rattle.pcapng_reader.specs.Blocks.{HasKind, HasNoOrder, IsBlock, IsBlockLength, IsMagicIn, IsReadIn, IsSection, IsShort, IsWhole, Sees, SeesEnhanced, SeesHead, SeesInterface, SeesKind, SeesSection, SeesSimple, SeesSize, block_type, least_length, second_length, total_length}
 use Rattle.pcapng_reader.proofs.Decisions.{where_map}

@@ -1,27 +1,7 @@
 -- Tests that are met or not, and what both sides of them give.
-use Rattle.std.proofs.Common.{◌⊎◌, inl, inr}
+use Rattle.std.proofs.Common.{inl, inr}
+use Rattle.pcap_reader.proofs.Decisions.{Decided}
 use Rattle.pcapng_reader.specs.Blocks.{Where}
-
--- a statement holds or does not
-abbrev pub Decided : Type 0 → Type 0
-Decided P = P ⊎ (P → ⊥)
-
--- two that are decided are decided together
-pub both : {P Q : Type 0} → Decided P → Decided Q → Decided (P × Q)
-both (inl p) (inl q) = inl (p, q)
-both (inl p) (inr q) = inr (λ h. q h.1)
-both (inr p) q = inr (λ h. p h.0)
-
--- and so is the choice of them
-pub either : {P Q : Type 0} → Decided P → Decided Q → Decided (P ⊎ Q)
-either (inl p) q = inl (inl p)
-either (inr p) (inl q) = inl (inr q)
-either (inr p) (inr q) = inr (λ h. elim h [ inl a ↦ p a | inr b ↦ q b ])
-
--- and the opposite of one
-pub opposite : {P : Type 0} → Decided P → Decided (P → ⊥)
-opposite (inl p) = inr (λ n. n p)
-opposite (inr n) = inl n
 
 -- one test has one side
 pub where_once : {T A B C D G : Type 0} → (A → C → G) → (B → D → G) → Where T A B → Where T C D → G

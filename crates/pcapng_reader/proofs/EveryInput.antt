@@ -5,9 +5,10 @@ use Rattle.pcap_reader.specs.declared.order.Order.{Order}
 use Rattle.pcap_reader.specs.declared.order.Order.TheVariants.{Little, Big}
 use Rattle.pcap_reader.specs.Capture.{number, spelling, file_head_length}
 use Rattle.pcap_reader.specs.Laws.{HasCapture}
+use Rattle.pcap_reader.proofs.Decisions.{both, either, same_list, Decided}
 use Rattle.pcapng_reader.specs.declared.section.Interface.{Interface as AnInterface}
-use Rattle.pcapng_reader.specs.declared.fault.AnyFault.{AnyFault}
-use Rattle.pcapng_reader.specs.declared.fault.AnyFault.TheVariants as fault
+use Rattle.capture_faults.specs.declared.any_fault.AnyFault.{AnyFault}
+use Rattle.capture_faults.specs.declared.any_fault.AnyFault.TheVariants as fault
 use Rattle.pcapng_reader.specs.declared.block.Kind.{Kind}
 use Rattle.pcapng_reader.specs.declared.block.Kind.TheVariants.{Section, Interface, Enhanced, Simple, Other}
 use Rattle.pcapng_reader.specs.declared.block.Seen.{Seen}
@@ -15,24 +16,11 @@ use Rattle.pcapng_reader.specs.declared.block.Seen.TheVariants as seen
 use Rattle.pcapng_reader.specs.Section.{State, opening}
 use Rattle.pcapng_reader.specs.Blocks.{HasKind, HasNoOrder, HoldsBlocks, IsBlock, IsBlockLength, IsLast, IsMagicIn, IsReadIn, IsSection, IsShort, IsWhole, Sees, SeesCaptured, SeesHead, SeesKind, SeesOther, SeesSize, Where, after, block_type, byte_order_magic, given_length, interface_at, least_length, longest_block, longest_packet, most_interfaces, most_others, packets_of, padded, second_length, section_type, simple_length, total_length}
 use Rattle.pcapng_reader.specs.Input.{Input, any_ending, packets_in}
-use Rattle.pcapng_reader.proofs.Decisions.{Decided, both, either, where_some}
+use Rattle.pcapng_reader.proofs.Decisions.{where_some}
 use Rattle.pcapng_reader.proofs.BlockFacts.{block_back, least_4, whole_parts}
 use Rattle.pcapng_reader.proofs.OneInput.{joined}
 
 -- ---- tests
-
--- whether two lists are one
-same_list : (xs ys : List ℕ) → Decided (xs ≡ ys)
-same_list [] [] = inl refl
-same_list [] (y ∷ ys) = inr (λ e. cc)
-same_list (x ∷ xs) [] = inr (λ e. cc)
-same_list (x ∷ xs) (y ∷ ys) = elim (cases_eq x y) [
-  | inl first ↦ elim (same_list xs ys) [
-    | inl rest ↦ inl (cc)
-    | inr rest ↦ inr (λ e. rest (cc))
-  ]
-  | inr first ↦ inr (λ e. first (cc))
-]
 
 -- whether a number is below another
 less : (n m : ℕ) → Decided (n < m)

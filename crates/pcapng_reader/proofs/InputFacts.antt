@@ -1,26 +1,25 @@
 -- Parts of an input one behind the other, what they are of a longer input, and the packets that they give.
-use Rattle.std.proofs.Common.{◌≡◌, ◌≤◌, ℕ, suc, ◌+◌, ◌*◌, List, [], ◌∷◌, ◌++◌, length, take, drop, get_or, ◌⊎◌, Result, Ok, Err, refl, sym, ap, ◌∙◌, subst, inl, inr, arith, append_assoc, length-append}
+use Rattle.std.proofs.Common.{◌≡◌, ◌≤◌, ℕ, suc, ◌+◌, List, [], ◌++◌, length, take, drop, get_or, ◌⊎◌, Result, Ok, Err, refl, sym, ap, ◌∙◌, subst, inl, inr, arith, append_assoc, length-append}
 use Rattle.std.specs.List.{All, flat_map}
 use Rattle.std.proofs.lemmas.Grind.{common_steps, flat_map-append}
-use Rattle.std.proofs.lemmas.List.{drop-append-le, length-map, map-append, take-append-le}
-use Rattle.std.proofs.lemmas.List.Elements.{All-append, All-head, All-tail}
+use Rattle.std.proofs.lemmas.List.{drop-append-le, map-append, take-append-le}
+use Rattle.std.proofs.lemmas.List.Elements.{All-append}
 use Rattle.pcap_reader.specs.declared.order.Order.{Order}
 use Rattle.pcap_reader.specs.declared.order.Order.TheVariants.{Little, Big}
-use Rattle.pcap_reader.specs.declared.fault.CaptureFault.{CaptureFault}
-use Rattle.pcap_reader.specs.declared.fault.CaptureFault.TheVariants as capture
+use Rattle.capture_faults.specs.declared.fault.CaptureFault.{CaptureFault}
+use Rattle.capture_faults.specs.declared.fault.CaptureFault.TheVariants as capture
 use Rattle.pcap_reader.specs.Capture.{Saved, bytes_of, HasFileHead, IsRemainder, IsSaved, ShowsFault, file_head_length, microseconds, nanoseconds, spelling}
 use Rattle.pcap_reader.specs.Laws.{HoldsFront as HoldsFirst}
 use Rattle.pcap_reader.proofs.CaptureFacts.{head_front, overlong_front}
-use Rattle.pcapng_reader.specs.declared.fault.AnyFault.{AnyFault}
-use Rattle.pcapng_reader.specs.declared.fault.AnyFault.TheVariants as fault
-use Rattle.pcapng_reader.specs.declared.block.Seen.{Seen}
+use Rattle.capture_faults.specs.declared.any_fault.AnyFault.{AnyFault}
+use Rattle.capture_faults.specs.declared.any_fault.AnyFault.TheVariants as fault
 use Rattle.pcapng_reader.specs.declared.block.Seen.TheVariants as seen
 use Rattle.pcapng_reader.specs.Section.{State, opening}
-use Rattle.pcapng_reader.specs.Blocks.{AreBlocks, IsLast, IsWhole, after, packets_of, section_type}
+use Rattle.pcapng_reader.specs.Blocks.{AreBlocks, IsLast, section_type}
 use Rattle.pcapng_reader.specs.Input.{Input, IsPcapng, any_ending, packets_in}
 use Rattle.pcapng_reader.specs.Laws.{HasOneInput, Reaches}
 use Rattle.pcapng_reader.specs.Reading.{AreParts, Form, IsEnd, IsOpened, OfBlocks, OfRecords, head_length}
-use Rattle.pcapng_reader.proofs.BlockFacts.{sees_there, whole_parts}
+use Rattle.pcapng_reader.proofs.BlockFacts.{sees_there}
 use Rattle.pcapng_reader.proofs.EveryInput.{cutting}
 use Rattle.pcapng_reader.proofs.OneInput.{joined}
 use Rattle.pcapng_reader.proofs.PassFacts.{AreBlocks-append, joined-append}
@@ -82,71 +81,6 @@ parts_none (OfRecords order) offset = ([], all_none order, refl, refl, refl)
 parts_none (OfBlocks state) offset = ([], state, (refl, refl), refl, refl)
 
 -- ---- how long parts are
-
--- how many blocks of an input gave no packet
-abbrev pub passed_by : Form → ℕ
-passed_by (OfRecords order) = 0
-passed_by (OfBlocks state) = state.others
-
--- each block gives a packet or is counted
-block_counts : (state : State) (x : Seen) (block : List ℕ) (n : ℕ) → IsWhole x n →
-    length (packets_of x block) + (after state x).others ≡ state.others + 1
-block_counts state (seen.Packet size at count) block n whole = omega arith
-block_counts state (seen.Section size order) block n whole = omega arith
-block_counts state (seen.Interface size interface) block n whole = omega arith
-block_counts state (seen.Other size) block n whole = omega arith
-block_counts state seen.Cut block n whole = absurd whole
-block_counts state (seen.Fault found) block n whole = absurd whole
-
--- and none is longer than the limit
-blocks_fewer : (state : State) (offset : ℕ) (blocks packets : List (List ℕ)) (last : State) →
-    AreBlocks state offset blocks packets last →
-    length (joined blocks) + state.others * 16777216 ≤ (length packets + last.others) * 16777216
-blocks_fewer state offset [] packets last h =
-    let none : length packets ≡ 0 = ap length h.0 in
-    let same : last.others ≡ state.others = ap (λ (s : State). s.others) h.1 in
-    omega (arith, none, same)
-blocks_fewer state offset (block ∷ blocks) packets last h =
-    let parts = whole_parts state offset block h.0 (length block) h.2.whole h.2.shows in
-    let more = blocks_fewer (after state h.0) (offset + length block) blocks h.1 last h.3 in
-    let count = block_counts state h.0 block (length block) h.2.whole in
-    let size : length packets ≡ length (packets_of h.0 block) + length h.1 =
-    ap length h.4 ∙ length-append (packets_of h.0 block) h.1 in
-    omega (arith, parts.right.1, more, count, size, length-append block (joined blocks))
-
--- and no record is
-records_fewer : (order : Order) (records : List Saved) → All (IsSaved order) records →
-    length (flat_map bytes_of records) ≤ length records * 16777216
-records_fewer order [] each = omega arith
-records_fewer order (saved ∷ records) each =
-    let first : IsSaved order saved = All-head (IsSaved order) saved records each in
-    let more = records_fewer order records (All-tail (IsSaved order) saved records each) in
-    omega (
-      arith,
-      first.head_length,
-      first.within,
-      more,
-      length-append (bytes_of saved) (flat_map bytes_of records),
-      length-append saved.head saved.packet,
-    )
-
--- parts are no longer than their packets and the blocks without one allow
-pub parts_fewer : (form : Form) (offset : ℕ) (bytes : List ℕ) (packets : List (List ℕ)) (last : Form) →
-    AreParts form offset bytes packets last →
-    length bytes + passed_by form * 16777216 ≤ (length packets + passed_by last) * 16777216
-parts_fewer (OfRecords order) offset bytes packets last h =
-    let none : passed_by last ≡ 0 = ap passed_by h.4 in
-    omega (
-      arith,
-      records_fewer order h.0 h.1,
-      ap length h.2,
-      ap length h.3,
-      length-map h.0 (λ (saved : Saved). saved.packet),
-      none,
-    )
-parts_fewer (OfBlocks state) offset bytes packets last h =
-    let count : passed_by last ≡ h.1.others = ap passed_by h.4 in
-    omega (arith, blocks_fewer state offset h.0 packets h.1 h.2, ap length h.3, count)
 
 -- ---- a longer input
 

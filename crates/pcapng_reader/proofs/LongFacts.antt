@@ -13,7 +13,7 @@ use Rattle.pcapng_reader.specs.declared.block.Kind.TheVariants.{Section, Interfa
 use Rattle.pcapng_reader.specs.declared.block.Seen.{Seen}
 use Rattle.pcapng_reader.specs.declared.block.Seen.TheVariants as seen
 use Rattle.pcapng_reader.specs.declared.long.Long.{Long}
-use Rattle.pcapng_reader.specs.declared.fault.AnyFault.TheVariants as fault
+use Rattle.capture_faults.specs.declared.any_fault.AnyFault.TheVariants as fault
 use Rattle.pcapng_reader.specs.Section.{State}
 use Rattle.pcapng_reader.specs.Blocks.{HasKind, HasNoOrder, IsReadIn, IsShort, IsTooLong, Sees, SeesKind, SeesSize, given_length, interface_at, longest_packet, second_length, simple_length}
 use Rattle.pcapng_reader.specs.Waiting.{Awaits, AwaitsNone, AwaitsTo, CoversPacket, Drops, DropsNone, DropsTo, IsLong, LiesIn, SeesLong}

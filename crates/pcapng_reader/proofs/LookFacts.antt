@@ -1,6 +1,5 @@
 -- What bytes show, by what was found of them.
-use Rattle.std.proofs.Common.{◌≡◌, ◌≤◌, ◌<◌, ℕ, ◌-◌, List, length, take, drop, sym, ap, ◌∙◌, subst, inl, inr, refl, arith, length-take-le, length-drop, take-append-drop}
-use Rattle.std.proofs.lemmas.List.{take_all}
+use Rattle.std.proofs.Common.{◌≡◌, ◌≤◌, ◌<◌, ℕ, ◌-◌, List, length, take, drop, sym, ap, ◌∙◌, subst, inl, inr, refl, arith, length-take-le, take-append-drop}
 use Rattle.pcap_reader.specs.declared.order.Order.{Order}
 use Rattle.pcap_reader.specs.declared.order.Order.TheVariants.{Little, Big}
 use Rattle.pcap_reader.specs.Capture.{number}
@@ -9,24 +8,11 @@ use Rattle.pcapng_reader.specs.declared.block.Kind.{Kind}
 use Rattle.pcapng_reader.specs.declared.block.Kind.TheVariants.{Section, Interface, Enhanced, Simple, Other}
 use Rattle.pcapng_reader.specs.declared.block.Seen.{Seen}
 use Rattle.pcapng_reader.specs.declared.block.Seen.TheVariants as seen
-use Rattle.pcapng_reader.specs.declared.fault.AnyFault.TheVariants as fault
+use Rattle.capture_faults.specs.declared.any_fault.AnyFault.TheVariants as fault
 use Rattle.pcapng_reader.specs.Section.{State}
 use Rattle.pcapng_reader.specs.Blocks.{HasKind, IsBlockLength, IsMagicIn, IsReadIn, IsSection, IsShort, Sees, SeesKind, SeesSize, block_type, section_type, total_length}
 use Rattle.pcapng_reader.proofs.BlockFacts.{Shows}
 use Rattle.pcapng_reader.proofs.OneInput.{same_kind, same_order}
-
--- what stands behind a place, as the code slices it
-pub behind : (bytes : List ℕ) (n : ℕ) → take (length bytes - n) (drop n bytes) ≡ drop n bytes
-behind bytes n = take_all (length bytes - n) (drop n bytes) (omega (arith, length-drop n bytes))
-
--- too few bytes show a cut block
-pub sees_cut : (state : State) (offset : ℕ) (bytes : List ℕ) → length bytes < 8 → Sees state offset bytes seen.Cut
-sees_cut state offset bytes few = inl (inl few, refl)
-
--- and so do too few of a section
-pub sees_cut_section : (state : State) (offset : ℕ) (bytes : List ℕ) → IsSection bytes → length bytes < 12 →
-    Sees state offset bytes seen.Cut
-sees_cut_section state offset bytes section few = inl (inr (section, few), refl)
 
 -- a section's type reads the same in both orders
 section_number : (order : Order) → number order 4 section_type ≡ 0x0a0d0d0a
@@ -52,16 +38,6 @@ sees_section state offset order bytes x section long magic size =
         (λ none. none.1 order magic),
         (order, Section, inl (section, magic), section_kind order bytes (omega (arith, long)) section, size),
       ),
-    )
-
--- and one without
-pub sees_no_order : (state : State) (offset : ℕ) (bytes found : List ℕ) → IsSection bytes → 12 ≤ length bytes →
-    ((order : Order) → IsMagicIn order bytes → ⊥) → found ≡ take 4 (drop 8 bytes) →
-    Sees state offset bytes (seen.Fault (fault.ByteOrder offset found))
-sees_no_order state offset bytes found section long none is =
-    inr (
-      (λ short. elim short [ inl few ↦ omega (arith, few, long) | inr p ↦ omega (arith, p.1, long) ]),
-      inl ((section, none), ap (λ (l : List ℕ). seen.Fault (fault.ByteOrder offset l)) is),
     )
 
 -- a block of another type

@@ -255,11 +255,6 @@ pub record PassesHeld (state : State) (offset : ℕ) (old : List ℕ) (last : St
   pub place_is : place ≡ offset + length (joined blocks)
   pub all : old ++ taken ≡ joined blocks ++ held
 
--- none yet
-pub passes_none : (state : State) (offset : ℕ) (old : List ℕ) → PassesHeld state offset old state old offset []
-passes_none state offset old =
-    record { blocks = []; each = (refl, refl); place_is = omega arith; all = append-nil old }
-
 -- one more
 pub passes_more : (state : State) (offset : ℕ) (old : List ℕ) (middle : State) (held new : List ℕ) (place : ℕ)
     (x : Seen) (size dropped : ℕ) (first more : List ℕ) → IsPassed x size →

@@ -1,9 +1,9 @@
 -- How far an input has been read, one packet further, and how it ends: where its source tells its bytes, and by what
 -- was taken of them.
-use Rattle.std.proofs.Common.{◌≡◌, ◌≤◌, ℕ, ◌+◌, List, [], ◌∷◌, ◌++◌, length, drop, Option, Some, None, IfSome, Result, Ok, Err, refl, sym, ap, ◌∙◌, subst, arith, append_assoc, append-nil, length-append, length-drop}
+use Rattle.std.proofs.Common.{◌≡◌, ◌≤◌, ℕ, ◌+◌, List, [], ◌∷◌, ◌++◌, length, drop, Option, Some, None, Result, Err, refl, sym, ap, ◌∙◌, subst, arith, append_assoc, append-nil, length-append, length-drop}
 use Rattle.pcap_reader.specs.declared.order.Order.{Order}
 use Rattle.pcap_reader.specs.Reading.{Took, buffer_length}
-use Rattle.pcapng_reader.specs.declared.fault.AnyFault.{AnyFault}
+use Rattle.capture_faults.specs.declared.any_fault.AnyFault.{AnyFault}
 use Rattle.pcapng_reader.specs.Input.{Input}
 use Rattle.pcapng_reader.specs.Laws.{Reaches}
 use Rattle.pcapng_reader.specs.Reading.{AreParts, Form, GivesAll, GivesPacket, HasRead, HaveRoom, IsAtStart, IsEnd, IsOpenedOn, MeetsEnding, OfBlocks, OfRecords, Reading, beyond, head_length}
@@ -51,17 +51,6 @@ read_longer front left more reading packets r =
       offset = r.offset;
       room = r.room;
     }
-
--- what was read by what was taken, was read of the bytes that the source told
-pub read_told : (before after : Option (List ℕ)) (bytes : List ℕ) (reading : Reading) (packets : List (List ℕ)) →
-    before ≡ Some bytes → Took before after (λ taken. HasRead taken reading (Some []) packets) →
-    HasRead bytes reading after packets
-read_told None after bytes reading packets is took = absurd (cc)
-read_told (Some xs) None bytes reading packets is took = absurd took.1
-read_told (Some xs) (Some ys) bytes reading packets is took =
-    let same : took.0 ++ ys ≡ bytes = sym took.1 ∙ some_inj (sym is) in
-    subst (λ (l : List ℕ). HasRead l reading (Some ys) packets) same
-    (read_longer took.0 [] ys reading packets took.2)
 
 -- ---- one packet further
 
@@ -181,28 +170,6 @@ read_faults bytes old new taken left packets found r m =
     let at = meets_at bytes old new taken left packets (Err found) r m in
     input_of r.form bytes at.passed packets at.last (at.rest ++ left) (Err found) r.opened at.parts at.whole
     (end_front at.last (head_length r.form + length at.passed) at.rest left found at.ends)
-
--- by what a source told before and after
-pub read_ended : (bytes : List ℕ) (old new : Reading) (before after : Option (List ℕ)) (packets : List (List ℕ))
-    (left : ℕ) → HasRead bytes old before packets →
-    Took before after (λ taken. MeetsEnding old new (Ok left) taken × IfSome before (λ told. told ≡ taken)) →
-    Input bytes packets (Ok left)
-read_ended bytes old new None after packets left r took =
-    let not : None ≡ Some r.more = r.told in absurd (cc)
-read_ended bytes old new (Some xs) after packets left r took =
-    read_ends bytes old new took.0 packets (Ok left)
-    (subst (λ (l : List ℕ). HasRead bytes old (Some l) packets) took.2.1 r) took.2.0
-
--- and a fault
-pub read_faulted : (bytes : List ℕ) (old new : Reading) (before after : Option (List ℕ)) (packets : List (List ℕ))
-    (found : AnyFault) → HasRead bytes old before packets → Took before after (MeetsEnding old new (Err found)) →
-    Input bytes packets (Err found)
-read_faulted bytes old new None after packets found r took =
-    let not : None ≡ Some r.more = r.told in absurd (cc)
-read_faulted bytes old new (Some xs) None packets found r took = absurd took.1
-read_faulted bytes old new (Some xs) (Some ys) packets found r took =
-    read_faults bytes old new took.0 ys packets found
-    (subst (λ (l : List ℕ). HasRead bytes old (Some l) packets) took.1 r) took.2
 
 -- a whole reading
 pub read_to_end : (start last ended : Reading) (head middle rest : List ℕ) (packets : List (List ℕ))

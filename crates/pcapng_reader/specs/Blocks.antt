@@ -9,8 +9,8 @@ use Rattle.std.specs.List.{flat_map}
 use Rattle.pcap_reader.specs.declared.order.Order.{Order}
 use Rattle.pcap_reader.specs.Capture.{number, spelling}
 use Rattle.pcapng_reader.specs.declared.section.Interface.{Interface as AnInterface}
-use Rattle.pcapng_reader.specs.declared.fault.AnyFault.{AnyFault}
-use Rattle.pcapng_reader.specs.declared.fault.AnyFault.TheVariants as fault
+use Rattle.capture_faults.specs.declared.any_fault.AnyFault.{AnyFault}
+use Rattle.capture_faults.specs.declared.any_fault.AnyFault.TheVariants as fault
 use Rattle.pcapng_reader.specs.declared.block.Kind.{Kind}
 use Rattle.pcapng_reader.specs.declared.block.Kind.TheVariants.{Section, Interface, Enhanced, Simple, Other}
 use Rattle.pcapng_reader.specs.declared.block.Seen.{Seen}

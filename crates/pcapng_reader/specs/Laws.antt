@@ -1,6 +1,6 @@
 -- What holds of all inputs.
 use Rattle.std.specs.Prelude.{◌≡◌, ℕ, ◌+◌, List, ◌++◌, length, drop, Result}
-use Rattle.pcapng_reader.specs.declared.fault.AnyFault.{AnyFault}
+use Rattle.capture_faults.specs.declared.any_fault.AnyFault.{AnyFault}
 use Rattle.pcapng_reader.specs.Input.{Input}
 use Rattle.pcapng_reader.specs.Reading.{AreParts, Form, GivesAll, IsAtStart, IsOpened, IsOpenedOn, MeetsEnding, Reading, head_length}
 

@@ -3,14 +3,14 @@ use Rattle.std.specs.Prelude.{◌≡◌, ◌≤◌, ◌<◌, ℕ, ◌+◌, ◌++
 use Rattle.std.specs.List.{flat_map}
 use Rattle.std.specs.Io.KnownBytes.{prepend_known}
 use Rattle.pcap_reader.specs.declared.order.Order.{Order}
-use Rattle.pcap_reader.specs.declared.fault.CaptureFault.{CaptureFault}
-use Rattle.pcap_reader.specs.declared.fault.CaptureFault.TheVariants as capture
+use Rattle.capture_faults.specs.declared.fault.CaptureFault.{CaptureFault}
+use Rattle.capture_faults.specs.declared.fault.CaptureFault.TheVariants as capture
 use Rattle.pcap_reader.specs.declared.reader.Item.{Item}
 use Rattle.pcap_reader.specs.declared.reader.Item.TheVariants.{Packet, End, Rest}
 use Rattle.pcap_reader.specs.Capture.{Saved, bytes_of, HasFileHead, IsRemainder, IsSaved, ShowsFault, file_head_length}
 use Rattle.pcap_reader.specs.Reading.{Took, TakesFewer, buffer_length}
-use Rattle.pcapng_reader.specs.declared.fault.AnyFault.{AnyFault}
-use Rattle.pcapng_reader.specs.declared.fault.AnyFault.TheVariants as fault
+use Rattle.capture_faults.specs.declared.any_fault.AnyFault.{AnyFault}
+use Rattle.capture_faults.specs.declared.any_fault.AnyFault.TheVariants as fault
 use Rattle.pcapng_reader.specs.Section.{State, opening}
 use Rattle.pcap_reader.specs.Record.{BeginsRecord}
 use Rattle.pcapng_reader.specs.declared.block.Seen.TheVariants as seen
@@ -122,10 +122,6 @@ pub record MeetsEnding (old new : Reading) (ending : Result ℕ AnyFault) (taken
   pub given : new.given ≡ old.given
   pub ended : new.ended ≡ true
 
--- the bytes still to come: those that the reader holds, and those left in its source, where it tells them
-abbrev pub to_come : Reading → Option (List ℕ) → Option (List ℕ)
-to_come reading left = prepend_known reading.pending left
-
 -- Of the bytes of an input these packets have been given, and of its source these bytes are left. The reader stands
 -- behind the parts that have the packets.
 pub record HasRead (bytes : List ℕ) (reading : Reading) (left : Option (List ℕ)) (packets : List (List ℕ)) :
@@ -135,7 +131,8 @@ pub record HasRead (bytes : List ℕ) (reading : Reading) (left : Option (List �
   pub passed : List ℕ
   pub parts : AreParts form (head_length form) passed packets reading.form
   pub more : List ℕ
-  pub told : to_come reading left ≡ Some more
+  -- the bytes still to come: those that the reader holds, and those left in its source
+  pub told : prepend_known reading.pending left ≡ Some more
   pub whole : drop (head_length form) bytes ≡ passed ++ more
   pub offset : reading.offset ≡ head_length form + length passed
   pub room : length reading.pending ≤ buffer_length

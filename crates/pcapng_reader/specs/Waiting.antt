@@ -9,7 +9,7 @@ use Rattle.pcap_reader.specs.Capture.{number}
 use Rattle.pcapng_reader.specs.declared.block.Kind.{Kind}
 use Rattle.pcapng_reader.specs.declared.block.Kind.TheVariants.{Section, Interface, Enhanced, Simple, Other}
 use Rattle.pcapng_reader.specs.declared.long.Long.{Long}
-use Rattle.pcapng_reader.specs.declared.fault.AnyFault.TheVariants as fault
+use Rattle.capture_faults.specs.declared.any_fault.AnyFault.TheVariants as fault
 use Rattle.pcapng_reader.specs.Blocks.{AreBlocks, HasKind, IsBlockLength, IsReadIn, Sees, SeesKind, Unless, block_type, interface_at, longest_packet, most_interfaces, most_others, simple_length, total_length}
 
 -- a whole block of that size, of which bytes were dropped behind the first so many: the part that is given lies before

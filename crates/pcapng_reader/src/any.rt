@@ -2,21 +2,22 @@
 
 ghost use Rattle.std.specs.Prelude.{◌≡◌, ◌≤◌, ◌<◌, ◌-◌, ◌^◌, [], false, true, length, drop, Err, IfOk, IfErr, OnErr};
 ghost use Rattle.edge_traits.specs.Edge.{Rose, count_after};
-ghost use Rattle.pcap_reader.specs.declared.fault.CaptureFault.TheVariants.{Memory, ReadFault};
+ghost use Rattle.capture_faults.specs.declared.fault.CaptureFault.TheVariants.{Memory, ReadFault};
 ghost use Rattle.pcap_reader.specs.Reading.{Took};
-ghost use Rattle.pcapng_reader.specs.declared.fault.AnyFault.TheVariants.{Capture};
+ghost use Rattle.capture_faults.specs.declared.any_fault.AnyFault.TheVariants.{Capture};
 ghost use Rattle.pcap_reader.specs.Capture.{ShowsFault};
 ghost use Rattle.pcapng_reader.specs.Section.{opening};
 ghost use Rattle.pcapng_reader.specs.Input.{IsPcapng};
 ghost use Rattle.pcapng_reader.specs.Inner.{reading_of};
 ghost use Rattle.pcapng_reader.specs.Reading.{Answers, GivesPacket, HoldsPacket, IsAtStart, IsOpened, IsOpenedOn, OnRefused, UnlessReadFault, head_length};
 
+use crate::Section;
 use crate::block::begins_section;
 use crate::blocks::BlockReader;
-use crate::{AnyFault, Section};
 use byte_window::Window;
+use capture_faults::{AnyFault, CaptureFault};
 use edge_traits::Source;
-use pcap_reader::{CaptureFault, FILE_HEAD, Item, Reader};
+use pcap_reader::{FILE_HEAD, Item, Reader};
 use std::alloc::Global;
 use std::marker::Model;
 

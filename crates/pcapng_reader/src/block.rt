@@ -7,8 +7,8 @@ ghost use Rattle.pcap_reader.specs.declared.order.Order.{Order as AnOrder};
 ghost use Rattle.pcap_reader.specs.Capture.{spelling};
 ghost use Rattle.pcapng_reader.specs.Blocks.{HasKind, IsBlockLength, IsSection, IsTooLong, Sees, SeesCaptured, SeesEnhanced, SeesInterface, SeesKind, SeesOther, SeesSection, SeesSimple, SeesSize, byte_order_magic, given_length, least_length, simple_length, total_length};
 
-use crate::section::{MOST_INTERFACES, MOST_OTHERS};
-use crate::{AnyFault, Interface, Section};
+use crate::{Interface, Section};
+use capture_faults::{AnyFault, MOST_INTERFACES, MOST_OTHERS};
 use pcap_reader::{ETHERNET, MAXIMUM_CAPTURED, Order};
 
 /// The longest block, in bytes, which is also that of libpcap.

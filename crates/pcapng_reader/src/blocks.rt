@@ -2,17 +2,18 @@
 
 ghost use Rattle.std.specs.Prelude.{◌≡◌, ◌≤◌, ◌<◌, ◌+◌, ◌-◌, ◌^◌, ℕ, [], false, true, length, take, drop, Err};
 ghost use Rattle.edge_traits.specs.Edge.{Rose, count_after};
-ghost use Rattle.pcap_reader.specs.declared.fault.CaptureFault.TheVariants.{ReadFault};
-ghost use Rattle.pcapng_reader.specs.declared.fault.AnyFault.TheVariants.{Capture};
+ghost use Rattle.capture_faults.specs.declared.fault.CaptureFault.TheVariants.{ReadFault};
+ghost use Rattle.capture_faults.specs.declared.any_fault.AnyFault.TheVariants.{Capture};
 ghost use Rattle.pcapng_reader.specs.Reading.{Answers, GivesPacket, HoldsPacket, OfBlocks, UnlessReadFault};
 
+use crate::Section;
 use crate::block::{Seen, look};
 use crate::long::Awaited;
 use crate::waiting::await_packet;
-use crate::{AnyFault, Section};
 use byte_window::Window;
+use capture_faults::{AnyFault, CaptureFault};
 use edge_traits::Source;
-use pcap_reader::{CaptureFault, Item};
+use pcap_reader::Item;
 use std::marker::Model;
 
 /// A reader of one pcapng input.

@@ -5,16 +5,13 @@ mod any;
 mod block;
 mod blocks;
 mod dropping;
-mod fault;
 mod laws;
 mod long;
 mod section;
 mod waiting;
 
 pub use any::AnyReader;
-pub use fault::AnyFault;
 pub use laws::{every_input, input_front, one_input, reads_input};
-pub use section::{MOST_INTERFACES, MOST_OTHERS};
 use section::{Interface, Section};
 
 #[cfg(test)]

@@ -7,13 +7,14 @@ ghost use Rattle.pcap_reader.specs.Reading.{Took};
 ghost use Rattle.pcapng_reader.specs.Blocks.{HasKind, IsReadIn, Sees, block_type, least_length};
 ghost use Rattle.pcapng_reader.specs.Waiting.{AwaitsNone, AwaitsTo, CoversPacket, IsLong, SeesLong};
 
+use crate::Section;
 use crate::block::{
     BLOCK_FRONT, Kind, Seen, begins_section, is_block_length, kind_of, look_inside, order_of,
     simple_captured,
 };
 use crate::dropping::drop_behind;
-use crate::{AnyFault, Section};
 use byte_window::{MOST_HELD, Window};
+use capture_faults::AnyFault;
 use edge_traits::{Failed, Source};
 use pcap_reader::{MAXIMUM_CAPTURED, Order};
 

@@ -1,10 +1,10 @@
 //! Inputs that tests make, and what each gives. The numbers are those of an independent reader of the same rules, which
 //! gives the packets that TShark gives for 142 of 143 captures.
 
-use crate::AnyFault;
 use crate::made_blocks::Part::{Block, Bytes, Enhanced, Interfaces, Section, Simple, Turn};
 use crate::made_blocks::{Part, SYN, SYN_40};
-use pcap_reader::{CaptureFault, Item};
+use capture_faults::{AnyFault, CaptureFault};
+use pcap_reader::Item;
 
 /// A section, its interface and a packet with SYN.
 pub const N: [Part; 3] = [

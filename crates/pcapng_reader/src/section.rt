@@ -3,15 +3,10 @@
 ghost use Rattle.std.specs.Prelude.{◌≡◌, ◌<◌, ◌+◌, [], ◌∷◌, ◌++◌, length, get_or, IfOk};
 ghost use Rattle.pcapng_reader.specs.Section.{State, no_interface, opening};
 
+use capture_faults::MOST_INTERFACES;
 use pcap_reader::Order;
 use std::alloc::{AllocError, Global};
 use std::marker::Model;
-
-/// No section has more interfaces.
-pub const MOST_INTERFACES: usize = 256;
-
-/// No input has more blocks that give no packet.
-pub const MOST_OTHERS: u32 = 4_000_000;
 
 /// An interface of a section.
 #[derive(Clone, Copy, Debug, PartialEq, Eq)]

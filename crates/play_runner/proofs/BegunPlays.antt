@@ -7,15 +7,15 @@ use Rattle.std.proofs.lemmas.List.Elements.{All-append, All-cons, All-nil, All-r
 use Rattle.std.proofs.lemmas.List.Sums.{sum_by-append, sum_by-cons}
 use Rattle.plain_map.specs.declared.calls.Call.{Call}
 use Rattle.plain_map.specs.declared.records.Pending.{Pending}
-use Rattle.core_model.specs.declared.events.Event.{Event}
-use Rattle.core_model.specs.Setup.{Setup, seats_of}
-use Rattle.core_model.specs.Phases.{Phase}
-use Rattle.core_model.specs.SeatStates.{Account, Flight, Stand, Idle, InFlight, SeatState, fresh_seat, pending_of, seen_counts}
-use Rattle.core_model.specs.Worlds.{IsRun, World, seat_in, world_after}
-use Rattle.core_model.specs.Closed.{begun_by, begun_of}
-use Rattle.core_history.proofs.Ghost.{Local}
-use Rattle.core_answers.proofs.Tale.{Past, Seated, Tale, past_of}
-use Rattle.core_answers.proofs.AllRuns.{all_tell}
+use Rattle.table_model.specs.declared.events.Event.{Event}
+use Rattle.table_model.specs.Setup.{Setup, seats_of}
+use Rattle.table_model.specs.Phases.{Phase}
+use Rattle.table_model.specs.SeatStates.{Account, Flight, Stand, Idle, InFlight, SeatState, fresh_seat, pending_of, seen_counts}
+use Rattle.table_model.specs.Worlds.{IsRun, World, seat_in, world_after}
+use Rattle.table_model.specs.Closed.{begun_by, begun_of}
+use Rattle.run_invariant.proofs.Invariant.{Local}
+use Rattle.order_laws.proofs.Tale.{Past, Seated, Tale, past_of}
+use Rattle.order_laws.proofs.AllRuns.{all_tell}
 use Rattle.play_runner.proofs.WeighedPlays.{of_flying, of_stand}
 
 -- ---- what holds of all

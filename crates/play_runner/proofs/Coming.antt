@@ -1,19 +1,18 @@
 -- How far a play is after one slot, many slots and a round.
-use Rattle.std.proofs.Common.{◌≡◌, ℕ, suc, ◌+◌, ◌-◌, ◌<◌, ◌≤◌, ◌⊎◌, inl, inr, Bool, false, cond, List, [], map, length, drop, Option, get_or, set, fold, refl, sym, ap, ◌∙◌, subst, arith}
+use Rattle.std.proofs.Common.{◌≡◌, ℕ, suc, ◌+◌, ◌-◌, ◌<◌, ◌≤◌, ◌⊎◌, inl, inr, Bool, false, cond, List, [], map, length, drop, Option, set, fold, refl, sym, ap, ◌∙◌, subst, arith}
 use Rattle.std.specs.List.{range_with_len}
-use Rattle.std.proofs.Math.Seq.{drop-cons}
 use Rattle.std.proofs.lemmas.List.{drop_all, map-set}
 use Rattle.step_counts.specs.declared.settings.Settings.{Settings}
 use Rattle.plain_map.specs.declared.calls.Call.{Call}
-use Rattle.core_model.specs.Setup.{Setup, seats_of, settings_of}
-use Rattle.core_model.specs.SeatStates.{SeatState}
-use Rattle.core_model.specs.Worlds.{opening_world, seat_in}
-use Rattle.core_model.specs.Schedules as S
-use Rattle.core_model.specs.Schedules.{Play, empty_hand, events_of_slot, first_play, hand_after_slot, hand_of, is_stopped, play_of, run_round, run_rounds, run_segment, scheduled, slot, slots, with_events}
-use Rattle.core_schedules.specs.Good.{IsGood}
-use Rattle.core_schedules.proofs.Slots.{slot_keeps}
-use Rattle.core_schedules.proofs.Skipped.{rounds_stay, slots_stay}
-use Rattle.core_world.specs.Values.{CoreValue, opened}
+use Rattle.table_model.specs.Setup.{Setup, seats_of, settings_of}
+use Rattle.table_model.specs.SeatStates.{SeatState}
+use Rattle.table_model.specs.Worlds.{opening_world, seat_in}
+use Rattle.table_model.specs.Schedules as S
+use Rattle.table_model.specs.Schedules.{Play, events_of_slot, first_play, hand_after_slot, hand_of, is_stopped, play_of, run_round, run_rounds, run_segment, scheduled, slot, slots, with_events}
+use Rattle.play_laws.specs.Good.{IsGoodPlay}
+use Rattle.play_laws.proofs.Slots.{slot_keeps}
+use Rattle.play_laws.proofs.Skipped.{rounds_stay, slots_stay}
+use Rattle.core_steps.specs.Values.{CoreValue, opened}
 use Rattle.play_runner.specs.declared.hands.Hand.{Hand}
 use Rattle.play_runner.specs.declared.turns.Playing.{Playing}
 use Rattle.play_runner.specs.Hands.{as_hand, as_hands, hands_of, rounds_of}
@@ -36,9 +35,9 @@ slot_taken p q seat hand left stands is goes took hands told = record {
   setup_is = ap (λ (core : CoreValue). core.setup) took.after_is;
   play_is = play_is;
   stands = record {
-    good = subst (λ (setup : Setup). IsGood setup (play_in q))
+    good = subst (λ (setup : Setup). IsGoodPlay setup (play_in q))
         (sym (ap (λ (core : CoreValue). core.setup) took.after_is))
-        (subst (IsGood p.core.setup) (sym play_is) (slot_keeps p.core.setup seat (play_in p) stands.good).good);
+        (subst (IsGoodPlay p.core.setup) (sym play_is) (slot_keeps p.core.setup seat (play_in p) stands.good).good);
     told = told;
   };
 }
@@ -201,19 +200,6 @@ round_done p q seats seat way h is =
 -- the segments of a schedule, one after the other
 abbrev pub segments_by : List Segment → Setup → Play → Play
 segments_by schedule setup play = fold (run_segment setup) play (map as_segment schedule)
-
--- one segment on
-pub segment_on : (p q r : Playing) (schedule : List Segment) (i : ℕ) (d : Segment) → i < length schedule →
-    IsOnItsWay p q (segments_by (drop i schedule)) (segments_by schedule) →
-    HasCome q r (run_segment q.core.setup (play_in q) (as_segment (get_or schedule i d))) →
-    IsOnItsWay p r (segments_by (drop (i + 1) schedule)) (segments_by schedule)
-segment_on p q r schedule i d h way come =
-    goes_on p q r (segments_by (drop i schedule))
-    (λ setup play. run_segment setup play (as_segment (get_or schedule i d)))
-    (segments_by (drop (i + 1) schedule)) (segments_by schedule) way come
-    (λ play. ap (λ (rest : List Segment). segments_by rest p.core.setup play) (drop-cons schedule i d h)
-    ∙ ap (λ (n : ℕ). segments_by (drop n schedule) p.core.setup
-    (run_segment p.core.setup play (as_segment (get_or schedule i d)))) (let e : suc i ≡ i + 1 = omega arith in e))
 
 -- all segments have been run
 pub segments_done : (p q : Playing) (schedule : List Segment) (i : ℕ) → length schedule ≤ i →

@@ -10,17 +10,18 @@ use Rattle.plain_map.specs.declared.full.Full.{Full}
 use Rattle.plain_map.specs.declared.records.Record.{Record}
 use Rattle.trace_share.specs.declared.outcome.Outcome.{Outcome}
 use Rattle.trace_share.specs.declared.outcome.Outcome.TheVariants.{Answered, Refused}
-use Rattle.core_model.specs.declared.events.Event.{Event}
-use Rattle.core_model.specs.Setup.{Setup, seats_of}
-use Rattle.core_model.specs.Phases.{Phase, SeeDone, StoreDone}
-use Rattle.core_model.specs.SeatStates.{Account, Flight, Stand, Idle, InFlight, SeatState, begun, record_of}
-use Rattle.core_model.specs.Asks.{ask_in}
-use Rattle.core_model.specs.Goes.{state_after}
-use Rattle.core_model.specs.Worlds.{World, AreEvents, FitsStand, IsEvent, act, begin_or_refuse, found_by, happens, refusal_of, seat_in, step_of}
-use Rattle.core_bounds.proofs.WorldSteps.{step_same}
-use Rattle.core_world.specs.Values.{new_record, refused_at, stepped_of, told_of}
+use Rattle.table_model.specs.declared.events.Event.{Event}
+use Rattle.table_model.specs.Setup.{Setup, seats_of}
+use Rattle.table_model.specs.Phases.{Phase, SeeDone, StoreDone}
+use Rattle.table_model.specs.SeatStates.{Account, Flight, Stand, Idle, InFlight, SeatState, begun, record_of}
+use Rattle.table_model.specs.Asks.{ask_in}
+use Rattle.table_model.specs.Goes.{state_after}
+use Rattle.table_model.specs.Worlds.{World, AreEvents, FitsStand, IsEvent, act, begin_or_refuse, found_by, happens, refusal_of, seat_in, step_of}
+use Rattle.bound_laws.proofs.WorldSteps.{step_same}
+use Rattle.bound_laws.proofs.Given.{long_happens}
+use Rattle.core_steps.specs.Values.{new_record, refused_at, stepped_of, told_of}
 use Rattle.play_runner.specs.Played.{outcome_in, outcomes_from, refused_with}
-use Rattle.play_runner.proofs.WeighedPlays.{first_past, none_past, happens_long}
+use Rattle.play_runner.proofs.WeighedPlays.{first_past, none_past}
 
 -- what holds of each call that a seat answers or refuses
 pub record HoldsOfEnds (setup : Setup) (P : ℕ × Outcome → Type 0) : Type 0 where
@@ -102,4 +103,4 @@ module _ (setup : Setup) (P : ℕ × Outcome → Type 0) (holds : HoldsOfEnds se
   events_hold (event ∷ events) w long fit =
       All-append P (outcome_in event (stepped_of setup w event)) (outcomes_from setup (happens setup w event) events)
       (event_holds w event long fit.0)
-      (events_hold events (happens setup w event) (happens_long setup w event ∙ long) fit.1)
+      (events_hold events (happens setup w event) (long_happens setup w event ∙ long) fit.1)

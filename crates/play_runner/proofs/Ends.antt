@@ -1,7 +1,7 @@
 -- What the core leaves is of a run, so its calls have their one order, and the play that led there comes to it.
-use Rattle.std.proofs.Common.{◌≡◌, ℕ, List, [], ◌∷◌, ◌++◌, length, map, refl, sym, ap, ◌∙◌, subst, Vec, Global}
+use Rattle.std.proofs.Common.{◌≡◌, ℕ, List, length, map, sym, ap, ◌∙◌, subst, Vec, Global}
 use Rattle.std.proofs.lemmas.List.{length-map}
-use Rattle.std.specs.Prelude.{flat_map, IsPermutation}
+use Rattle.std.specs.Prelude.{IsPermutation}
 use Rattle.std.specs.List.Sorted.{IsSortedByKey}
 use Rattle.std.specs.Ordering.{nat_cmp}
 use Rattle.plain_map.specs.declared.keys.Pair.{Pair}
@@ -12,26 +12,20 @@ use Rattle.plain_map.specs.History.{ids_of}
 use Rattle.trace_share.specs.declared.outcome.Outcome.{Outcome}
 use Rattle.word_rows.specs.Shape.{Shape}
 use Rattle.word_rows.specs.LayoutView.{shape_of}
-use Rattle.core_model.specs.SeatStates.{SeatState}
-use Rattle.core_model.specs.Worlds.{World}
-use Rattle.core_model.specs.Schedules.{Hand, unbegun_in}
-use Rattle.core_model.specs.Closed.{begun_of, closing_of, closed_pairs}
-use Rattle.core_model.specs.Order.{Closing, order_of}
+use Rattle.table_model.specs.SeatStates.{SeatState}
+use Rattle.table_model.specs.Worlds.{World}
+use Rattle.table_model.specs.Schedules.{Hand, unbegun_in}
+use Rattle.table_model.specs.Closed.{begun_of, closing_of, closed_pairs}
+use Rattle.table_model.specs.Order.{Closing, order_of}
 use Rattle.closed_words.specs.Views.{as_leaf}
-use Rattle.history_order.specs.Closing.{IsOfARun, closing_with}
-use Rattle.core_world.specs.declared.values.CoreEnd.{CoreEnd}
-use Rattle.core_world.specs.Endings.{IsLeft}
-use Rattle.core_world.specs.Values.{CoreValue, IsMoment}
+use Rattle.table_model.specs.Closing.{IsOfARun, closing_with}
+use Rattle.core_steps.specs.declared.values.CoreEnd.{CoreEnd}
+use Rattle.core_steps.specs.Endings.{IsLeft}
+use Rattle.core_steps.specs.Values.{CoreValue, IsMoment}
 use Rattle.play_runner.specs.declared.values.Played.{Played}
 use Rattle.play_runner.specs.Played.{IsPlayed, packet_in}
 use Rattle.play_runner.specs.Told.{AreTold, play_with}
-
--- the records of all seats, by their lists
-joined : (seats : List SeatState) →
-    flat_map (λ (state : SeatState). state.account.records) seats
-    ≡ flat_map (λ (log : List Record). log) (map (λ (state : SeatState). state.account.records) seats)
-joined [] = refl
-joined (state ∷ seats) = ap (λ rest. state.account.records ++ rest) (joined seats)
+use Rattle.history_order.proofs.ToldOfRun.{joined}
 
 -- a closed table
 abbrev closing_at : List ℕ → List Record → List Pending → Closing

@@ -8,7 +8,7 @@ use Rattle.plain_map.specs.declared.calls.Call.{Call}
 use Rattle.std.proofs.Math.Nat.{mul-le-mul, pow-le-pow_right}
 use Rattle.step_counts.specs.declared.settings.Settings.{Settings}
 use Rattle.step_counts.specs.StepCounts.{bucket_row_words, step_bound}
-use Rattle.core_model.specs.Schedules.{Hand, call_steps, most_slots}
+use Rattle.table_model.specs.Schedules.{Hand, call_steps, most_slots}
 use Rattle.play_runner.specs.declared.hands.Hand as D
 use Rattle.play_runner.specs.Hands.{HasFew, as_hand, as_hands, hands_of}
 

@@ -4,12 +4,12 @@ use Rattle.plain_map.specs.declared.calls.Call.{Call}
 use Rattle.plain_map.specs.declared.full.Full.{Full}
 use Rattle.plain_map.specs.declared.records.Record.{Record}
 use Rattle.trace_share.specs.declared.outcome.Outcome.{Outcome}
-use Rattle.core_model.specs.declared.events.Event.{Event}
-use Rattle.core_model.specs.Setup.{Setup}
-use Rattle.core_model.specs.SeatStates.{Account, Idle, SeatState}
-use Rattle.core_model.specs.Worlds.{World, happens, opening_world, seat_in}
-use Rattle.core_model.specs.Schedules.{is_refused}
-use Rattle.core_world.specs.Values.{CoreValue, IsMoment, new_record, refused_at, stepped_of, told_of, with_event}
+use Rattle.table_model.specs.declared.events.Event.{Event}
+use Rattle.table_model.specs.Setup.{Setup}
+use Rattle.table_model.specs.SeatStates.{Account, Idle, SeatState}
+use Rattle.table_model.specs.Worlds.{World, happens, opening_world, seat_in}
+use Rattle.table_model.specs.Schedules.{is_refused}
+use Rattle.core_steps.specs.Values.{CoreValue, IsMoment, new_record, refused_at, stepped_of, told_of, with_event}
 use Rattle.play_runner.specs.Played.{outcome_in, outcomes_from, outcomes_of}
 use Rattle.play_runner.specs.Told.{AreTold}
 use Rattle.play_runner.specs.Plays.{was_refused}

@@ -2,8 +2,8 @@
 use Rattle.std.proofs.Common.{ℕ, ◌-◌, ◌^◌, ◌≤◌, All, List, length, map, Vec, Global}
 use Rattle.std.proofs.lemmas.List.Elements.{All-map, All-weaker}
 use Rattle.plain_map.specs.declared.calls.Call.{Call}
-use Rattle.core_model.specs.Setup.{Setup, IsSetup}
-use Rattle.core_model.specs.Schedules.{CanPlay, IsPlayable}
+use Rattle.table_model.specs.Setup.{Setup, IsSetup}
+use Rattle.table_model.specs.Schedules.{CanPlay, IsPlayable}
 
 -- a list of calls
 abbrev pub Calls : Type 0

@@ -1,16 +1,16 @@
 -- The calls that an idle seat tries in one slot.
 use Rattle.std.proofs.Common.{◌≡◌, ℕ, ◌+◌, ◌-◌, ◌^◌, ◌<◌, ◌≤◌, Bool, true, cond, not, ◌||◌, List, [], ◌∷◌, map, length, drop, get_or, suc, Option, Some, fold, sym, ap, ◌∙◌, subst, arith, append_assoc}
 use Rattle.plain_map.specs.declared.calls.Call.{Call}
-use Rattle.core_model.specs.declared.events.Event.{Event}
-use Rattle.core_model.specs.Setup.{Setup, seats_of}
+use Rattle.table_model.specs.declared.events.Event.{Event}
+use Rattle.table_model.specs.Setup.{Setup, seats_of}
 use Rattle.std.proofs.Math.Seq.{drop-cons}
-use Rattle.core_model.specs.SeatStates.{Account, Idle}
-use Rattle.core_model.specs.Worlds.{World, happens, refusal_of, seat_in}
-use Rattle.core_model.specs.Schedules as S
-use Rattle.core_model.specs.Schedules.{events_of_slot, hand_after_slot, is_refused, one_begins, tried_of, untried_of, with_step}
-use Rattle.core_schedules.specs.Good.{ArePlayable}
-use Rattle.core_schedules.proofs.Slots as slots
-use Rattle.core_world.specs.Values.{CoreValue, stepped_of, with_event}
+use Rattle.table_model.specs.SeatStates.{Account, Idle}
+use Rattle.table_model.specs.Worlds.{World, happens, refusal_of, seat_in}
+use Rattle.table_model.specs.Schedules as S
+use Rattle.table_model.specs.Schedules.{hand_after_slot, is_refused, one_begins, tried_of, untried_of, with_step}
+use Rattle.play_laws.specs.Good.{ArePlayable}
+use Rattle.play_laws.proofs.Slots as slots
+use Rattle.core_steps.specs.Values.{CoreValue, stepped_of, with_event}
 use Rattle.play_runner.specs.Plays.{IsAtSlot, was_refused, with_all}
 use Rattle.play_runner.proofs.Outcomes.{refused_is}
 

@@ -1,6 +1,6 @@
 -- Each call that is dealt is begun once at most: however calls are weighed, those that ended, those that are under way
 -- and those that are left weigh no more together than those that were dealt.
-use Rattle.std.proofs.Common.{◌≡◌, ◌≤◌, ◌<◌, ℕ, zero, suc, ◌+◌, List, [], ◌∷◌, ◌++◌, Bool, true, false, cond, map, length, drop, get_or, Option, Some, None, fold, replicate, ◌*◌, inl, inr, refl, sym, ap, ◌∙◌, subst, arith, nat_lt, lt-ltb, length-set}
+use Rattle.std.proofs.Common.{◌≡◌, ◌≤◌, ◌<◌, ℕ, zero, suc, ◌+◌, List, [], ◌∷◌, ◌++◌, Bool, true, false, cond, map, length, drop, get_or, Option, Some, None, fold, replicate, ◌*◌, inl, inr, refl, sym, ap, ◌∙◌, subst, arith, lt-ltb}
 use Rattle.std.specs.Prelude.{slice_get}
 use Rattle.std.specs.List.{range_with_len, sum_by}
 use Rattle.std.proofs.Math.Seq.{drop-cons}
@@ -14,18 +14,19 @@ use Rattle.plain_map.specs.declared.records.Record.{Record}
 use Rattle.trace_share.specs.declared.outcome.Outcome.{Outcome}
 use Rattle.trace_share.specs.declared.outcome.Outcome.TheVariants.{Answered, Refused}
 use Rattle.trace_share.specs.Outcomes.{asked_in}
-use Rattle.core_model.specs.declared.events.Event.{Event}
-use Rattle.core_model.specs.Setup.{Setup, seats_of}
-use Rattle.core_model.specs.Phases.{Phase, SeeDone, StoreDone}
-use Rattle.core_model.specs.SeatStates.{Account, Flight, Stand, Idle, InFlight, SeatState, begun, fresh_seat, record_of}
-use Rattle.core_model.specs.Asks.{ask_in}
-use Rattle.core_model.specs.Goes.{state_after}
-use Rattle.core_model.specs.Worlds.{World, AreEvents, FitsStand, IsEvent, act, begin_or_refuse, found_by, happens, opening_world, refusal_of, seat_in, step_of, world_after, IsRun}
-use Rattle.core_model.specs.Schedules.{Hand, Play, Segment, empty_hand, events_of_slot, first_play, hand_after_slot, hand_of, is_refused, is_stopped, one_begins, play_of, slot, tried_of, untried_of, with_events, with_step}
-use Rattle.core_bounds.proofs.WorldSteps.{step_same}
-use Rattle.core_world.specs.Values.{new_record, refused_at, stepped_of, told_of}
+use Rattle.table_model.specs.declared.events.Event.{Event}
+use Rattle.table_model.specs.Setup.{Setup, seats_of}
+use Rattle.table_model.specs.Phases.{Phase, SeeDone, StoreDone}
+use Rattle.table_model.specs.SeatStates.{Account, Flight, Stand, Idle, InFlight, SeatState, begun, fresh_seat, record_of}
+use Rattle.table_model.specs.Asks.{ask_in}
+use Rattle.table_model.specs.Goes.{state_after}
+use Rattle.table_model.specs.Worlds.{World, AreEvents, FitsStand, IsEvent, act, begin_or_refuse, found_by, happens, opening_world, refusal_of, seat_in, step_of, world_after, IsRun}
+use Rattle.table_model.specs.Schedules.{Hand, Play, Segment, empty_hand, events_of_slot, first_play, hand_after_slot, hand_of, is_refused, is_stopped, one_begins, play_of, slot, tried_of, untried_of, with_events, with_step}
+use Rattle.bound_laws.proofs.WorldSteps.{step_same}
+use Rattle.bound_laws.proofs.Given.{long_happens}
+use Rattle.core_steps.specs.Values.{new_record, refused_at, stepped_of, told_of}
 use Rattle.play_runner.specs.Played.{outcome_in, outcomes_from, outcomes_of, refused_with}
-use Rattle.core_schedules.proofs.PlayedBySlots.{play_keeps}
+use Rattle.play_laws.proofs.PlayedBySlots.{play_keeps}
 
 -- the first one past the end
 pub first_past : (xs : List Record) (r : Record) → slice_get (xs ++ r ∷ []) (length xs) ≡ Some r
@@ -36,27 +37,6 @@ first_past (x ∷ xs) r = first_past xs r
 pub none_past : (xs : List Record) → slice_get xs (length xs) ≡ None
 none_past [] = refl
 none_past (x ∷ xs) = none_past xs
-
--- an act keeps the number of seats
-act_long : (setup : Setup) (w : World) (seat : ℕ) (account : Account) (stand : Stand) (begin : Option (ℕ × Call)) →
-    length (act setup w seat account stand begin).seats ≡ length w.seats
-act_long setup w seat account Idle None = refl
-act_long setup w seat account Idle (Some begin) = go (refusal_of setup seat account begin.1)
-  where
-    go : (full : Option Full) →
-        length (begin_or_refuse setup w seat account begin.0 begin.1 full).seats ≡ length w.seats
-    go (Some full) = refl
-    go None = length-set w.seats seat _
-act_long setup w seat account (InFlight flight phase) begin = length-set w.seats seat _
-
--- an event keeps the number of seats
-pub happens_long : (setup : Setup) (w : World) (event : Event) → length (happens setup w event).seats ≡ length w.seats
-happens_long setup w event = go (nat_lt event.seat (seats_of setup))
-  where
-    go : (b : Bool) → length (cond b (act setup w event.seat (seat_in w event.seat).account
-        (seat_in w event.seat).stand event.begin) w).seats ≡ length w.seats
-    go true = act_long setup w event.seat (seat_in w event.seat).account (seat_in w event.seat).stand event.begin
-    go false = refl
 
 module _ (weight : ℕ × Call → ℕ) where
   -- ---- how calls are weighed
@@ -200,7 +180,7 @@ module _ (weight : ℕ × Call → ℕ) where
           sum_by-append of_outcome (outcome_in event (stepped_of setup w event)) (outcomes_from setup next events),
           sum_by-cons (λ (e : Event). of_begin e.begin) event events,
           event_weighs w event long fit.0,
-          events_weigh events next (happens_long setup w event ∙ long) fit.1,
+          events_weigh events next (long_happens setup w event ∙ long) fit.1,
         )
 
     -- ---- one slot

@@ -3,8 +3,8 @@ use Rattle.std.specs.Prelude.{ℕ, ◌-◌, ◌^◌, ◌≤◌, [], List, map, l
 use Rattle.std.specs.List.{range_with_len}
 use Rattle.step_counts.specs.declared.settings.Settings.{Settings}
 use Rattle.plain_map.specs.declared.calls.Call.{Call}
-use Rattle.core_model.specs.Schedules as S
-use Rattle.core_model.specs.Schedules.{most_slots}
+use Rattle.table_model.specs.Schedules as S
+use Rattle.table_model.specs.Schedules.{most_slots}
 use Rattle.play_runner.specs.declared.hands.Hand.{Hand}
 
 abbrev pub as_hand : Hand → S.Hand

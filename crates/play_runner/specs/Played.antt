@@ -10,17 +10,17 @@ use Rattle.plain_map.specs.History.{ids_of}
 use Rattle.trace_share.specs.declared.outcome.Outcome.{Outcome}
 use Rattle.trace_share.specs.declared.outcome.Outcome.TheVariants.{Answered, Refused}
 use Rattle.trace_share.specs.Outcomes.{asked_in}
-use Rattle.core_model.specs.declared.events.Event.{Event}
-use Rattle.core_model.specs.Setup.{Setup}
-use Rattle.core_model.specs.SeatStates.{is_update}
-use Rattle.core_model.specs.Worlds.{World, happens, opening_world}
-use Rattle.core_model.specs.Closed.{begun_of, closing_of, closed_depth, closed_leaves, closed_pairs}
-use Rattle.core_model.specs.Order.{order_of}
-use Rattle.core_model.specs.Schedules as S
-use Rattle.core_model.specs.Schedules.{Play, unbegun_in}
-use Rattle.core_world.specs.declared.values.Stepped.{Stepped}
-use Rattle.core_world.specs.declared.values.Stepped.TheVariants as T
-use Rattle.core_world.specs.Values.{stepped_of}
+use Rattle.table_model.specs.declared.events.Event.{Event}
+use Rattle.table_model.specs.Setup.{Setup}
+use Rattle.plain_map.specs.Calls.{is_update}
+use Rattle.table_model.specs.Worlds.{World, happens, opening_world}
+use Rattle.table_model.specs.Closed.{begun_of, closing_of, closed_depth, closed_leaves, closed_pairs}
+use Rattle.table_model.specs.Order.{order_of}
+use Rattle.table_model.specs.Schedules as S
+use Rattle.table_model.specs.Schedules.{Play, unbegun_in}
+use Rattle.core_steps.specs.declared.values.Stepped.{Stepped}
+use Rattle.core_steps.specs.declared.values.Stepped.TheVariants as T
+use Rattle.core_steps.specs.Values.{stepped_of}
 use Rattle.play_runner.specs.declared.values.Segment.{Segment}
 use Rattle.play_runner.specs.declared.values.Played.{Played}
 

@@ -1,15 +1,15 @@
 -- How far a play is, as contracts see it.
 use Rattle.std.specs.Prelude.{◌≡◌, ℕ, ◌<◌, ◌++◌, List, length, fold, Bool, true, false}
-use Rattle.core_model.specs.declared.events.Event.{Event}
-use Rattle.core_model.specs.Setup.{seats_of}
-use Rattle.core_model.specs.SeatStates.{Idle}
-use Rattle.core_model.specs.Worlds.{happens, seat_in}
-use Rattle.core_model.specs.Schedules as S
-use Rattle.core_model.specs.Schedules.{Play, events_of_slot, hand_after_slot}
-use Rattle.core_schedules.specs.Good.{IsDealt, IsGood}
-use Rattle.core_world.specs.declared.values.Stepped.{Stepped}
-use Rattle.core_world.specs.declared.values.Stepped.TheVariants.{Going, Ended, Refused}
-use Rattle.core_world.specs.Values.{CoreValue}
+use Rattle.table_model.specs.declared.events.Event.{Event}
+use Rattle.table_model.specs.Setup.{seats_of}
+use Rattle.table_model.specs.SeatStates.{Idle}
+use Rattle.table_model.specs.Worlds.{happens, seat_in}
+use Rattle.table_model.specs.Schedules as S
+use Rattle.table_model.specs.Schedules.{Play, events_of_slot, hand_after_slot}
+use Rattle.play_laws.specs.Good.{IsPlayableHand, IsGoodPlay}
+use Rattle.core_steps.specs.declared.values.Stepped.{Stepped}
+use Rattle.core_steps.specs.declared.values.Stepped.TheVariants.{Going, Ended, Refused}
+use Rattle.core_steps.specs.Values.{CoreValue}
 use Rattle.play_runner.specs.declared.turns.Playing.{Playing}
 use Rattle.play_runner.specs.Hands.{as_hands}
 use Rattle.play_runner.specs.Told.{AreTold, play_with}
@@ -32,7 +32,7 @@ with_all core events = record {
 pub record IsAtSlot (core : CoreValue) (seat : ℕ) (hand : S.Hand) : Type 0 where
   pub inside : seat < seats_of core.setup
   pub long : length core.world.seats ≡ seats_of core.setup
-  pub dealt : IsDealt (seat_in core.world seat) hand
+  pub dealt : IsPlayableHand (seat_in core.world seat) hand
 
 -- the seat is between two calls
 abbrev pub IsIdleAt : CoreValue → (seat : ℕ) → Type 0
@@ -51,7 +51,7 @@ play_in p = play_with p.core (as_hands p.hands.items)
 
 -- its events are a run, and the calls that ended are told
 pub record IsPlaying (p : Playing) : Type 0 where
-  pub good : IsGood p.core.setup (play_in p)
+  pub good : IsGoodPlay p.core.setup (play_in p)
   pub told : AreTold p.core p.outcomes.items
 
 -- the same table, whose play has come to this one

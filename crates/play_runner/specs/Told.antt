@@ -1,8 +1,8 @@
 -- What has come of a table so far.
 use Rattle.std.specs.Prelude.{◌≡◌, ℕ, List}
-use Rattle.core_model.specs.Schedules.{Hand, Play}
+use Rattle.table_model.specs.Schedules.{Hand, Play}
 use Rattle.trace_share.specs.declared.outcome.Outcome.{Outcome}
-use Rattle.core_world.specs.Values.{CoreValue}
+use Rattle.core_steps.specs.Values.{CoreValue}
 use Rattle.play_runner.specs.Played.{outcomes_of}
 
 -- these are the calls that ended so far

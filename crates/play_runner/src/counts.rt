@@ -1,7 +1,7 @@
 //! Numbers of the calls that ended.
 
 ghost use Rattle.std.specs.Prelude.{◌≡◌};
-ghost use Rattle.core_model.specs.SeatStates.{is_update};
+ghost use Rattle.plain_map.specs.Calls.{is_update};
 ghost use Rattle.play_runner.specs.Played.{most_steps_in, steps_of};
 
 use plain_map::Call;

@@ -1,7 +1,7 @@
 //! What the seats have still to do.
 
 ghost use Rattle.std.specs.Prelude.{◌≡◌, ◌-◌, ◌^◌, ◌<◌, ◌≤◌, [], All, IfOk, None, length, map, slice_index_or};
-ghost use Rattle.core_model.specs.Schedules.{call_steps, is_stopped, most_slots, with_step};
+ghost use Rattle.table_model.specs.Schedules.{call_steps, is_stopped, most_slots, with_step};
 ghost use Rattle.play_runner.specs.Hands.{HasFew, as_hand, as_hands, hands_of, rounds_of, unbegun_of};
 
 use plain_map::Call;

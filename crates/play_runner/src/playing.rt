@@ -1,14 +1,14 @@
 //! A whole play.
 
 ghost use Rattle.std.specs.Prelude.{◌≡◌, IfOk, map};
-ghost use Rattle.core_model.specs.Schedules.{CanPlay, play_of};
-ghost use Rattle.core_world.specs.Values.{opened};
+ghost use Rattle.table_model.specs.Schedules.{CanPlay, play_of};
+ghost use Rattle.core_steps.specs.Values.{opened};
 ghost use Rattle.play_runner.specs.Played.{IsPlayed, as_segment};
 
 use crate::ending::ended;
 use crate::turns::Playing;
 use crate::values::{Played, Segment};
-use core_world::CoreWorld;
+use core_steps::CoreWorld;
 use plain_map::Call;
 use std::alloc::{AllocError, Global};
 

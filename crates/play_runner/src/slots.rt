@@ -2,17 +2,17 @@
 
 ghost use Rattle.std.specs.Prelude.{◌≡◌, ◌++◌, IfOk, OnOk};
 ghost use Rattle.std.specs.Prelude.{option_to_list};
-ghost use Rattle.core_model.specs.Worlds.{IsEvent};
-ghost use Rattle.core_world.specs.Values.{stepped_of, with_event};
+ghost use Rattle.table_model.specs.Worlds.{IsEvent};
+ghost use Rattle.core_steps.specs.Values.{stepped_of, with_event};
 ghost use Rattle.play_runner.specs.Hands.{as_hand};
 ghost use Rattle.play_runner.specs.Played.{outcome_in};
 ghost use Rattle.play_runner.specs.Told.{AreTold};
 ghost use Rattle.play_runner.specs.Plays.{IsAtSlot, IsIdleAt, TookSlot, was_refused};
 
 use crate::hands::Hand;
-use core_model::Event;
-use core_world::{CoreWorld, Stepped};
+use core_steps::{CoreWorld, Stepped};
 use std::alloc::AllocError;
+use table_model::Event;
 use trace_share::Outcome;
 
 // The call that an event ends, with its seat: it was answered or refused.

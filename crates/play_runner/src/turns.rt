@@ -2,16 +2,16 @@
 
 ghost use Rattle.std.specs.Prelude.{◌≡◌, ◌<◌, IfOk, OnOk, map, true};
 ghost use Rattle.std.specs.Option.{option_map_or};
-ghost use Rattle.core_model.specs.Setup.{seats_of, settings_of};
-ghost use Rattle.core_model.specs.Schedules.{CanPlay, first_play, hand_of, most_slots, run_round, run_rounds, run_segment, slot, slots};
-ghost use Rattle.core_world.specs.Values.{opened};
+ghost use Rattle.table_model.specs.Setup.{seats_of, settings_of};
+ghost use Rattle.table_model.specs.Schedules.{CanPlay, first_play, hand_of, most_slots, run_round, run_rounds, run_segment, slot, slots};
+ghost use Rattle.core_steps.specs.Values.{opened};
 ghost use Rattle.play_runner.specs.Hands.{as_hand, as_hands, rounds_of, unbegun_of};
 ghost use Rattle.play_runner.specs.Played.{as_segment};
 
 use crate::hands::{Hand, first_hands, most_rounds, unbegun};
 use crate::slots::take_slot;
 use crate::values::Segment;
-use core_world::CoreWorld;
+use core_steps::CoreWorld;
 use plain_map::Call;
 use std::alloc::{AllocError, Global};
 use trace_share::Outcome;

@@ -1,7 +1,7 @@
 -- The calls of a packet.
-use Rattle.std.proofs.Common.{◌≡◌, inl, inr, ℕ, zero, suc, ◌+◌, ◌<◌, ◌≤◌, ◌==◌, Bool, true, false, cond, List, [], ◌∷◌, ◌++◌, length, length-append, get_or, take, drop, Some, None, refl, sym, ap, ◌∙◌, append-nil, subst, arith}
+use Rattle.std.proofs.Common.{◌≡◌, inl, inr, ℕ, suc, ◌+◌, ◌<◌, ◌≤◌, ◌==◌, Bool, true, false, cond, List, [], ◌∷◌, ◌++◌, length, length-append, get_or, take, drop, Some, None, refl, sym, ap, ◌∙◌, append-nil, subst, arith}
 use Rattle.std.specs.Prelude.{map, filter, flat_map, Contains}
-use Rattle.std.proofs.lemmas.List.{length-map, take_more}
+use Rattle.std.proofs.lemmas.List.{length-map, take_more, nil_from_length}
 use Rattle.std.proofs.Math.Seq.{take-length}
 use Rattle.std.proofs.lemmas.List.Concat.{flat_map-append}
 use Rattle.std.proofs.lemmas.List.Elements.{Contains-get_or, filter-append}
@@ -11,67 +11,15 @@ use Rattle.plain_map.specs.declared.records.Record.{Record}
 use Rattle.plain_map.specs.declared.records.Pending.{Pending}
 use Rattle.plain_map.specs.History.{Placed, answered, pending as waiting, packet_of}
 use Rattle.report_told.specs.Told.{Told}
-use Rattle.report_told.specs.Rules.{is_update, times}
+use Rattle.report_told.specs.Rules.{times}
+use Rattle.plain_map.specs.Calls.{is_update}
 use Rattle.report_told.specs.Points.{IsWhole, pending_told, placed_told, records_told, standing}
-use Rattle.report_reading.proofs.PacketLemmas.{stands_at, times-cons, times-same, times-other}
-use Rattle.report_check.proofs.PlaceLemmas.{cut_at}
+use Rattle.report_told.proofs.TimesLemmas.{filter_within, filter_one, some_times, filter_none, filter_step, times-other}
+use Rattle.report_reading.proofs.PacketLemmas.{stands_at}
+use Rattle.list_laws.proofs.Cuts.{cut_at}
 use Rattle.report_check.specs.Facts.{Facts, placed_at, IsCallOf}
 
 -- One element with a number.
-
--- the first element stays or goes as the test says
-filter_step : {A : Type 0} (test : A → Bool) (x : A) (xs : List A) (b : Bool) → test x ≡ b →
-    filter test (x ∷ xs) ≡ cond b (x ∷ filter test xs) (filter test xs)
-filter_step test x xs b is = ap (λ (t : Bool). cond t (x ∷ filter test xs) (filter test xs)) is
-
--- where no element has the number, none stays
-pub filter_none : {A : Type 0} (key : A → ℕ) (packet : ℕ) (xs : List A) → times packet (map key xs) ≡ 0 →
-    filter (λ x. key x == packet) xs ≡ []
-filter_none key packet [] none = refl
-filter_none key packet (x ∷ xs) none = elim (cases_eq (key x) packet) [
-  | inl same ↦ absurd (omega (
-    arith,
-    none,
-    subst (λ (p : ℕ). times p (key x ∷ map key xs) ≡ suc (times p (map key xs))) same (times-same (key x) (map key xs)),
-  ))
-  | inr other ↦
-      filter_step (λ y. key y == packet) x xs false (ne_eqb (key x) packet other)
-      ∙ filter_none key packet xs (sym (times-other packet (key x) (map key xs) other) ∙ none)
-]
-
--- an element with the number is counted
-pub some_times : {A : Type 0} (key : A → ℕ) (packet : ℕ) (xs : List A) (i : ℕ) (d : A) → i < length xs →
-    key (get_or xs i d) ≡ packet → 1 ≤ times packet (map key xs)
-some_times key packet [] i d inside is = absurd (omega arith)
-some_times key packet (x ∷ xs) zero d inside is =
-    omega (
-      arith,
-      subst (λ (p : ℕ). times p (key x ∷ map key xs) ≡ suc (times p (map key xs))) is
-          (times-same (key x) (map key xs)),
-    )
-some_times key packet (x ∷ xs) (suc i) d inside is =
-    omega (arith, some_times key packet xs i d (omega arith) is, times-cons packet (key x) (map key xs))
-
--- where one element alone has the number, just it stays
-pub filter_one : {A : Type 0} (key : A → ℕ) (packet : ℕ) (xs : List A) (i : ℕ) (d : A) → times packet (map key xs) ≤ 1 →
-    i < length xs → key (get_or xs i d) ≡ packet → filter (λ x. key x == packet) xs ≡ get_or xs i d ∷ []
-filter_one key packet [] i d once inside is = absurd (omega arith)
-filter_one key packet (x ∷ xs) zero d once inside is =
-    let all : times packet (key x ∷ map key xs) ≡ suc (times packet (map key xs)) =
-    subst (λ (p : ℕ). times p (key x ∷ map key xs) ≡ suc (times p (map key xs))) is (times-same (key x) (map key xs)) in
-    filter_step (λ y. key y == packet) x xs true (eq-eqb (key x) packet is)
-    ∙ ap (λ ys. x ∷ ys) (filter_none key packet xs (omega (arith, once, all)))
-filter_one key packet (x ∷ xs) (suc i) d once inside is = elim (cases_eq (key x) packet) [
-  | inl same ↦
-      (let all : times packet (key x ∷ map key xs) ≡ suc (times packet (map key xs)) =
-      subst (λ (p : ℕ). times p (key x ∷ map key xs) ≡ suc (times p (map key xs))) same
-      (times-same (key x) (map key xs)) in
-      absurd (omega (arith, once, all, some_times key packet xs i d (omega arith) is)))
-  | inr other ↦
-      filter_step (λ y. key y == packet) x xs false (ne_eqb (key x) packet other)
-      ∙ filter_one key packet xs i d (omega (arith, once, times-other packet (key x) (map key xs) other))
-      (omega arith) is
-]
 
 -- a test after a map is a test before it
 filter_mapped : {A B : Type 0} (made : A → B) (test : B → Bool) (xs : List A) →
@@ -177,34 +125,11 @@ filter_empty key packet (x ∷ xs) is = elim (cases_eq (key x) packet) [
       (filter_step (λ y. key y == packet) x xs false (ne_eqb (key x) packet other)) ∙ is)
 ]
 
--- of fewer elements no more are counted
-pub filter_fewer : {A : Type 0} (key : A → ℕ) (packet : ℕ) (test : A → Bool) (xs : List A) →
-    times packet (map key (filter test xs)) ≤ times packet (map key xs)
-filter_fewer key packet test [] = omega arith
-filter_fewer key packet test (x ∷ xs) = go (test x) (filter_fewer key packet test xs)
-  where
-    go : (b : Bool) → times packet (map key (filter test xs)) ≤ times packet (map key xs) →
-        times packet (map key (cond b (x ∷ filter test xs) (filter test xs))) ≤ times packet (key x ∷ map key xs)
-    go true later =
-        omega (
-          arith,
-          later,
-          times-cons packet (key x) (map key (filter test xs)),
-          times-cons packet (key x)
-              (map key xs),
-        )
-    go false later = omega (arith, later, times-cons packet (key x) (map key xs))
-
 -- two lists that make an empty one are empty
 both_empty : {A : Type 0} (xs ys : List A) → xs ++ ys ≡ [] → (length xs ≡ 0) × (length ys ≡ 0)
 both_empty xs ys is =
     let none : length xs + length ys ≡ 0 = sym (length-append xs ys) ∙ ap length is in
     (omega (arith, none), omega (arith, none))
-
--- a list without length is the empty one
-empty_is : {A : Type 0} (xs : List A) → length xs ≡ 0 → xs ≡ []
-empty_is [] is = refl
-empty_is (x ∷ xs) is = absurd (omega (arith, is))
 
 -- a packet that stands in a whole order has a call
 pub some_call : (told : Told) (packet : ℕ) → IsWhole told → 1 ≤ standing told packet → placed_at told packet ≡ [] → ⊥
@@ -214,18 +139,18 @@ some_call told packet whole stands nothing =
     (sym (both_filtered told packet) ∙ nothing) in
     let no_record : times packet (map (λ (r : Record). r.packet) (records_told told)) ≡ 0 =
     filter_empty (λ (r : Record). r.packet) packet (records_told told)
-    (empty_is _ (sym (length-map (filter (λ (r : Record). r.packet == packet) (records_told told)) answered)
+    (nil_from_length _ (sym (length-map (filter (λ (r : Record). r.packet == packet) (records_told told)) answered)
     ∙ both.0)) in
     let no_pending : times packet (map (λ (u : Pending). u.packet) (pending_told told)) ≡ 0 =
     filter_empty (λ (u : Pending). u.packet) packet (pending_told told)
-    (empty_is _ (sym (length-map (filter (λ (u : Pending). u.packet == packet) (pending_told told)) waiting)
+    (nil_from_length _ (sym (length-map (filter (λ (u : Pending). u.packet == packet) (pending_told told)) waiting)
     ∙ both.1)) in
     omega (
       arith,
       (whole packet).known stands,
       no_record,
       no_pending,
-      filter_fewer (λ (u : Pending). u.packet) packet (λ (u : Pending). is_update u.call) (pending_told told),
+      filter_within (λ (u : Pending). u.packet) packet (λ (u : Pending). is_update u.call) (pending_told told),
     )
 
 -- a packet without an answered or a pending call has none

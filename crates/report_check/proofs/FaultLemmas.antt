@@ -7,10 +7,11 @@ use Rattle.std.proofs.lemmas.List.Sorted.{IsPermutation-map, sum_by-IsPermutatio
 use Rattle.plain_map.specs.declared.records.Record.{Record}
 use Rattle.plain_map.specs.declared.records.Pending.{Pending}
 use Rattle.report_told.specs.Told.{Told}
-use Rattle.report_told.specs.Rules.{is_update, times}
+use Rattle.report_told.specs.Rules.{times}
+use Rattle.plain_map.specs.Calls.{is_update}
 use Rattle.report_told.specs.Points.{IsWhole, StandsRight, answered_packets, effect_packets, pending_told, standing}
 use Rattle.report_told.specs.Verdicts.{IsLeastFault}
-use Rattle.report_reading.proofs.PacketLemmas.{times-cons}
+use Rattle.report_told.proofs.TimesLemmas.{times-cons}
 use Rattle.report_check.specs.Facts.{Facts}
 use Rattle.report_check.specs.Whole.{AreInOrder, IsLeastOf, StandsSo, answers_at, effects_at}
 use Rattle.report_check.proofs.WholeLemmas.{one_if}

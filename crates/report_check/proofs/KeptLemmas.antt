@@ -10,16 +10,15 @@ use Rattle.std.proofs.lemmas.List.Sorted.{All-permutation}
 use Rattle.plain_map.specs.declared.records.Record.{Record}
 use Rattle.plain_map.specs.declared.records.Pending.{Pending}
 use Rattle.plain_map.specs.Places.{IsInKeyOrder}
-use Rattle.plain_map.specs.PlainObject.{InRange}
 use Rattle.report_text.specs.declared.parts.Head.{Head}
 use Rattle.report_told.specs.declared.told.Ended.{Ended}
 use Rattle.report_told.specs.declared.told.Ended.TheVariants.{Answered, Refused}
 use Rattle.report_told.specs.Told.{Entry, call, pending, order, Told}
-use Rattle.report_told.specs.Rules.{IsEntry, IsHead, IsInGrammar, Rise, ended_packets, times, waiting_packets}
-use Rattle.report_told.specs.Points.{answers_of, pending_in, pending_told, record_of, records_behind, records_told, rules_told}
+use Rattle.report_told.specs.Rules.{IsEntry, IsInGrammar, Rise, ended_packets, times, waiting_packets}
+use Rattle.report_told.specs.Points.{answers_of, pending_in, pending_told, record_of, records_behind, records_told}
+use Rattle.report_told.proofs.TimesLemmas.{times-other, times-same, times-cons}
 use Rattle.report_reading.specs.declared.kept.Kept.{Kept}
 use Rattle.report_reading.specs.Kept.{IsKept}
-use Rattle.report_reading.proofs.PacketLemmas.{times-cons, times-same, times-other}
 use Rattle.report_check.specs.Facts.{Facts, HasFacts}
 
 -- Packets that rise.
@@ -55,7 +54,7 @@ rise_once packet [] rise = omega arith
 rise_once packet (x ∷ xs) rise = elim (cases_eq x packet) [
   | inl same ↦
       (let all : times packet (x ∷ xs) ≡ suc (times packet xs) =
-      subst (λ (p : ℕ). times p (x ∷ xs) ≡ suc (times p xs)) same (times-same x xs) in
+      subst (λ (p : ℕ). times p (x ∷ xs) ≡ suc (times p xs)) same (times-same x x xs refl) in
       let none : times packet xs ≡ 0 = subst (λ (p : ℕ). times p xs ≡ 0) same (below_all x xs rise.0) in
       omega (arith, all, none))
   | inr other ↦ omega (arith, times-other packet x xs other, rise_once packet xs rise.1)
@@ -251,12 +250,4 @@ has_facts kept sorted told is in_grammar same rises = record {
   pairs_are = is.pairs;
   pairs_ordered = subst IsInKeyOrder (sym is.pairs) in_grammar.sessions.ordered;
   facts = facts_are kept told sorted.items is in_grammar same rises;
-}
-
--- the settings are those of a plain map
-pub rules_in_range : (head : Head) → IsHead head → InRange (rules_told head)
-rules_in_range head in_range = record {
-  some_room = in_range.settings.items_in_range.0;
-  items = in_range.settings.items_in_range.1;
-  depth = in_range.settings.depth_in_range.1;
 }

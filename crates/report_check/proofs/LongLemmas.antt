@@ -2,10 +2,10 @@
 use Rattle.std.proofs.Common.{◌≡◌, ℕ, suc, ◌<◌, true, List, length, get_or, take, drop, refl, sym, arith}
 use Rattle.std.specs.Prelude.{All}
 use Rattle.plain_map.specs.declared.records.Record.{Record}
-use Rattle.report_told.specs.Rules.{is_update}
+use Rattle.plain_map.specs.Calls.{is_update}
 use Rattle.report_told.specs.Points.{IsShortEnough}
+use Rattle.list_laws.proofs.Cuts.{cut_at}
 use Rattle.report_check.specs.Judged.{IsLongAt}
-use Rattle.report_check.proofs.PlaceLemmas.{cut_at}
 
 -- an update with too many steps behind others with few enough is the first such
 pub long_at : (bound : ℕ) (calls : List Record) (i : ℕ) (d : Record) → i < length calls →

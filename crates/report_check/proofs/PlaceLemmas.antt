@@ -1,19 +1,13 @@
 -- What a search by a number finds.
-use Rattle.std.proofs.Common.{◌≡◌, ◌⊎◌, inl, inr, ℕ, zero, suc, ◌<◌, ◌≤◌, List, [], ◌∷◌, ◌++◌, length, get_or, take, drop, Result, Ok, Err, refl, sym, ap, ◌∙◌, arith}
+use Rattle.std.proofs.Common.{◌≡◌, inl, inr, ℕ, ◌<◌, ◌≤◌, List, length, get_or, Result, Ok, Err, sym, ap, ◌∙◌, arith}
 use Rattle.std.specs.Prelude.{IsSortedByKey}
 use Rattle.std.specs.Result.{result_ok}
 use Rattle.std.specs.declared.cmp.Ordering.TheVariants.{Less, Equal, Greater}
 use Rattle.std.specs.Ordering.{nat_cmp, ordering_index}
 use Rattle.std.specs.List.Sorted.{IsSearchInRange, IsBinarySearchResult, IsNonDecreasingBy}
 use Rattle.std.proofs.lemmas.List.Sorted.{IsNonDecreasingBy-from_sort}
+use Rattle.std.proofs.lemmas.Bool.{cases_lt}
 use Rattle.report_check.specs.Places.{IsPlaceOf}
-
--- a list, cut at a place
-pub cut_at : {A : Type 0} (xs : List A) (i : ℕ) (d : A) → i < length xs →
-    xs ≡ take i xs ++ get_or xs i d ∷ drop (suc i) xs
-cut_at [] i d inside = absurd (omega arith)
-cut_at (x ∷ xs) zero d inside = refl
-cut_at (x ∷ xs) (suc i) d inside = ap (λ ys. x ∷ ys) (cut_at xs i d (omega arith))
 
 -- numbers that compare as equal are one
 equal_is : (a b : ℕ) → nat_cmp a b ≡ Equal → a ≡ b
@@ -26,10 +20,6 @@ itself a = grind arith
 -- a greater number compares as no less
 index_rises : (a b x : ℕ) → a ≤ b → ordering_index (nat_cmp a x) ≤ ordering_index (nat_cmp b x)
 index_rises a b x le = grind arith
-
--- a place is at or behind another, or before it
-le_or_lt : (i k : ℕ) → (i ≤ k) ⊎ (k < i)
-le_or_lt i k = grind arith
 
 -- less is not equal
 less_equal : Less ≡ Equal → ⊥
@@ -55,7 +45,7 @@ place_is {A} key xs packet (Err i) range found sorted = none
         (rises a b e before within)) in
         let same : nat_cmp (key (get_or xs k d)) packet ≡ Equal =
         ap (λ (n : ℕ). nat_cmp n packet) is ∙ itself packet in
-        elim (le_or_lt i k) [
-          | inl after ↦ greater_equal (sym (parts.1 k d after inside) ∙ same)
-          | inr before ↦ less_equal (sym (parts.0 k d (omega arith) before) ∙ same)
+        elim (cases_lt k i) [
+          | inr after ↦ greater_equal (sym (parts.1 k d after inside) ∙ same)
+          | inl before ↦ less_equal (sym (parts.0 k d (omega arith) before) ∙ same)
         ]

@@ -3,14 +3,10 @@ use Rattle.std.proofs.Common.{◌≡◌, ◌⊎◌, inl, inr, ℕ, zero, suc, �
 use Rattle.std.proofs.lemmas.Bool.{cases_eq, eq-eqb, ne_eqb}
 use Rattle.plain_map.specs.declared.records.TheConstants.{MOST_SEATS}
 use Rattle.plain_map.specs.History.{Placed, seat_of, number_of, seen_of, Stands, IsAfter, After}
+use Rattle.plain_map.proofs.TurnLemmas.{stands_behind}
 use Rattle.report_check.specs.Ready.{AreStanding, IsReady, standing_with, ReadyIsAfter, ReadyGoesOn}
 
 -- Calls that stand, and one more.
-
--- a call that stands in a list stands in a longer one
-stands_behind : (first : Placed) (rest : List Placed) (seat number : ℕ) → Stands rest seat number →
-    Stands (first ∷ rest) seat number
-stands_behind first rest seat number there = (suc there.0, there.1, omega arith, there.3, there.4)
 
 -- and in one with more behind it
 stands_front : (front : List Placed) (p : Placed) (seat number : ℕ) → Stands front seat number →

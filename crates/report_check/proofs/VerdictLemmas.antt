@@ -3,10 +3,8 @@ use Rattle.std.proofs.Common.{◌≡◌, ℕ, Result, Ok, Err, List, sym, ◌∙
 use Rattle.std.specs.Prelude.{All, IfOk, ◌↔◌}
 use Rattle.std.specs.declared.alloc.AllocError.{AllocError}
 use Rattle.std.specs.FinMap.{empty}
-use Rattle.plain_map.specs.declared.rules.Rules.{Rules}
 use Rattle.plain_map.specs.PlainObject.{Sessions, pairs_of}
 use Rattle.plain_map.specs.History.{After, sessions_after}
-use Rattle.class_map.specs.Rows.{Holds}
 use Rattle.report_told.specs.Told.{Told}
 use Rattle.report_told.specs.declared.verdict.Verdict.{Verdict}
 use Rattle.report_told.specs.declared.verdict.Verdict.TheVariants as v
@@ -16,43 +14,11 @@ use Rattle.report_told.specs.Rules.{IsInGrammar}
 use Rattle.report_reading.specs.declared.kept.Kept.{Kept}
 use Rattle.report_reading.specs.Kept.{IsKept}
 use Rattle.report_check.specs.Facts.{HasFacts}
-use Rattle.report_check.specs.Judged.{IsLongAt, Judges, LegalSo}
+use Rattle.report_check.specs.Judged.{Judges, LegalSo}
 
 -- the sessions that the order of a report leaves
 abbrev pub left_told : Told → Sessions
 left_told told = sessions_after (rules_told told.head) empty (placed_told told)
-
--- the map holds just what the order leaves
-pub holds_left : (told : Told) (rules : Rules) (rows : List Sessions) → rules ≡ rules_told told.head →
-    LegalSo told rows → Holds rows rules (left_told told)
-holds_left told rules rows are legal = subst (λ (rs : Rules). Holds rows rs (left_told told)) (sym are) legal.holds
-
--- other sessions than those of the report
-pub other_sessions : (kept : Kept) (told : Told) (rows : List Sessions) → HasFacts kept told → IsWhole told →
-    After (placed_told told) → LegalSo told rows → (kept.pairs.items ≡ pairs_of (left_told told) → ⊥) →
-    Judges told v.Sessions
-other_sessions kept told rows has whole after legal other =
-    (whole, after, legal.legal, λ same. other (has.pairs_are ∙ same))
-
--- an update with too many steps
-pub too_long : (kept : Kept) (told : Told) (rows : List Sessions) (packet : ℕ) → HasFacts kept told → IsWhole told →
-    After (placed_told told) → LegalSo told rows → kept.pairs.items ≡ pairs_of (left_told told) →
-    IsLongAt kept.bound kept.calls.items packet → Judges told (v.Steps packet)
-too_long kept told rows packet has whole after legal same long = (
-  whole,
-  after,
-  legal.legal,
-  sym has.pairs_are ∙ same,
-  record {
-    front = long.front;
-    long = long.long;
-    later = long.later;
-    cut = sym has.facts.calls_are ∙ long.cut;
-    packet_is = long.packet_is;
-    right = subst (λ (n : ℕ). All (IsShortEnough n) long.front) has.bound_is long.right;
-    fault = subst (λ (n : ℕ). IsShortEnough n long.long → ⊥) has.bound_is long.fault;
-  },
-)
 
 -- a report without a fault
 pub is_right : (kept : Kept) (told : Told) (rows : List Sessions) → HasFacts kept told → IsWhole told →

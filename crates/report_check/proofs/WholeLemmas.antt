@@ -5,14 +5,15 @@ use Rattle.std.specs.Ordering.{nat_cmp}
 use Rattle.std.specs.List.Sorted.{IsNonDecreasing, IsNonDecreasingBy}
 use Rattle.std.proofs.lemmas.List.Sorted.{IsNonDecreasingBy-from_sort}
 use Rattle.std.proofs.lemmas.List.{get_or_default}
-use Rattle.std.proofs.lemmas.Bool.{cases_eq}
+use Rattle.std.proofs.lemmas.Bool.{cases_eq, cases_lt}
 use Rattle.plain_map.specs.declared.records.Record.{Record}
 use Rattle.plain_map.specs.declared.records.Pending.{Pending}
 use Rattle.report_told.specs.Rules.{times}
+use Rattle.report_told.proofs.TimesLemmas.{filter_within, some_times, times-other, times-same, times-cons}
 use Rattle.report_check.specs.Facts.{IsCallOf}
 use Rattle.report_check.specs.Whole.{IsFirstMissing, IsFirstStray, IsLeastOf, IsRepeated, IsThere, MayBeThere, StandsSo, answers_at, effects_at}
-use Rattle.report_check.proofs.FactLemmas.{filter_fewer, no_times, some_times}
-use Rattle.report_reading.proofs.PacketLemmas.{stands_at, times-cons, times-same, times-other}
+use Rattle.report_check.proofs.FactLemmas.{no_times}
+use Rattle.report_reading.proofs.PacketLemmas.{stands_at}
 
 -- one where it holds
 abbrev pub one_if : Bool → ℕ
@@ -42,10 +43,6 @@ place_in packet (x ∷ xs) some = elim (cases_eq x packet) [
       (suc k, omega (arith, inside), is))
 ]
 
--- a number is at least another, or below it
-le_or_lt : (i k : ℕ) → (i ≤ k) ⊎ (k < i)
-le_or_lt i k = grind arith
-
 -- one that stands twice in a list that rises stands at two places in turn
 pub repeated_at : (packet : ℕ) (xs : List ℕ) → IsNonDecreasing xs → 2 ≤ times packet xs →
     (k : ℕ) × IsRepeated xs k × (get_or xs k 0 ≡ packet)
@@ -53,7 +50,7 @@ repeated_at packet [] rises many = absurd (omega (arith, many))
 repeated_at packet (x ∷ xs) rises many = elim (cases_eq x packet) [
   | inl same ↦
       (let all : times packet (x ∷ xs) ≡ suc (times packet xs) =
-      subst (λ (p : ℕ). times p (x ∷ xs) ≡ suc (times p xs)) same (times-same x xs) in
+      subst (λ (p : ℕ). times p (x ∷ xs) ≡ suc (times p xs)) same (times-same x x xs refl) in
       let (k, inside, is) = place_in packet xs (omega (arith, many, all)) in
       let low : x ≤ get_or xs 0 0 = rises 0 1 0 (omega arith) (omega (arith, inside)) in
       let high : get_or xs 0 0 ≤ get_or xs k 0 = rises 1 (suc k) 0 (omega arith) (omega (arith, inside)) in
@@ -69,7 +66,7 @@ repeated_at packet (x ∷ xs) rises many = elim (cases_eq x packet) [
 pub twice_there : (xs : List ℕ) (k : ℕ) → IsRepeated xs k → 2 ≤ times (get_or xs k 0) xs
 twice_there [] k two = absurd (omega (arith, two.0))
 twice_there (x ∷ xs) zero two =
-    omega (arith, times-same x xs, stands_at x xs 0 (omega (arith, two.0)) (sym two.1))
+    omega (arith, times-same x x xs refl, stands_at x xs 0 (omega (arith, two.0)) (sym two.1))
 twice_there (x ∷ xs) (suc k) two =
     omega (arith, twice_there xs k (omega (arith, two.0), two.1), times-cons (get_or xs k 0) x xs)
 
@@ -91,9 +88,9 @@ AllThere calls order i = (k : ℕ) (d : Record) → k < i → k < length calls �
 pub there_more : (calls : List Record) (order : List ℕ) (i : ℕ) (d : Record) → i < length calls →
     AllThere calls order i →
     1 ≤ times (get_or calls i d).packet order → AllThere calls order (i + 1)
-there_more calls order i d inside all here k e within low = elim (le_or_lt i k) [
-  | inl last ↦ subst (λ (n : ℕ). 1 ≤ times (get_or calls n e).packet order) (same k last within) at_e
-  | inr before ↦ all k e before low
+there_more calls order i d inside all here k e within low = elim (cases_lt k i) [
+  | inr last ↦ subst (λ (n : ℕ). 1 ≤ times (get_or calls n e).packet order) (same k last within) at_e
+  | inl before ↦ all k e before low
 ]
   where
     same : (k : ℕ) → i ≤ k → k < i + 1 → i ≡ k
@@ -126,9 +123,9 @@ missing_at calls order i d sorted inside all none = record {
   earlier = λ other less some.
       (let (k, r, low, is, named) = place_of (λ (r : Record). r.packet) other calls some in
       let at : (get_or calls k r).packet ≡ other = ap (λ (r : Record). r.packet) is ∙ named in
-      elim (le_or_lt i k) [
-        | inl after ↦ absurd (omega (arith, less, at, same_at k r low, rises i k r after low))
-        | inr before ↦ subst (λ (p : ℕ). 1 ≤ times p order) at (all k r before low)
+      elim (cases_lt k i) [
+        | inr after ↦ absurd (omega (arith, less, at, same_at k r low, rises i k r after low))
+        | inl before ↦ subst (λ (p : ℕ). 1 ≤ times p order) at (all k r before low)
       ]);
 }
   where
@@ -150,12 +147,12 @@ pub well_more : (calls : List Record) (pending : List Pending) (order : List ℕ
     AllWell calls pending order i →
     (IsRepeated order i → ⊥) → 1 ≤ answers_at calls (get_or order i 0) + effects_at pending (get_or order i 0) →
     AllWell calls pending order (i + 1)
-well_more calls pending order i all once known k within = elim (le_or_lt i k) [
-  | inl last ↦
+well_more calls pending order i all once known k within = elim (cases_lt k i) [
+  | inr last ↦
       (let same : i ≡ k = omega arith in
       subst (λ (n : ℕ). (IsRepeated order n → ⊥)
       × (1 ≤ answers_at calls (get_or order n 0) + effects_at pending (get_or order n 0))) same (once, known))
-  | inr before ↦ all k before
+  | inl before ↦ all k before
 ]
 
 -- a packet that stands before this place alone may stand
@@ -163,11 +160,11 @@ well_upto : (calls : List Record) (pending : List Pending) (order : List ℕ) (i
     AllWell calls pending order i → ((k : ℕ) → k < length order → get_or order k 0 ≡ packet → k < i) →
     MayBeThere calls pending order packet
 well_upto calls pending order i packet rises all before = record {
-  once = elim (le_or_lt 2 (times packet order)) [
-    | inl many ↦
+  once = elim (cases_lt (times packet order) 2) [
+    | inr many ↦
         (let (k, two, is) = repeated_at packet order rises many in
         absurd ((all k (before k (omega (arith, two.0)) is)).0 two))
-    | inr few ↦ omega arith
+    | inl few ↦ omega arith
   ];
   known = λ some.
       (let (k, inside, is) = place_in packet order some in
@@ -185,11 +182,11 @@ earlier_well : (calls : List Record) (pending : List Pending) (order : List ℕ)
     i < length order → AllWell calls pending order i → (other : ℕ) → other < get_or order i 0 →
     MayBeThere calls pending order other
 earlier_well calls pending order i rises inside all other less =
-    well_upto calls pending order i other rises all (λ k low is. before k low is (le_or_lt i k))
+    well_upto calls pending order i other rises all (λ k low is. before k low is (cases_lt k i))
   where
-    before : (k : ℕ) → k < length order → get_or order k 0 ≡ other → (i ≤ k) ⊎ (k < i) → k < i
-    before k low is (inl after) = absurd (omega (arith, less, is, rises i k 0 after low))
-    before k low is (inr good) = good
+    before : (k : ℕ) → k < length order → get_or order k 0 ≡ other → (k < i) ⊎ (i ≤ k) → k < i
+    before k low is (inr after) = absurd (omega (arith, less, is, rises i k 0 after low))
+    before k low is (inl good) = good
 
 -- a packet that stands twice is the first that may not
 pub stray_twice : (calls : List Record) (pending : List Pending) (order : List ℕ) (i : ℕ) → IsNonDecreasing order →
@@ -244,16 +241,17 @@ effect_some {A = A} key packet test (y ∷ xs) zero x once inside is named =
     rest = omega (
       arith,
       once,
-      filter_fewer key packet test xs,
+      filter_within key packet test xs,
       ap key is,
       named,
       subst (λ (p : ℕ). times p (key y ∷ map key xs) ≡ suc (times p (map key xs))) (ap key is ∙ named)
-          (times-same (key y) (map key xs)),
+          (times-same (key y) (key y) (map key xs) refl),
     )
 
     go : (b : Bool) → times packet (map key (cond b (x ∷ filter test xs) (filter test xs))) ≡ one_if b
-    go true = subst (λ (p : ℕ). times p (key x ∷ map key (filter test xs)) ≡ suc
-        (times p (map key (filter test xs)))) named (times-same (key x) (map key (filter test xs))) ∙ ap suc rest
+    go true =
+        subst (λ (p : ℕ). times p (key x ∷ map key (filter test xs)) ≡ suc (times p (map key (filter test xs))))
+        named (times-same (key x) (key x) (map key (filter test xs)) refl) ∙ ap suc rest
     go false = rest
 effect_some key packet test (y ∷ xs) (suc i) x once inside is named =
     go (test y) ∙ effect_some key packet test xs i x (omega (arith, once, times-cons packet (key y) (map key xs)))
@@ -263,7 +261,7 @@ effect_some key packet test (y ∷ xs) (suc i) x once inside is named =
     other same =
         (let all : times packet (key y ∷ map key xs) ≡ suc (times packet (map key xs)) =
         subst (λ (p : ℕ). times p (key y ∷ map key xs) ≡ suc (times p (map key xs))) same
-        (times-same (key y) (map key xs)) in
+        (times-same (key y) (key y) (map key xs) refl) in
         omega (arith, once, all, some_times key packet xs i x (omega arith) (ap key is ∙ named)))
 
     go : (b : Bool) → times packet (map key (cond b (y ∷ filter test xs) (filter test xs))) ≡ times packet
@@ -275,7 +273,7 @@ effect_some key packet test (y ∷ xs) (suc i) x once inside is named =
 pub effect_none : {A : Type 0} (key : A → ℕ) (packet : ℕ) (test : A → Bool) (xs : List A) →
     ((i : ℕ) (d : A) → i < length xs → key (get_or xs i d) ≡ packet → ⊥) → times packet (map key (filter test xs)) ≡ 0
 effect_none key packet test xs none =
-    omega (arith, filter_fewer key packet test xs, no_times key packet xs none)
+    omega (arith, filter_within key packet test xs, no_times key packet xs none)
 
 -- one or none says what held
 pub one_is : (b : Bool) → nat_le 1 (one_if b) ≡ b
@@ -315,12 +313,12 @@ least_stray calls pending order packet first there = record {
 pub least_of_two : (calls : List Record) (pending : List Pending) (order : List ℕ) (one other : ℕ) →
     IsFirstMissing calls order one → IsFirstStray calls pending order other →
     IsLeastOf calls pending order (min one other)
-least_of_two calls pending order one other missing stray = elim (le_or_lt one other) [
-  | inl before ↦
+least_of_two calls pending order one other missing stray = elim (cases_lt other one) [
+  | inr before ↦
       (let is : one ≡ min one other = omega arith in
       subst (IsLeastOf calls pending order) is
       (least_missing calls pending order one missing (λ p less. stray.earlier p (omega arith))))
-  | inr after ↦
+  | inl after ↦
       (let is : other ≡ min one other = omega arith in
       subst (IsLeastOf calls pending order) is
       (least_stray calls pending order other stray (λ p less. missing.earlier p (omega arith))))

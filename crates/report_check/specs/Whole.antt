@@ -3,7 +3,8 @@ use Rattle.std.specs.Prelude.{◌≡◌, ℕ, suc, ◌+◌, ◌<◌, ◌≤◌, 
 use Rattle.std.specs.Ordering.{nat_cmp}
 use Rattle.plain_map.specs.declared.records.Record.{Record}
 use Rattle.plain_map.specs.declared.records.Pending.{Pending}
-use Rattle.report_told.specs.Rules.{is_update, times}
+use Rattle.report_told.specs.Rules.{times}
+use Rattle.plain_map.specs.Calls.{is_update}
 
 -- calls in the order of their packets, of which no two pending ones have one
 pub record AreInOrder (calls : List Record) (pending : List Pending) : Type 0 where

@@ -2,7 +2,7 @@
 
 ghost use Rattle.std.specs.Prelude.{◌≡◌, ◌<◌, List, map, MatchOption, All, ◌++◌, ◌∷◌};
 ghost use Rattle.plain_map.specs.declared.records.Record.{Record as ARecord};
-ghost use Rattle.report_told.specs.Rules.{is_update as is_update_call};
+ghost use Rattle.plain_map.specs.Calls.{is_update as is_update_call};
 ghost use Rattle.report_told.specs.Points.{IsShortEnough};
 ghost use Rattle.report_check.specs.Judged.{IsLongAt};
 

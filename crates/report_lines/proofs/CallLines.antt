@@ -13,7 +13,8 @@ use Rattle.line_fields.specs.Reading.{◌>>=◌, HasNoDigit, text_at}
 use Rattle.line_fields.proofs.NumberLaws.{number_again}
 use Rattle.line_fields.proofs.BindLemmas.{bind_some, number_then, text_then}
 use Rattle.report_text.specs.Report.{short_word}
-use Rattle.report_told.specs.Rules.{IsSeen, is_update}
+use Rattle.report_told.specs.Rules.{IsSeen}
+use Rattle.plain_map.specs.Calls.{is_update}
 use Rattle.report_told.specs.declared.told.Ended.{Ended}
 use Rattle.report_told.specs.declared.told.Ended.TheVariants.{Answered, Refused}
 use Rattle.report_lines.specs.declared.calls.Asked.{Asked}

@@ -17,7 +17,8 @@ pub record Takes {T : Type 0} (text : T → List ℕ) (Fits : T → Type 0) (byt
 -- the text of a value that fits is read as the value, where no digit stands behind it, and what is read is so
 pub record IsField {T : Type 0} (at : List ℕ → Option (T × List ℕ)) (text : T → List ℕ) (Fits : T → Type 0) : Type 0
   where
-    pub again : (value : T) (rest : List ℕ) → Fits value → HasNoDigit rest → at (text value ++ rest) ≡ Some (value, rest)
+    pub again : (value : T) (rest : List ℕ) → Fits value → HasNoDigit rest →
+        at (text value ++ rest) ≡ Some (value, rest)
     pub takes : (bytes : List ℕ) (value : T) (rest : List ℕ) → at bytes ≡ Some (value, rest) →
         Takes text Fits bytes value rest
 

@@ -1,9 +1,8 @@
 -- The reports that the machine reads are those of the grammar.
-use Rattle.std.proofs.Common.{◌≡◌, ℕ, zero, suc, ◌+◌, ◌^◌, ◌<◌, ◌≤◌, ◌==◌, Bool, true, false, ◌&&◌, cond, List, [], ◌∷◌, ◌++◌, refl, sym, ap, ◌∙◌, append_assoc, append-nil, subst, arith}
-use Rattle.std.specs.Prelude.{All, flat_map, map, T}
+use Rattle.std.proofs.Common.{◌≡◌, ℕ, ◌+◌, ◌^◌, ◌<◌, ◌≤◌, Bool, true, false, List, [], ◌∷◌, ◌++◌, refl, sym, ap, ◌∙◌, append_assoc, append-nil, subst, arith}
+use Rattle.std.specs.Prelude.{flat_map, map, T}
 use Rattle.std.proofs.lemmas.List.Concat.{flat_map-append}
-use Rattle.std.proofs.lemmas.List.Sums.{sum_by-append}
-use Rattle.std.proofs.lemmas.Bool.{true≢false}
+use Rattle.std.proofs.lemmas.Bool.{and_parts, and_from}
 use Rattle.std.specs.FinMap.{is_sorted}
 use Rattle.std.specs.FinMap.Entries.{below_all}
 use Rattle.std.specs.Ordering.{is_lt}
@@ -12,10 +11,10 @@ use Rattle.std.proofs.lemmas.List.Elements.{All-from_recursion, recursion_from_A
 use Rattle.plain_map.specs.declared.keys.Key.{Key}
 use Rattle.plain_map.specs.declared.keys.Pair.{Pair}
 use Rattle.plain_map.specs.Keys.{key_cmp, entry_of}
-use Rattle.pcap_reader.specs.declared.fault.CaptureFault.{CaptureFault}
-use Rattle.pcap_reader.specs.declared.fault.CaptureFault.TheVariants.{ReadFault as NoRead, ShortHeader, Magic, Version, LinkType, RecordLength, Memory}
-use Rattle.pcapng_reader.specs.declared.fault.AnyFault.{AnyFault}
-use Rattle.pcapng_reader.specs.declared.fault.AnyFault.TheVariants.{Capture, ByteOrder, BlockLength, Trailer, SectionVersion, Interface, CapturedLength, Interfaces, Blocks}
+use Rattle.capture_faults.specs.declared.fault.CaptureFault.{CaptureFault}
+use Rattle.capture_faults.specs.declared.fault.CaptureFault.TheVariants.{ReadFault as NoRead, ShortHeader, Magic, Version, LinkType, RecordLength, Memory}
+use Rattle.capture_faults.specs.declared.any_fault.AnyFault.{AnyFault}
+use Rattle.capture_faults.specs.declared.any_fault.AnyFault.TheVariants.{Capture, ByteOrder, BlockLength, Trailer, SectionVersion, Interface, CapturedLength, Interfaces, Blocks}
 use Rattle.line_fields.proofs.Scan.{Spells, spells_append}
 use Rattle.flow_reading.specs.Flows.{IsFlow}
 use Rattle.report_text.specs.Report.{session_line, input_line, leaves_line, count_line, steps_line, tail_lines}
@@ -25,6 +24,8 @@ use Rattle.report_text.specs.declared.parts.Ending.{Ending}
 use Rattle.report_text.specs.declared.parts.Ending.TheVariants.{Done, ReadFault, Limit, Fault}
 use Rattle.report_told.specs.Told.{Entry, Told, entry_line, told_text}
 use Rattle.report_told.specs.Rules.{IsHead, IsEntry, AreEntries, AreSessions, IsTail, IsInGrammar, IsEndingTold, IsFaultTold, IsAnyFaultTold, Rise, ended_packets, waiting_packets, packet_ended, packet_pending, times}
+use Rattle.report_told.proofs.TimesLemmas.{times-append}
+use Rattle.list_laws.proofs.Places.{All-left}
 use Rattle.report_lines.specs.declared.tails.Leaves.{Leaves}
 use Rattle.report_lines.specs.declared.tails.Counts.{Counts}
 use Rattle.report_lines.specs.declared.tails.Steps.{Steps}
@@ -40,21 +41,10 @@ Spelled s ls t bytes = Spells Next IsWholeState text_of line_at s ls t bytes
 
 -- Fronts of entries and of sessions that may stand so.
 
-all_front : {A : Type 0} (P : A → Type 0) (xs ys : List A) → All P (xs ++ ys) → All P xs
-all_front P [] ys all = λ k d inside. absurd (omega arith)
-all_front P (x ∷ xs) ys all = go (all_front P xs ys (λ k d inside. all (suc k) d (omega arith)))
-  where
-    go : All P xs → All P (x ∷ xs)
-    go later zero d inside = all 0 d (omega arith)
-    go later (suc k) d inside = later k d (omega arith)
-
 rise_front : (xs ys : List ℕ) → Rise (xs ++ ys) → Rise xs
 rise_front [] ys rise = tt
 rise_front (x ∷ []) ys rise = tt
 rise_front (x ∷ y ∷ xs) ys rise = (rise.0, rise_front (y ∷ xs) ys rise.1)
-
-pub times-append : (packet : ℕ) (xs ys : List ℕ) → times packet (xs ++ ys) ≡ times packet xs + times packet ys
-times-append packet xs ys = sum_by-append (λ other. cond (other == packet) 1 0) xs ys
 
 entries_front : (h : Head) (xs ys : List Entry) → AreEntries h (xs ++ ys) → AreEntries h xs
 entries_front h xs ys are =
@@ -63,7 +53,7 @@ entries_front h xs ys are =
     let ends : ended_packets (xs ++ ys) ≡ ended_packets xs ++ ended_packets ys =
     flat_map-append packet_ended xs ys in
     record {
-      each = all_front (IsEntry h) xs ys are.each;
+      each = All-left (IsEntry h) xs ys are.each;
       rise = rise_front (ended_packets xs) (ended_packets ys) (subst Rise ends are.rise);
       apart = λ packet some.
           (let more_waits : times packet (waiting_packets (xs ++ ys)) ≡ times packet (waiting_packets xs) + times
@@ -77,40 +67,35 @@ entries_front h xs ys are =
           omega (arith, more_waits, more_ends, once, some));
     }
 
-both_true : (a b : Bool) → (a && b) ≡ true → (a ≡ true) × (b ≡ true)
-both_true true b is = (refl, is)
-both_true false b is = absurd (true≢false (sym is))
-
-and_true : (a b : Bool) → a ≡ true → b ≡ true → (a && b) ≡ true
-and_true a b x y = rw (x, y) refl
-
 below_front : (key : Key) (xs ys : List Pair) → below_all key_cmp key (map entry_of (xs ++ ys)) ≡ true →
     below_all key_cmp key (map entry_of xs) ≡ true
 below_front key [] ys below = refl
 below_front key (x ∷ xs) ys below =
-    let parts = both_true (is_lt (key_cmp key x.key)) (below_all key_cmp key (map entry_of (xs ++ ys))) below in
-    and_true (is_lt (key_cmp key x.key)) (below_all key_cmp key (map entry_of xs)) parts.0
+    let parts = and_parts (is_lt (key_cmp key x.key)) (below_all key_cmp key (map entry_of (xs ++ ys))) below in
+    and_from (is_lt (key_cmp key x.key)) (below_all key_cmp key (map entry_of xs)) parts.0
     (below_front key xs ys parts.1)
 
 sorted_front : (xs ys : List Pair) → is_sorted key_cmp (map entry_of (xs ++ ys)) ≡ true →
     is_sorted key_cmp (map entry_of xs) ≡ true
 sorted_front [] ys sorted = refl
 sorted_front (x ∷ xs) ys sorted =
-    let parts = both_true (below_all key_cmp x.key (map entry_of (xs ++ ys)))
+    let parts = and_parts (below_all key_cmp x.key (map entry_of (xs ++ ys)))
     (is_sorted key_cmp (map entry_of (xs ++ ys))) sorted in
-    and_true (below_all key_cmp x.key (map entry_of xs)) (is_sorted key_cmp (map entry_of xs))
+    and_from (below_all key_cmp x.key (map entry_of xs)) (is_sorted key_cmp (map entry_of xs))
     (below_front x.key xs ys parts.0) (sorted_front xs ys parts.1)
 
-is_true : (b : Bool) → T b → b ≡ true
+-- a test that holds is `true`
+pub is_true : (b : Bool) → T b → b ≡ true
 is_true true t = refl
 is_true false t = absurd t
 
-true_is : (b : Bool) → b ≡ true → T b
+-- and one that is `true` holds
+pub true_is : (b : Bool) → b ≡ true → T b
 true_is b is = subst T (sym is) tt
 
 sessions_front : (xs ys : List Pair) → AreSessions (xs ++ ys) → AreSessions xs
 sessions_front xs ys are = record {
-  each = all_front (λ pair. IsFlow pair.key × (pair.value < 2 ^ 64) × (pair.bytes < 2 ^ 64)) xs ys are.each;
+  each = All-left (λ pair. IsFlow pair.key × (pair.value < 2 ^ 64) × (pair.bytes < 2 ^ 64)) xs ys are.each;
   ordered = true_is (is_sorted key_cmp (map entry_of xs))
       (sorted_front xs ys (is_true (is_sorted key_cmp (map entry_of (xs ++ ys))) are.ordered));
 }

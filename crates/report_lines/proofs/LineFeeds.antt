@@ -17,10 +17,10 @@ use Rattle.plain_map.specs.declared.full.FullKind.{FullKind}
 use Rattle.plain_map.specs.declared.full.FullKind.TheVariants.{OpRows, BucketRows, BucketWords, DirRows}
 use Rattle.plain_map.specs.declared.records.Seen.{Seen}
 use Rattle.plain_map.specs.Calls.{key_in}
-use Rattle.pcap_reader.specs.declared.fault.CaptureFault.{CaptureFault}
-use Rattle.pcap_reader.specs.declared.fault.CaptureFault.TheVariants.{ReadFault as NoRead, ShortHeader, Magic, Version, LinkType, RecordLength, Memory}
-use Rattle.pcapng_reader.specs.declared.fault.AnyFault.{AnyFault}
-use Rattle.pcapng_reader.specs.declared.fault.AnyFault.TheVariants.{Capture, ByteOrder, BlockLength, Trailer, SectionVersion, Interface, CapturedLength, Interfaces, Blocks}
+use Rattle.capture_faults.specs.declared.fault.CaptureFault.{CaptureFault}
+use Rattle.capture_faults.specs.declared.fault.CaptureFault.TheVariants.{ReadFault as NoRead, ShortHeader, Magic, Version, LinkType, RecordLength, Memory}
+use Rattle.capture_faults.specs.declared.any_fault.AnyFault.{AnyFault}
+use Rattle.capture_faults.specs.declared.any_fault.AnyFault.TheVariants.{Capture, ByteOrder, BlockLength, Trailer, SectionVersion, Interface, CapturedLength, Interfaces, Blocks}
 use Rattle.line_fields.proofs.Feeds.{HasNoFeed, no_feed-append}
 use Rattle.line_fields.proofs.Scan.{IsCut}
 use Rattle.flow_reading.specs.Flows.{IsFlow}

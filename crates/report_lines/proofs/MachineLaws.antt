@@ -20,8 +20,6 @@ use Rattle.report_told.specs.Told.{Entry, call, pending, order, call_line, waiti
 use Rattle.report_told.specs.Rules.{IsHead, IsAsked, IsEnd, IsEntry, IsReply, AreEntries, AreSessions, IsSettingsOf, part_of}
 use Rattle.report_told.specs.declared.told.Ended.{Ended}
 use Rattle.report_told.specs.declared.told.Ended.TheVariants.{Answered, Refused}
-use Rattle.report_told.specs.declared.told.CallLine.{CallLine}
-use Rattle.report_told.specs.declared.told.PendingLine.{PendingLine}
 use Rattle.report_lines.specs.declared.tails.Leaves.{Leaves}
 use Rattle.report_lines.specs.Lines.{head_at, call_at, pending_at, order_at, session_at, leaves_at, input_at, count_at, steps_at}
 use Rattle.report_lines.proofs.CallFields.{HasWord}
@@ -114,7 +112,8 @@ entry_fits h is (order packets) fits = record {
   small = recursion_from_All (λ packet. packet < 2 ^ 32) packets fits.2;
 }
 
-at_last : {A : Type 0} (P : A → Type 0) (xs : List A) (x : A) → All P (xs ++ x ∷ []) → P x
+-- what holds of all of a list holds of its last element
+pub at_last : {A : Type 0} (P : A → Type 0) (xs : List A) (x : A) → All P (xs ++ x ∷ []) → P x
 at_last P [] x all = all 0 x (omega arith)
 at_last P (y ∷ xs) x all = at_last P xs x (λ k d inside. all (suc k) d (omega arith))
 
@@ -160,15 +159,6 @@ pass_first {T} made o other is = ap (λ (x : Option (T × List ℕ)). first_of (
 tagged_is : {T : Type 0} (made : T → Line) (o : Option (T × List ℕ)) (value : T) (rest : List ℕ) →
     o ≡ Some (value, rest) → tagged made o ≡ Some (made value, rest)
 tagged_is {T} made o value rest is = ap (λ (x : Option (T × List ℕ)). tagged made x) is
-
--- what the readings of a body give
-abbrev BodyAt : Option (CallLine × List ℕ) → Option (PendingLine × List ℕ) → Option (List ℕ × List ℕ) →
-    Option (Pair × List ℕ) → Option (Leaves × List ℕ) → Option (Line × List ℕ)
-BodyAt c p o s l =
-    first_of (tagged (λ told. entry (call told)) c)
-    (first_of (tagged (λ told. entry (pending told)) p)
-    (first_of (tagged (λ packets. entry (order packets)) o)
-    (first_of (tagged (λ pair. session pair) s) (tagged (λ l. leaves l) l))))
 
 read_entry : (b : Body) → IsHead b.head → (e : Entry) (rest : List ℕ) → EntryFits b.head.seats e →
     line_at (body b) (entry_line b.head.seats e ++ rest) ≡ Some (entry e, rest)

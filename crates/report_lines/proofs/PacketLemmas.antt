@@ -1,5 +1,5 @@
 -- Packets of an order, read one behind the other.
-use Rattle.std.proofs.Common.{◌≡◌, ℕ, suc, ◌+◌, ◌-◌, ◌<◌, codes, List, [], ◌∷◌, ◌++◌, Option, Some, None, refl, sym, ap, ◌∙◌, append_assoc, append-nil, subst, arith}
+use Rattle.std.proofs.Common.{◌≡◌, ℕ, suc, ◌+◌, ◌-◌, ◌<◌, codes, List, [], ◌∷◌, ◌++◌, Option, Some, None, refl, sym, ap, ◌∙◌, append_assoc, subst, arith}
 use Rattle.line_fields.specs.Reading.{number_at, text_at}
 use Rattle.report_lines.specs.Fields.{most_32, packets_behind}
 use Rattle.report_lines.specs.Lines.{AddsOrder}
@@ -9,9 +9,6 @@ pub record HasPackets (many : ℕ) (before packets rest : List ℕ) (whole : Opt
   pub front : List ℕ
   pub are : packets ≡ before ++ front
   pub goes_on : packets_behind (16 - many) front rest ≡ whole
-
-pub packets_begin : (before bytes : List ℕ) → HasPackets 0 before before bytes (packets_behind 16 [] bytes)
-packets_begin before bytes = record { front = []; are = sym (append-nil before); goes_on = refl }
 
 one_packet : (many : ℕ) (front bytes rest left : List ℕ) (packet : ℕ) → text_at (codes " ") bytes ≡ Some rest →
     number_at most_32 rest ≡ Some (packet, left) →

@@ -55,7 +55,8 @@ no_entries h = record {
   apart = λ packet some. absurd (omega arith);
 }
 
-no_sessions : AreSessions []
+-- no pairs may stand as sessions
+pub no_sessions : AreSessions []
 no_sessions = record { each = λ k d inside. absurd (omega arith); ordered = tt }
 
 as_state : (s t : State) (front : List ℕ) → s ≡ t → Behind t front → Behind s front

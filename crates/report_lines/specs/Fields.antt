@@ -5,10 +5,10 @@ use Rattle.hash_bits.specs.declared.hashing.Hashing.{Hashing}
 use Rattle.hash_bits.specs.declared.hashing.Hashing.TheVariants.{Mix, Ports}
 use Rattle.trace_share.specs.declared.deals.Share.{Share}
 use Rattle.trace_share.specs.declared.deals.Share.TheVariants.{Round, Block, Flow}
-use Rattle.pcap_reader.specs.declared.fault.CaptureFault.{CaptureFault}
-use Rattle.pcap_reader.specs.declared.fault.CaptureFault.TheVariants.{ShortHeader, Magic, Version, LinkType, RecordLength}
-use Rattle.pcapng_reader.specs.declared.fault.AnyFault.{AnyFault}
-use Rattle.pcapng_reader.specs.declared.fault.AnyFault.TheVariants.{Capture, ByteOrder, BlockLength, Trailer, SectionVersion, Interface, CapturedLength, Interfaces, Blocks}
+use Rattle.capture_faults.specs.declared.fault.CaptureFault.{CaptureFault}
+use Rattle.capture_faults.specs.declared.fault.CaptureFault.TheVariants.{ShortHeader, Magic, Version, LinkType, RecordLength}
+use Rattle.capture_faults.specs.declared.any_fault.AnyFault.{AnyFault}
+use Rattle.capture_faults.specs.declared.any_fault.AnyFault.TheVariants.{Capture, ByteOrder, BlockLength, Trailer, SectionVersion, Interface, CapturedLength, Interfaces, Blocks}
 use Rattle.plain_map.specs.declared.keys.Key.{Key}
 use Rattle.plain_map.specs.declared.calls.Call.{Call}
 use Rattle.plain_map.specs.declared.calls.Call.TheVariants.{Insert, Remove, Lookup, Tally}

@@ -8,7 +8,7 @@ use Rattle.report_text.specs.declared.parts.Head.{Head}
 use Rattle.report_text.specs.declared.parts.Ending.{Ending}
 use Rattle.line_fields.specs.Reading.{◌>>=◌, number_at, text_at}
 use Rattle.flow_reading.specs.Flows.{flow_at}
-use Rattle.report_told.specs.Rules.{is_update}
+use Rattle.plain_map.specs.Calls.{is_update}
 use Rattle.report_told.specs.declared.told.Ended.{Ended}
 use Rattle.report_told.specs.declared.told.Ended.TheVariants.{Answered, Refused}
 use Rattle.report_told.specs.declared.told.CallLine.{CallLine}

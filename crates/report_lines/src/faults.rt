@@ -4,9 +4,8 @@ ghost use Rattle.std.specs.Prelude.{◌≡◌};
 ghost use Rattle.line_fields.specs.Reading.{Gives};
 ghost use Rattle.report_lines.specs.Fields.{capture_at, fault_at, four_at, order_bytes_at, packet_fault_at, place_at, section_at, version_at};
 
+use capture_faults::{AnyFault, CaptureFault};
 use line_fields::{hexadecimal, number, text};
-use pcap_reader::CaptureFault;
-use pcapng_reader::AnyFault;
 
 /// A fault of a savefile or of pcapng at the front, and the bytes behind it.
 #[tactic(auto, unfolding(crate::specs::Fields::fault_at))]

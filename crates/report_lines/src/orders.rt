@@ -39,7 +39,8 @@ pub fn order_line<'a>(
 // At most 16 packets, each behind a space.
 fn packets_of<'a>(bytes: &'a [u8], packets: &mut Vec<u32>) -> Result<Option<&'a [u8]>, AllocError>
     ensures { IfOk result (λ found.
-        AddsOrder (packets_behind 16 [] bytes.now) packets.old.items packets.new.items (option_map (λ x. x.now) found)) }
+        AddsOrder (packets_behind 16 [] bytes.now) packets.old.items packets.new.items
+        (option_map (λ x. x.now) found)) }
 {
     let mut rest = bytes;
     for _ in 0..16u32 {

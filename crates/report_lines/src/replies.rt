@@ -2,7 +2,7 @@
 
 ghost use Rattle.std.specs.Prelude.{◌≡◌};
 ghost use Rattle.line_fields.specs.Reading.{Gives};
-ghost use Rattle.report_told.specs.Rules.{is_update as is_update_call};
+ghost use Rattle.plain_map.specs.Calls.{is_update as is_update_call};
 ghost use Rattle.report_lines.specs.Fields.{kind_at, new_at, reply_at};
 
 use line_fields::{number, text};

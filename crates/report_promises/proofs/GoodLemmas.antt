@@ -17,7 +17,8 @@ use Rattle.trace_share.specs.Outcomes.{asked_in, record_in}
 use Rattle.report_text.specs.declared.parts.Head.{Head}
 use Rattle.report_text.specs.Report.{Report, report_of}
 use Rattle.report_told.specs.Told.{Told}
-use Rattle.report_told.specs.Rules.{AreSessions, IsInGrammar, is_update, times}
+use Rattle.report_told.specs.Rules.{AreSessions, IsInGrammar, times}
+use Rattle.plain_map.specs.Calls.{is_update}
 use Rattle.report_told.specs.Points.{IsRight, IsShortEnough, IsWhole, answered_packets, answers_of, calls_told, effect_packets, order_told, pending_told, placed_told, records_told, rules_told, standing}
 use Rattle.report_told.specs.Verdicts.{Certified}
 use Rattle.report_promises.specs.Good.{GoodIsCertified, HasBegun, HasEnded, IsFitting, IsGood, answered_on, begun_in, calls_ended, ended_in, packets_in}

@@ -13,18 +13,15 @@ use Rattle.trace_share.specs.declared.outcome.Outcome.{Outcome}
 use Rattle.trace_share.specs.Outcomes.{asked_in}
 use Rattle.report_text.specs.declared.parts.Head.{Head}
 use Rattle.report_text.specs.Report.{Batch, Report}
+use Rattle.report_text.proofs.OrderLemmas.{chunk_count_step}
 use Rattle.report_told.specs.Told.{call, pending, order}
 use Rattle.report_told.specs.Rules.{AreEntries, IsEntry, Rise, ended_packets, packet_ended, packet_pending, times, waiting_packets}
-use Rattle.report_told.specs.Points.{order_told, packets_in as packets_on}
+use Rattle.report_told.specs.Points.{order_told, packets_told}
 use Rattle.report_promises.specs.Good.{begun_in, calls_ended, ended_in, packets_in}
 use Rattle.report_promises.proofs.NumberLemmas.{none_made}
 use Rattle.report_promises.proofs.ToldOf.{always, both_parts, by_batch, by_kind, calls_in, chunks_in, entries_of, joined_all, line_of, map_joined, mapped, orders_in, packets_of, told_of, waiting_of, waits_in}
 
 -- ---- an order's lines
-
--- what is left behind 16 has one part less
-chunk_step : (n : ℕ) → 0 < n → chunk_count n 16 ≡ suc (chunk_count (n - 16) 16)
-chunk_step n some = omega arith
 
 -- parts of at most 16, none of which is empty, one behind the other are all
 record ArePartsOf (ids : List CallId) (parts : List (List CallId)) : Type 0 where
@@ -43,7 +40,7 @@ parts_of (suc fuel) (id ∷ ids) few =
     let first : length (take 16 all) ≡ min 16 (length all) = length-take 16 all in
     let step : chunks_in all ≡ take 16 all ∷ chunks_in (drop 16 all) =
     ap (λ (n : ℕ). first_chunks 16 n all)
-    (chunk_step (length all) (omega arith) ∙ ap (λ (n : ℕ). suc (chunk_count n 16)) (sym left)) in
+    (chunk_count_step (length all) (omega arith) ∙ ap (λ (n : ℕ). suc (chunk_count n 16)) (sym left)) in
     subst (ArePartsOf all) (sym step) (record {
       joined = ap (λ (xs : List CallId). take 16 all ++ xs) more.joined ∙ take-append-drop 16 all;
       some = ((omega (arith, first), omega (arith, first)), more.some);
@@ -55,7 +52,7 @@ parts_are ids = parts_of (length ids) ids (omega arith)
 
 -- the packets of an order's lines
 orders_joined : (parts : List (List CallId)) →
-    flat_map packets_on (map (λ ids. order (packets_of ids)) parts) ≡ packets_of (flat_map (λ part. part) parts)
+    flat_map packets_told (map (λ ids. order (packets_of ids)) parts) ≡ packets_of (flat_map (λ part. part) parts)
 orders_joined [] = refl
 orders_joined (part ∷ parts) =
     ap (λ ps. packets_of part ++ ps) (orders_joined parts)
@@ -63,21 +60,21 @@ orders_joined (part ∷ parts) =
 
 -- an order's packets
 order_in_batch : (seats : ℕ) (batch : Batch) →
-    flat_map packets_on (entries_of seats batch) ≡ packets_of batch.order
+    flat_map packets_told (entries_of seats batch) ≡ packets_of batch.order
 order_in_batch seats batch =
-    by_kind packets_on seats batch
-    ∙ ap (λ ps. ps ++ (flat_map packets_on (waits_in seats batch) ++ flat_map packets_on (orders_in batch)))
-    (none_made packets_on (λ (line : ℕ × Outcome). call (line_of seats line)) (λ line. refl) batch.outcomes)
-    ∙ ap (λ ps. ps ++ flat_map packets_on (orders_in batch))
-    (none_made packets_on (λ (u : Pending). pending (waiting_of seats u)) (λ u. refl) batch.pending)
+    by_kind packets_told seats batch
+    ∙ ap (λ ps. ps ++ (flat_map packets_told (waits_in seats batch) ++ flat_map packets_told (orders_in batch)))
+    (none_made packets_told (λ (line : ℕ × Outcome). call (line_of seats line)) (λ line. refl) batch.outcomes)
+    ∙ ap (λ ps. ps ++ flat_map packets_told (orders_in batch))
+    (none_made packets_told (λ (u : Pending). pending (waiting_of seats u)) (λ u. refl) batch.pending)
     ∙ orders_joined (chunks_in batch.order)
     ∙ ap packets_of (parts_are batch.order).joined
 
 -- the packets of all lines of orders are those of all orders
 pub order_is : (report : Report) → order_told (told_of report) ≡ packets_in report
 order_is report =
-    by_batch packets_on (λ batch. packets_of batch.order) report.head.seats report.batches
-    (always (λ batch. flat_map packets_on (entries_of report.head.seats batch) ≡ packets_of batch.order)
+    by_batch packets_told (λ batch. packets_of batch.order) report.head.seats report.batches
+    (always (λ batch. flat_map packets_told (entries_of report.head.seats batch) ≡ packets_of batch.order)
     (order_in_batch report.head.seats) report.batches)
     ∙ sym (map_joined (λ (id : CallId). id.packet) (λ (batch : Batch). batch.order) report.batches)
 

@@ -1,14 +1,12 @@
 -- What a right order answers and leaves: a new session's value is its packet's number, values and bytes fit, and keys
 -- have a text.
 use Rattle.std.proofs.Common.{◌≡◌, ℕ, ◌^◌, ◌<◌, Bool, true, false, cond, List, [], ◌∷◌, map, length, get_or, Option, Some, None, refl, sym, ap, ◌∙◌, subst, arith}
-use Rattle.std.specs.Prelude.{T}
 use Rattle.std.specs.List.{AllByRecursion}
 use Rattle.std.specs.Option.{option_map_or, unwrap_or}
 use Rattle.std.specs.Ordering.{eq_by_cmp}
 use Rattle.std.proofs.lemmas.List.{get_or_default}
 use Rattle.std.specs.FinMap as finite
-use Rattle.std.specs.FinMap.{entries-from_sorted, entries_sorted, get-empty, get-insert, get-remove, same_entries_map}
-use Rattle.std.specs.FinMap.Entries.{is_sorted}
+use Rattle.std.specs.FinMap.{entries-from_sorted, get-empty, get-insert, get-remove, same_entries_map}
 use Rattle.plain_map.specs.declared.keys.Key.{Key}
 use Rattle.plain_map.specs.declared.keys.Pair.{Pair}
 use Rattle.plain_map.specs.declared.rules.Rules.{Rules}
@@ -16,13 +14,12 @@ use Rattle.plain_map.specs.declared.calls.Call.{Call}
 use Rattle.plain_map.specs.declared.calls.Call.TheVariants.{Insert, Remove, Lookup, Tally}
 use Rattle.plain_map.specs.declared.calls.Reply.{Reply}
 use Rattle.plain_map.specs.declared.calls.Reply.TheVariants.{Absent}
-use Rattle.plain_map.specs.Keys.{Session, entry_of, held_in, key_cmp, pair_of}
+use Rattle.plain_map.specs.Keys.{Session, entry_of, held_in, key_cmp}
 use Rattle.plain_map.specs.PlainObject.{Sessions, found_in, gone_from, grown, has_room, insert_reply, inserted, map_after, new_session, pairs_of, reply_of, sum_of, tallied}
-use Rattle.plain_map.specs.Places.{IsInKeyOrder}
 use Rattle.plain_map.specs.Held.{sessions_of}
 use Rattle.plain_map.specs.History.{Placed, answered, pending, Legal, call_in, packet_of, sessions_after}
 use Rattle.plain_map.proofs.KeyLemmas.{keys_total, exact_keys, tied}
-use Rattle.plain_map.proofs.SessionLemmas.{held_at}
+use Rattle.plain_map.proofs.SessionLemmas.{held_at, pairs_are_ordered, entries_back}
 use Rattle.flow_keys.specs.Flow.{InsertsOnly}
 use Rattle.flow_reading.specs.Flows.{IsFlow}
 use Rattle.report_told.specs.Rules.{AreSessions, IsReply}
@@ -166,23 +163,11 @@ told_replies rules m (placed ∷ later) fits legal all =
 
 -- ---- the sessions
 
--- entries as pairs are those entries
-entries_back : (es : List (Key × Session)) → map entry_of (map pair_of es) ≡ es
-entries_back [] = refl
-entries_back (e ∷ es) = ap (λ rest. e ∷ rest) (entries_back es)
-
--- the pairs of sessions are in the order of their keys
-pub in_key_order : (m : Sessions) → IsInKeyOrder (pairs_of m)
-unfolding pairs_of
-in_key_order m =
-    subst (λ (es : List (Key × Session)). T (is_sorted key_cmp es)) (sym (entries_back (finite.entries m)))
-    (entries_sorted m)
-
 -- the pairs stand for the sessions
 sessions_back : (m : Sessions) → sessions_of (pairs_of m) ≡ m
 unfolding pairs_of sessions_of
 sessions_back m =
-    same_entries_map _ m (entries-from_sorted key_cmp (map entry_of (pairs_of m)) (in_key_order m)
+    same_entries_map _ m (entries-from_sorted key_cmp (map entry_of (pairs_of m)) (pairs_are_ordered m)
     ∙ entries_back (finite.entries m))
 
 -- sessions that can be told are those of a report
@@ -191,11 +176,11 @@ told_sessions m all = record {
   each = λ k d inside.
       (let pair : Pair = get_or (pairs_of m) k d in
       let good : IsTellable pair.key (held_in pair) =
-      all pair.key (held_in pair) (held_at (pairs_of m) (in_key_order m) m (sessions_back m) pair.key k
+      all pair.key (held_in pair) (held_at (pairs_of m) (pairs_are_ordered m) m (sessions_back m) pair.key k
       (record { in_range = inside; has_key = λ e. same_key k d e inside }) pair
       (get_or_default (pairs_of m) k d pair inside)) in
       (good.flow, good.value, good.bytes));
-  ordered = in_key_order m;
+  ordered = pairs_are_ordered m;
 }
   where
     same_key : (k : ℕ) (d e : Pair) → k < length (pairs_of m) →

@@ -1,5 +1,4 @@
 pub mod FlowLemmas
-pub mod SettingsLemmas
 pub mod PacketLemmas
 pub mod ToldOf
 pub mod TextLemmas

@@ -13,9 +13,9 @@ use Rattle.trace_share.specs.declared.outcome.Outcome.TheVariants.{Answered, Ref
 use Rattle.trace_share.specs.Outcomes.{record_in}
 use Rattle.report_text.specs.Report.{Batch, Report}
 use Rattle.report_told.specs.Told.{Entry, call, pending, order}
-use Rattle.report_told.specs.Points.{answers_of, is_answered_by, pending_in, pending_told, records_behind, records_told, record_in as told_in}
+use Rattle.report_told.specs.Points.{answers_of, is_answered_by, pending_in, pending_told, records_behind, records_told, record_told}
 use Rattle.report_promises.specs.Good.{AreCountedBySeat, answered_by, answered_on, begun_in, ended_in}
-use Rattle.report_promises.proofs.PacketLemmas.{one_if}
+use Rattle.report_told.proofs.TimesLemmas.{one_if}
 use Rattle.report_promises.proofs.ToldOf.{always, begun, both_parts, by_batch, by_kind, calls_in, chunks_in, entries_of, joined_all, line_of, map_joined, mapped, orders_in, packets_of, plain, told_of, waiting_of, waits_in}
 
 -- calls of a seat that are answered on two lists of lines
@@ -27,10 +27,10 @@ records-append : (before es fs : List Entry) →
     records_behind before (es ++ fs) ≡ records_behind before es ++ records_behind (before ++ es) fs
 records-append before [] fs = ap (λ (b : List Entry). records_behind b fs) (sym (append-nil before))
 records-append before (e ∷ es) fs =
-    ap (λ (rs : List Record). told_in before e ++ rs) (records-append (before ++ e ∷ []) es fs)
-    ∙ sym (append_assoc (told_in before e) (records_behind (before ++ e ∷ []) es)
+    ap (λ (rs : List Record). record_told before e ++ rs) (records-append (before ++ e ∷ []) es fs)
+    ∙ sym (append_assoc (record_told before e) (records_behind (before ++ e ∷ []) es)
     (records_behind ((before ++ e ∷ []) ++ es) fs))
-    ∙ ap (λ (b : List Entry). (told_in before e ++ records_behind (before ++ e ∷ []) es) ++ records_behind b fs)
+    ∙ ap (λ (b : List Entry). (record_told before e ++ records_behind (before ++ e ∷ []) es) ++ records_behind b fs)
     (append_assoc before (e ∷ []) es)
 
 -- Lines that answer no call.
@@ -64,7 +64,7 @@ abbrev Alike : List Entry → List (ℕ × Outcome) → Type 0
 Alike before front = (seat : ℕ) → answers_of seat before ≡ length (answered_by seat front)
 
 -- a seat's answered calls on two lists of lines
-answered_by-append : (seat : ℕ) (xs ys : List (ℕ × Outcome)) →
+pub answered_by-append : (seat : ℕ) (xs ys : List (ℕ × Outcome)) →
     answered_by seat (xs ++ ys) ≡ answered_by seat xs ++ answered_by seat ys
 answered_by-append seat xs ys =
     flat_map-append (λ (line : ℕ × Outcome). cond (line.0 == seat) (record_in line.1) []) xs ys
@@ -106,7 +106,7 @@ module _ (seats : ℕ) (whole : List (ℕ × Outcome)) (counted : AreCountedBySe
   -- the call of a line is told as it is
   one_told : (before : List Entry) (front rest : List (ℕ × Outcome)) (line : ℕ × Outcome) →
       whole ≡ front ++ line ∷ rest → Alike before front →
-      told_in before (call (line_of seats line)) ≡ map (plain seats) (record_in line.1)
+      record_told before (call (line_of seats line)) ≡ map (plain seats) (record_in line.1)
   one_told before front rest (seat, Answered r) cut alike =
       let is = counted seat (answered_by seat front) (answered_by seat rest) r
       (ap (answered_by seat) cut ∙ answered_here seat r front rest) in

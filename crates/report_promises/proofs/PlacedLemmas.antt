@@ -12,7 +12,9 @@ use Rattle.plain_map.specs.declared.records.Pending.{Pending}
 use Rattle.plain_map.specs.PlainObject.{Sessions, map_after}
 use Rattle.plain_map.specs.History.{Placed, answered, pending as waiting, After, IsAfter, Legal, Stands, Whole, number_of, packet_of, seat_of, seen_of, sessions_after}
 use Rattle.report_told.specs.Rules.{times}
-use Rattle.report_promises.proofs.PacketLemmas.{filter_one}
+use Rattle.report_told.proofs.TimesLemmas.{filter_one}
+use Rattle.trace_share.proofs.CutLemmas.{heads, tails}
+use Rattle.list_laws.proofs.Cuts.{zero_at}
 use Rattle.report_promises.proofs.ToldOf.{begun, placed_as, plain}
 
 -- ---- each call of the order is the one call of its packet
@@ -133,14 +135,6 @@ record IsCutSo (seats : ℕ) (order before later : List Placed) (placed : Placed
   before_is : before ≡ map (placed_as seats) own_before
   placed_is : placed ≡ placed_as seats own
 
--- equal lists begin alike
-first_same : {A : Type 0} (x y : A) (xs ys : List A) → x ∷ xs ≡ y ∷ ys → x ≡ y
-first_same x y xs ys is = cc
-
--- and go on alike
-rest_same : {A : Type 0} (x y : A) (xs ys : List A) → x ∷ xs ≡ y ∷ ys → xs ≡ ys
-rest_same x y xs ys is = cc
-
 -- each cut of the mapped list is one of the list
 cut_so : (seats : ℕ) (order before later : List Placed) (placed : Placed) →
     map (placed_as seats) order ≡ before ++ placed ∷ later → IsCutSo seats order before later placed
@@ -152,11 +146,11 @@ cut_so seats (p ∷ order) [] later placed is = record {
   own_later = order;
   cut = refl;
   before_is = refl;
-  placed_is = sym (first_same (placed_as seats p) placed (map (placed_as seats) order) later is);
+  placed_is = sym (heads (placed_as seats p) placed (map (placed_as seats) order) later is);
 }
 cut_so seats (p ∷ order) (b ∷ before) later placed is =
     let next = cut_so seats order before later placed
-    (rest_same (placed_as seats p) b (map (placed_as seats) order) (before ++ placed ∷ later) is) in
+    (tails (placed_as seats p) b (map (placed_as seats) order) (before ++ placed ∷ later) is) in
     record {
       own_before = p ∷ next.own_before;
       own = next.own;
@@ -164,22 +158,16 @@ cut_so seats (p ∷ order) (b ∷ before) later placed is =
       cut = ap (λ ps. p ∷ ps) next.cut;
       before_is =
           ap (λ (q : Placed). q ∷ before)
-          (sym (first_same (placed_as seats p) b (map (placed_as seats) order) (before ++ placed ∷ later) is))
+          (sym (heads (placed_as seats p) b (map (placed_as seats) order) (before ++ placed ∷ later) is))
           ∙ ap (λ ps. placed_as seats p ∷ ps) next.before_is;
       placed_is = next.placed_is;
     }
 
--- counts of 0
-no_count : (n i : ℕ) → slice_index (replicate n 0) i ≡ 0
-no_count zero i = refl
-no_count (suc n) zero = refl
-no_count (suc n) (suc i) = no_count n i
-
 -- no more is told to have been seen
 count_trimmed : (seats others : ℕ) (counts : List ℕ) (seat : ℕ) →
     slice_index (take seats counts ++ replicate others 0) seat ≤ slice_index counts seat
-count_trimmed zero others counts seat = omega (arith, no_count others seat)
-count_trimmed (suc seats) others [] seat = omega (arith, no_count others seat)
+count_trimmed zero others counts seat = omega (arith, zero_at others seat)
+count_trimmed (suc seats) others [] seat = omega (arith, zero_at others seat)
 count_trimmed (suc seats) others (n ∷ counts) zero = omega arith
 count_trimmed (suc seats) others (n ∷ counts) (suc seat) = count_trimmed seats others counts seat
 

@@ -8,9 +8,11 @@ use Rattle.plain_map.specs.declared.records.Pending.{Pending}
 use Rattle.plain_map.specs.History.{Placed, answered, pending as waiting, Whole, packet_of}
 use Rattle.trace_share.specs.declared.outcome.Outcome.{Outcome}
 use Rattle.trace_share.specs.declared.outcome.Outcome.TheVariants.{Answered, Refused}
-use Rattle.report_told.specs.Rules.{Rise, is_update, times}
+use Rattle.report_told.specs.Rules.{Rise, times}
+use Rattle.plain_map.specs.Calls.{is_update}
+use Rattle.report_told.proofs.TimesLemmas.{filter_within, times-permuted, times-append, times-cons}
 use Rattle.report_promises.specs.Good.{answered_on, calls_ended}
-use Rattle.report_promises.proofs.PacketLemmas.{filter_fewer, filter_within, rise_once, times-append, times-cons, times-permuted}
+use Rattle.report_promises.proofs.PacketLemmas.{filter_fewer, rise_once}
 use Rattle.report_promises.proofs.PlacedLemmas.{calls_of}
 use Rattle.report_promises.proofs.ToldOf.{begun, plain}
 

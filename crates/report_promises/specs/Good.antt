@@ -4,7 +4,7 @@ use Rattle.std.specs.FinMap.{empty}
 use Rattle.plain_map.specs.declared.calls.Call.{Call}
 use Rattle.plain_map.specs.declared.records.Record.{Record}
 use Rattle.plain_map.specs.declared.records.Pending.{Pending}
-use Rattle.plain_map.specs.Calls.{key_in}
+use Rattle.plain_map.specs.Calls.{key_in, is_update}
 use Rattle.plain_map.specs.PlainObject.{pairs_of}
 use Rattle.plain_map.specs.History.{Placed, packet_of, After, Legal, Whole, sessions_after}
 use Rattle.flow_keys.specs.Flow.{InsertsOnly}
@@ -14,7 +14,7 @@ use Rattle.trace_share.specs.declared.outcome.Outcome.TheVariants.{Answered, Ref
 use Rattle.trace_share.specs.Outcomes.{asked_in, record_in}
 use Rattle.report_text.specs.declared.parts.Head.{Head}
 use Rattle.report_text.specs.Report.{Report, report_of}
-use Rattle.report_told.specs.Rules.{IsHead, IsTail, IsShort, Rise, amount_in, is_update, times}
+use Rattle.report_told.specs.Rules.{IsHead, IsTail, IsShort, Rise, amount_in, times}
 use Rattle.report_told.specs.Points.{IsShortEnough, rules_told}
 use Rattle.report_told.specs.Verdicts.{Certified}
 

@@ -6,9 +6,8 @@ ghost use Rattle.step_counts.specs.StepCounts.{step_bound};
 ghost use Rattle.report_text.specs.Report.{IsCaptureFault, IsEnding, IsFormatFault};
 ghost use Rattle.report_told.specs.Rules.{IsAnyFaultTold, IsEndingTold, IsFaultTold, IsHead, IsTail, seed_in};
 
+use capture_faults::{AnyFault, CaptureFault};
 use hash_bits::Hashing;
-use pcap_reader::CaptureFault;
-use pcapng_reader::AnyFault;
 use report_text::{Ending, Head, Tail};
 use step_counts::Settings;
 

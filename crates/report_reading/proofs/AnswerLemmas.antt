@@ -12,7 +12,7 @@ use Rattle.report_told.specs.Told.{Entry, call}
 use Rattle.report_told.specs.declared.told.Ended.{Ended}
 use Rattle.report_told.specs.declared.told.Ended.TheVariants.{Answered}
 use Rattle.report_told.specs.declared.told.CallLine.{CallLine}
-use Rattle.report_told.specs.Points.{is_answer_of, is_answered_by, answers_of, record_of, record_in, records_behind}
+use Rattle.report_told.specs.Points.{is_answer_of, is_answered_by, answers_of, record_of, record_told, records_behind}
 use Rattle.report_reading.specs.declared.answers.Answers.{Answers}
 use Rattle.report_reading.specs.Answers.{AreAnswers}
 
@@ -27,14 +27,14 @@ pub few_answers : (seat : ℕ) (es : List Entry) → answers_of seat es ≤ leng
 few_answers seat es = count_by-le-length (is_answered_by seat) es
 
 pub records-push : (before es : List Entry) (e : Entry) →
-    records_behind before (es ++ e ∷ []) ≡ records_behind before es ++ record_in (before ++ es) e
+    records_behind before (es ++ e ∷ []) ≡ records_behind before es ++ record_told (before ++ es) e
 records-push before [] e =
-    append-nil (record_in before e) ∙ ap (λ (b : List Entry). record_in b e) (sym (append-nil before))
+    append-nil (record_told before e) ∙ ap (λ (b : List Entry). record_told b e) (sym (append-nil before))
 records-push before (x ∷ es) e =
-    ap (λ (rs : List Record). record_in before x ++ rs) (records-push (before ++ x ∷ []) es e)
-    ∙ sym (append_assoc (record_in before x) (records_behind (before ++ x ∷ []) es)
-    (record_in ((before ++ x ∷ []) ++ es) e))
-    ∙ ap (λ (b : List Entry). (record_in before x ++ records_behind (before ++ x ∷ []) es) ++ record_in b e)
+    ap (λ (rs : List Record). record_told before x ++ rs) (records-push (before ++ x ∷ []) es e)
+    ∙ sym (append_assoc (record_told before x) (records_behind (before ++ x ∷ []) es)
+    (record_told ((before ++ x ∷ []) ++ es) e))
+    ∙ ap (λ (b : List Entry). (record_told before x ++ records_behind (before ++ x ∷ []) es) ++ record_told b e)
     (append_assoc before (x ∷ []) es)
 
 answer_counts : (other : ℕ) (es : List Entry) (told : CallLine) (reply : Reply) (steps : ℕ) (seen : Seen) →

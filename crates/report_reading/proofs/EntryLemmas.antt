@@ -1,9 +1,8 @@
 -- Which entry may stand behind others, and what is then taken in.
-use Rattle.std.proofs.Common.{◌≡◌, inl, inr, ℕ, zero, suc, ◌+◌, ◌^◌, ◌<◌, ◌==◌, ◌&&◌, nat_lt, Bool, true, false, List, [], ◌∷◌, ◌++◌, refl, sym, ap, ◌∙◌, append-nil, subst, arith}
-use Rattle.std.specs.Prelude.{All}
+use Rattle.std.proofs.Common.{◌≡◌, inl, inr, ℕ, zero, suc, ◌+◌, ◌^◌, ◌<◌, ◌==◌, ◌&&◌, nat_lt, Bool, true, List, [], ◌∷◌, ◌++◌, refl, sym, ap, ◌∙◌, append-nil, subst, arith}
 use Rattle.std.proofs.lemmas.List.Elements.{All-push, All-from_recursion}
 use Rattle.std.proofs.lemmas.List.Concat.{flat_map-append}
-use Rattle.std.proofs.lemmas.Bool.{eqb-true, eq-eqb, ltb-true, lt-ltb, true≢false, cases_eq}
+use Rattle.std.proofs.lemmas.Bool.{eqb-true, eq-eqb, ltb-true, lt-ltb, cases_eq, and_parts}
 use Rattle.step_counts.specs.declared.settings.Settings.{Settings}
 use Rattle.step_counts.specs.declared.rows.SeatRows.{SeatRows}
 use Rattle.step_counts.specs.StepCounts.{need_of}
@@ -18,16 +17,12 @@ use Rattle.report_told.specs.Rules.{IsHead, IsAsked, IsEnd, IsEntry, IsReply, Is
 use Rattle.report_told.specs.declared.told.Ended.TheVariants.{Answered, Refused}
 use Rattle.report_told.specs.declared.told.CallLine.{CallLine}
 use Rattle.report_told.specs.declared.told.PendingLine.{PendingLine}
+use Rattle.report_told.proofs.TimesLemmas.{times-append, times-other, times-same}
 use Rattle.report_lines.proofs.CallFields.{HasWord}
 use Rattle.report_lines.proofs.CallLines.{AskedFits, EndedFits}
 use Rattle.report_lines.proofs.EntryLines.{CallFits, PendingFits, OrderFits, asked_of}
-use Rattle.report_lines.proofs.MachineLaws.{settings_of, settings_are}
+use Rattle.report_lines.proofs.MachineLaws.{settings_of, settings_are, at_last}
 use Rattle.report_reading.specs.Packets.{AllBelow, CanEnd, CanWait}
-use Rattle.report_reading.proofs.PacketLemmas.{times-append, times-same, times-other}
-
-at_last : {A : Type 0} (P : A → Type 0) (xs : List A) (x : A) → All P (xs ++ x ∷ []) → P x
-at_last P [] x all = all 0 x (omega arith)
-at_last P (y ∷ xs) x all = at_last P xs x (λ k d inside. all (suc k) d (omega arith))
 
 -- the packets of entries, one entry more
 pub ended-push : (es : List Entry) (e : Entry) → ended_packets (es ++ e ∷ []) ≡ ended_packets es ++ packet_ended e
@@ -50,7 +45,7 @@ rise_below (x ∷ y ∷ xs) packet rise =
     (omega (arith, rise.0, later.0), later)
 
 once-own : (packet : ℕ) → times packet (packet ∷ []) ≡ 1
-once-own packet = times-same packet []
+once-own packet = times-same packet packet [] refl
 
 pub can_end : (h : Head) (es : List Entry) (told : CallLine) → AreEntries h (es ++ call told ∷ []) →
     CanEnd (ended_packets es) (waiting_packets es) told.packet
@@ -144,10 +139,6 @@ answered_entry h told reply steps seen fits ends =
       subst (IsEnd h told.call) (sym ends) (reply_is reply ended.0, omega (arith, ended.1), ended.2.0),
     )
 
-both_true : (a b : Bool) → (a && b) ≡ true → (a ≡ true) × (b ≡ true)
-both_true true b is = (refl, is)
-both_true false b is = absurd (true≢false (sym is))
-
 same_need : (s t : Settings) → s.seats ≡ t.seats → s.depth ≡ t.depth → need_of s ≡ need_of t
 same_need s t seats depth = rw (seats, depth) refl
 
@@ -156,7 +147,7 @@ pub refused_entry : (h : Head) (rows : SeatRows) (told : CallLine) (full : Full)
     short_test rows full ≡ true → IsEntry h (call told)
 refused_entry h rows told full need fits ends test =
     let ended : EndedFits h.seats told.call (Refused full) = subst (EndedFits h.seats told.call) ends fits.ended in
-    let parts = both_true (full.need == part_of rows full.what) (nat_lt full.left full.need) test in (
+    let parts = and_parts (full.need == part_of rows full.what) (nat_lt full.left full.need) test in (
       asked_is h told.packet told.seat told.call fits.asked,
       subst (IsEnd h told.call) (sym ends) (record {
         update = ended.update;

@@ -8,7 +8,7 @@ use Rattle.plain_map.specs.declared.full.Full.{Full}
 use Rattle.report_text.specs.declared.parts.Head.{Head}
 use Rattle.report_told.specs.Told.{Entry, call, pending, order}
 use Rattle.report_told.specs.Rules.{IsHead, IsEntry, ended_packets, waiting_packets}
-use Rattle.report_told.specs.Points.{packets_in, records_behind, record_in, record_of, is_answered_by, is_answer_of, answers_of}
+use Rattle.report_told.specs.Points.{packets_told, records_behind, record_told, record_of, is_answered_by, is_answer_of, answers_of}
 use Rattle.report_told.specs.declared.told.Ended.{Ended}
 use Rattle.report_told.specs.declared.told.Ended.TheVariants.{Refused}
 use Rattle.report_told.specs.declared.told.CallLine.{CallLine}
@@ -56,7 +56,7 @@ low_seat h is told fits = omega (arith, fits.asked.seat, is.settings.seats_in_ra
 
 -- No answered call more.
 
-pub answers_same : (kept : Answers) (es : List Entry) (e : Entry) → AreAnswers kept es → record_in es e ≡ [] →
+pub answers_same : (kept : Answers) (es : List Entry) (e : Entry) → AreAnswers kept es → record_told es e ≡ [] →
     ((seat : ℕ) → is_answered_by seat e ≡ false) → AreAnswers kept (es ++ e ∷ [])
 answers_same kept es e are none never = record {
   calls =
@@ -109,7 +109,7 @@ call_taken kept made h es told holds own can packets answers heads needs pending
       packets);
   answers = answers;
   pending = more_same unnumbered es (call told) kept.pending.items made.pending.items refl holds.pending pendings;
-  order = more_same packets_in es (call told) kept.order.items made.order.items refl holds.order orders;
+  order = more_same packets_told es (call told) kept.order.items made.order.items refl holds.order orders;
 }
 
 pub pending_taken : (kept made : Entries) (h : Head) (es : List Entry) (told : PendingLine) → Holds kept h es →
@@ -131,7 +131,7 @@ pending_taken kept made h es told holds own can packets same heads needs pending
   answers = subst (λ (a : Answers). AreAnswers a (es ++ pending told ∷ [])) (sym same)
       (answers_same kept.answers es (pending told) holds.answers refl (λ seat. refl));
   pending = more_items unnumbered es (pending told) kept.pending.items made.pending.items holds.pending pendings;
-  order = more_same packets_in es (pending told) kept.order.items made.order.items refl holds.order orders;
+  order = more_same packets_told es (pending told) kept.order.items made.order.items refl holds.order orders;
 }
 
 pub order_taken : (kept made : Entries) (h : Head) (es : List Entry) (packets : List ℕ) → Holds kept h es →
@@ -153,7 +153,7 @@ order_taken kept made h es packets holds fits same answers heads needs pendings 
   answers = subst (λ (a : Answers). AreAnswers a (es ++ order packets ∷ [])) (sym answers)
       (answers_same kept.answers es (order packets) holds.answers refl (λ seat. refl));
   pending = more_same unnumbered es (order packets) kept.pending.items made.pending.items refl holds.pending pendings;
-  order = more_items packets_in es (order packets) kept.order.items made.order.items holds.order orders;
+  order = more_items packets_told es (order packets) kept.order.items made.order.items holds.order orders;
 }
 
 -- an order, as its line was read

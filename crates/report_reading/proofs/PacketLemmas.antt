@@ -1,32 +1,13 @@
 -- Packets that rise, and how often one stands among them.
-use Rattle.std.proofs.Common.{◌≡◌, ◌⊎◌, inl, inr, ℕ, zero, suc, ◌+◌, ◌-◌, ◌<◌, ◌≤◌, ◌==◌, nat_le, Bool, true, false, cond, List, [], ◌∷◌, ◌++◌, length, get_or, Option, refl, sym, ap, ◌∙◌, subst, arith}
+use Rattle.std.proofs.Common.{◌≡◌, inl, inr, ℕ, zero, suc, ◌+◌, ◌-◌, ◌<◌, ◌≤◌, nat_le, true, false, List, [], ◌∷◌, ◌++◌, length, get_or, Option, refl, sym, ap, ◌∙◌, arith}
 use Rattle.std.specs.Prelude.{slice_get}
 use Rattle.std.specs.Ordering.{nat_cmp}
 use Rattle.std.specs.BTreeSet.{contains}
-use Rattle.std.proofs.lemmas.List.Sums.{sum_by-cons, sum_by-append}
-use Rattle.std.proofs.lemmas.Bool.{ltb-true, eq-eqb, ne_eqb}
+use Rattle.std.proofs.lemmas.Bool.{ltb-true, cases_lt}
 use Rattle.report_told.specs.Rules.{Rise, times}
+use Rattle.report_told.proofs.TimesLemmas.{times-other, times-same, times-cons}
 use Rattle.report_reading.specs.declared.packets.Packets.{Packets}
 use Rattle.report_reading.specs.Packets.{AllBelow, ArePackets, CanEnd, is_above}
-
-abbrev one_if : Bool → ℕ
-one_if b = cond b 1 0
-
-pub times-cons : (packet x : ℕ) (xs : List ℕ) → times packet (x ∷ xs) ≡ one_if (x == packet) + times packet xs
-times-cons packet x xs = sum_by-cons (λ other. cond (other == packet) 1 0) x xs
-
-pub times-same : (packet : ℕ) (xs : List ℕ) → times packet (packet ∷ xs) ≡ suc (times packet xs)
-times-same packet xs =
-    let same : one_if (packet == packet) ≡ 1 = ap one_if (eq-eqb packet packet refl) in
-    omega (arith, times-cons packet packet xs, same)
-
-pub times-other : (packet x : ℕ) (xs : List ℕ) → (x ≡ packet → ⊥) → times packet (x ∷ xs) ≡ times packet xs
-times-other packet x xs other =
-    let none : one_if (x == packet) ≡ 0 = ap one_if (ne_eqb x packet other) in
-    omega (arith, times-cons packet x xs, none)
-
-pub times-append : (packet : ℕ) (xs ys : List ℕ) → times packet (xs ++ ys) ≡ times packet xs + times packet ys
-times-append packet xs ys = sum_by-append (λ other. cond (other == packet) 1 0) xs ys
 
 -- where it is none of them
 pub never_stands : (packet : ℕ) (xs : List ℕ) → ((k : ℕ) → k < length xs → get_or xs k 0 ≡ packet → ⊥) →
@@ -40,7 +21,7 @@ never_stands packet (x ∷ xs) none =
 pub stands_at : (packet : ℕ) (xs : List ℕ) (k : ℕ) → k < length xs → get_or xs k 0 ≡ packet → 1 ≤ times packet xs
 stands_at packet [] k inside is = absurd (omega arith)
 stands_at packet (x ∷ xs) zero inside is =
-    omega (arith, subst (λ (p : ℕ). times p (x ∷ xs) ≡ suc (times p xs)) is (times-same x xs))
+    omega (arith, times-same packet x xs is)
 stands_at packet (x ∷ xs) (suc k) inside is =
     let later : 1 ≤ times packet xs = stands_at packet xs k (omega arith) is in
     omega (arith, times-cons packet x xs)
@@ -67,13 +48,6 @@ above_all (x ∷ y ∷ xs) packet rise above =
     let least : y < packet = later.0.0 in
     ((omega (arith, rise.0), later.0), (rise.0, later.1))
 
--- one that is above all is above the last
-pub above_last : (xs : List ℕ) (packet : ℕ) → AllBelow xs packet → is_above (slice_get xs (length xs - 1)) packet ≡ true
-above_last [] packet all = refl
-above_last (x ∷ []) packet all = grind (arith, all.0)
-above_last (x ∷ y ∷ xs) packet all =
-    ap (λ (o : Option ℕ). is_above o packet) (last_cons x y xs) ∙ above_last (y ∷ xs) packet all.1
-
 -- they do not fall
 first_least : (x : ℕ) (xs : List ℕ) → Rise (x ∷ xs) → (k : ℕ) → k < length (x ∷ xs) → x ≤ get_or (x ∷ xs) k 0
 first_least x xs rise zero inside = omega arith
@@ -87,12 +61,6 @@ rise_on (x ∷ xs) rise zero j before inside = first_least x xs rise j inside
 rise_on (x ∷ xs) rise (suc i) zero before inside = absurd (omega arith)
 rise_on (x ∷ []) rise (suc i) (suc j) before inside = absurd (omega arith)
 rise_on (x ∷ y ∷ xs) rise (suc i) (suc j) before inside = rise_on (y ∷ xs) rise.1 i j (omega arith) (omega arith)
-
--- one that is above all stands nowhere among them
-pub below_never : (xs : List ℕ) (packet : ℕ) → AllBelow xs packet → times packet xs ≡ 0
-below_never [] packet all = refl
-below_never (x ∷ xs) packet all =
-    times-other packet x xs (λ same. absurd (omega (arith, all.0))) ∙ below_never xs packet all.1
 
 -- with one that ended more
 pub ended_more : (kept made : Packets) (ended waits : List ℕ) (packet : ℕ) → ArePackets kept ended waits →
@@ -112,9 +80,6 @@ ended_more kept made ended waits packet are above none more same =
       },
     )
 
-le_or_lt : (i k : ℕ) → (i ≤ k) ⊎ (k < i)
-le_or_lt i k = grind arith
-
 -- a search that found the place between lesser and greater ones did not find it
 pub not_found : (packet : ℕ) (xs : List ℕ) (i : ℕ) →
     (i ≤ length xs) × ((k : ℕ) → k < i → get_or xs k 0 < packet)
@@ -125,7 +90,7 @@ not_found packet xs i (within, less, greater) =
     sym (ap (λ (n : ℕ). nat_le 1 n) none)
   where
     at : (k : ℕ) → k < length xs → get_or xs k 0 ≡ packet → ⊥
-    at k inside same = elim (le_or_lt i k) [
-      | inl after ↦ omega (arith, greater k after inside, same)
-      | inr before ↦ omega (arith, less k before, same)
+    at k inside same = elim (cases_lt k i) [
+      | inr after ↦ omega (arith, greater k after inside, same)
+      | inl before ↦ omega (arith, less k before, same)
     ]

@@ -2,7 +2,7 @@
 use Rattle.std.proofs.Common.{◌≡◌, ℕ, List, [], Some, None, refl, sym, ap, ◌∙◌}
 use Rattle.std.proofs.lemmas.Option.{none-some}
 use Rattle.step_counts.specs.declared.settings.Settings.{Settings}
-use Rattle.step_counts.specs.StepCounts.{need_of, step_bound}
+use Rattle.step_counts.specs.StepCounts.{need_of}
 use Rattle.report_text.specs.declared.parts.Head.{Head}
 use Rattle.report_told.specs.Rules.{IsHead, IsSettingsOf}
 use Rattle.report_told.specs.Verdicts.{IsBadLine}
@@ -17,13 +17,6 @@ same_need h s t a b =
     let seats : s.seats ≡ t.seats = a.seats_are ∙ sym b.seats_are in
     let depth : s.depth ≡ t.depth = a.depth_is ∙ sym b.depth_is in
     rw (seats, depth) refl
-
-pub same_bound : (h : Head) (s t : Settings) → IsSettingsOf h s → IsSettingsOf h t → step_bound s ≡ step_bound t
-same_bound h s t a b =
-    let seats : s.seats ≡ t.seats = a.seats_are ∙ sym b.seats_are in
-    let items : s.items ≡ t.items = a.items_are ∙ sym b.items_are in
-    let depth : s.depth ≡ t.depth = a.depth_is ∙ sym b.depth_is in
-    rw (seats, items, depth) refl
 
 at_start : (text : List ℕ) → At text start text 0
 at_start text = record { front = []; ls = []; cut = refl; spelled = (refl, refl); many = refl }

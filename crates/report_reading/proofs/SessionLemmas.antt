@@ -1,13 +1,13 @@
 -- Sessions, one after the other.
 use Rattle.std.proofs.Common.{◌≡◌, ℕ, suc, ◌+◌, ◌-◌, ◌^◌, ◌<◌, ◌≤◌, ◌&&◌, Bool, true, false, List, [], ◌∷◌, ◌++◌, length, length-append, Option, Some, refl, sym, ap, ◌∙◌, subst, arith}
-use Rattle.std.specs.Prelude.{slice_get, map, T}
+use Rattle.std.specs.Prelude.{slice_get, map}
 use Rattle.std.specs.Ordering.{is_lt}
 use Rattle.std.specs.declared.cmp.Ordering.{Ordering}
 use Rattle.std.specs.declared.cmp.Ordering.TheVariants.{Less, Equal, Greater}
 use Rattle.std.specs.FinMap.{is_sorted}
 use Rattle.std.specs.FinMap.Entries.{below_all}
 use Rattle.std.proofs.lemmas.Option.{some_pair_parts}
-use Rattle.std.proofs.lemmas.Bool.{true≢false}
+use Rattle.std.proofs.lemmas.Bool.{true≢false, and_parts, and_from}
 use Rattle.std.proofs.lemmas.List.Elements.{All-push}
 use Rattle.plain_map.specs.declared.keys.Key.{Key}
 use Rattle.plain_map.specs.declared.keys.Pair.{Pair}
@@ -22,17 +22,13 @@ use Rattle.report_lines.specs.Lines.{session_at}
 use Rattle.report_lines.proofs.TailLines.{SessionFits, session_is_line}
 use Rattle.report_lines.proofs.Machine.{head, entry, session, leaves, input, count, steps, Body, State, body, Next, with_entry}
 use Rattle.report_lines.proofs.MachineLaws.{last_session_fits, session_starts, leaves_starts}
+use Rattle.report_lines.proofs.Grammar.{is_true, true_is}
+use Rattle.report_lines.proofs.Reports.{no_sessions}
 use Rattle.report_reading.specs.Steps.{At, NoneFollows, NoEntry, with_pairs, key_follows}
 use Rattle.report_reading.proofs.PlaceLemmas.{at_next, at_within, line_bad}
+use Rattle.report_reading.proofs.StepLemmas.{same_first}
 
 -- Keys that rise.
-
-both_true : (a b : Bool) → (a && b) ≡ true → (a ≡ true) × (b ≡ true)
-both_true true b is = (refl, is)
-both_true false b is = absurd (true≢false (sym is))
-
-and_true : (a b : Bool) → a ≡ true → b ≡ true → (a && b) ≡ true
-and_true a b x y = rw (x, y) refl
 
 abbrev below : Key → List Pair → Bool
 below key pairs = below_all key_cmp key (map entry_of pairs)
@@ -65,18 +61,18 @@ follows_last pairs key = key_follows (slice_get pairs (length pairs - 1)) key
 -- below all, and below one more
 below_push : (key : Key) (ps : List Pair) (p : Pair) → below key ps ≡ true → is_lt (key_cmp key p.key) ≡ true →
     below key (ps ++ p ∷ []) ≡ true
-below_push key [] p all less = and_true (is_lt (key_cmp key p.key)) true less refl
+below_push key [] p all less = and_from (is_lt (key_cmp key p.key)) true less refl
 below_push key (q ∷ ps) p all less =
-    let parts = both_true (is_lt (key_cmp key q.key)) (below key ps) all in
-    and_true (is_lt (key_cmp key q.key)) (below key (ps ++ p ∷ [])) parts.0 (below_push key ps p parts.1 less)
+    let parts = and_parts (is_lt (key_cmp key q.key)) (below key ps) all in
+    and_from (is_lt (key_cmp key q.key)) (below key (ps ++ p ∷ [])) parts.0 (below_push key ps p parts.1 less)
 
 -- the first of keys that rise is below one that follows the last
 first_below : (x : Pair) (ps : List Pair) (p : Pair) → sorted (x ∷ ps) ≡ true → follows_last (x ∷ ps) p.key ≡ true →
     is_lt (key_cmp x.key p.key) ≡ true
 first_below x [] p is last = last
 first_below x (y ∷ ps) p is last =
-    let parts = both_true (below x.key (y ∷ ps)) (sorted (y ∷ ps)) is in
-    let first = both_true (is_lt (key_cmp x.key y.key)) (below x.key ps) parts.0 in
+    let parts = and_parts (below x.key (y ∷ ps)) (sorted (y ∷ ps)) is in
+    let first = and_parts (is_lt (key_cmp x.key y.key)) (below x.key ps) parts.0 in
     less_trans x.key y.key p.key first.0
     (first_below y ps p parts.1 (ap (λ (o : Option Pair). key_follows o p.key) (sym (last_cons x y ps)) ∙ last))
 
@@ -84,29 +80,22 @@ sorted_push : (ps : List Pair) (p : Pair) → sorted ps ≡ true → follows_las
     sorted (ps ++ p ∷ []) ≡ true
 sorted_push [] p is last = refl
 sorted_push (x ∷ []) p is last =
-    and_true (is_lt (key_cmp x.key p.key) && true) true (and_true (is_lt (key_cmp x.key p.key)) true last refl) refl
+    and_from (is_lt (key_cmp x.key p.key) && true) true (and_from (is_lt (key_cmp x.key p.key)) true last refl) refl
 sorted_push (x ∷ y ∷ ps) p is last =
-    let parts = both_true (below x.key (y ∷ ps)) (sorted (y ∷ ps)) is in
+    let parts = and_parts (below x.key (y ∷ ps)) (sorted (y ∷ ps)) is in
     let later : sorted ((y ∷ ps) ++ p ∷ []) ≡ true =
     sorted_push (y ∷ ps) p parts.1 (ap (λ (o : Option Pair). key_follows o p.key) (sym (last_cons x y ps)) ∙ last) in
-    and_true (below x.key ((y ∷ ps) ++ p ∷ [])) (sorted ((y ∷ ps) ++ p ∷ []))
+    and_from (below x.key ((y ∷ ps) ++ p ∷ [])) (sorted ((y ∷ ps) ++ p ∷ []))
     (below_push x.key (y ∷ ps) p parts.0 (first_below x (y ∷ ps) p is last)) later
 
 sorted_last : (ps : List Pair) (p : Pair) → sorted (ps ++ p ∷ []) ≡ true → follows_last ps p.key ≡ true
 sorted_last [] p is = refl
 sorted_last (x ∷ []) p is =
-    let parts = both_true (below x.key (p ∷ [])) (sorted (p ∷ [])) is in
-    (both_true (is_lt (key_cmp x.key p.key)) true parts.0).0
+    let parts = and_parts (below x.key (p ∷ [])) (sorted (p ∷ [])) is in
+    (and_parts (is_lt (key_cmp x.key p.key)) true parts.0).0
 sorted_last (x ∷ y ∷ ps) p is =
-    let parts = both_true (below x.key ((y ∷ ps) ++ p ∷ [])) (sorted ((y ∷ ps) ++ p ∷ [])) is in
+    let parts = and_parts (below x.key ((y ∷ ps) ++ p ∷ [])) (sorted ((y ∷ ps) ++ p ∷ [])) is in
     ap (λ (o : Option Pair). key_follows o p.key) (last_cons x y ps) ∙ sorted_last (y ∷ ps) p parts.1
-
-is_true : (b : Bool) → T b → b ≡ true
-is_true true t = refl
-is_true false t = absurd t
-
-true_is : (b : Bool) → b ≡ true → T b
-true_is b is = subst T (sym is) tt
 
 pub sessions_push : (ps : List Pair) (p : Pair) → AreSessions ps → SessionFits p → follows_last ps p.key ≡ true →
     AreSessions (ps ++ p ∷ [])
@@ -121,9 +110,6 @@ pub sessions_last : (ps : List Pair) (p : Pair) → AreSessions (ps ++ p ∷ [])
 sessions_last ps p are = sorted_last ps p (is_true (sorted (ps ++ p ∷ [])) are.ordered)
 
 -- What follows pairs.
-
-same_first : (a b : ℕ) (xs ys : List ℕ) → a ∷ xs ≡ b ∷ ys → a ≡ b
-same_first a b xs ys same = cc
 
 no_more_entry : (b : Body) (ps : List Pair) (rest : List ℕ) → b.pairs ≡ [] → (ps ≡ [] → NoEntry b rest) →
     (e : Entry) (m : State) (left : List ℕ) → Next (body (with_pairs b ps)) (entry e) m →
@@ -160,9 +146,6 @@ pub record HasSessions (text : List ℕ) (b : Body) (ps : List Pair) (rest : Lis
     pub are : AreSessions ps
     pub empty : ps ≡ [] → NoEntry b rest
     pub lines_are : lines ≡ before + counter
-
-no_sessions : AreSessions []
-no_sessions = record { each = λ k d inside. absurd (omega arith); ordered = tt }
 
 pub sessions_begin : (text : List ℕ) (b : Body) (ps : List Pair) (rest : List ℕ) (lines : ℕ) → b.pairs ≡ [] →
     At text (body b) rest lines → NoEntry b rest → ps ≡ [] → HasSessions text b ps rest lines lines 0

@@ -27,7 +27,8 @@ entry_starts seats (call told) rest = (_, call_spelled seats told rest)
 entry_starts seats (pending told) rest = (_, pending_spelled seats told rest)
 entry_starts seats (order packets) rest = (_, order_spelled packets rest)
 
-same_first : (a b : ℕ) (xs ys : List ℕ) → a ∷ xs ≡ b ∷ ys → a ≡ b
+-- texts that are one begin with one byte
+pub same_first : (a b : ℕ) (xs ys : List ℕ) → a ∷ xs ≡ b ∷ ys → a ≡ b
 same_first a b xs ys same = cc
 
 byte_of_entry : (seats : ℕ) (bytes : List ℕ) (b : ℕ) (more : List ℕ) (e : Entry) (rest : List ℕ) → bytes ≡ b ∷ more →

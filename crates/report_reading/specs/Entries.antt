@@ -6,7 +6,7 @@ use Rattle.plain_map.specs.declared.records.Pending.{Pending}
 use Rattle.report_text.specs.declared.parts.Head.{Head}
 use Rattle.report_told.specs.Told.{Entry, call, pending, order}
 use Rattle.report_told.specs.Rules.{IsHead, IsSettingsOf, AreEntries, ended_packets, waiting_packets}
-use Rattle.report_told.specs.Points.{packets_in}
+use Rattle.report_told.specs.Points.{packets_told}
 use Rattle.report_reading.specs.declared.entries.Entries.{Entries}
 use Rattle.report_reading.specs.Packets.{ArePackets}
 use Rattle.report_reading.specs.Answers.{AreAnswers}
@@ -27,7 +27,7 @@ pub record Holds (kept : Entries) (head : Head) (entries : List Entry) : Type 0 
   pub packets : ArePackets kept.packets (ended_packets entries) (waiting_packets entries)
   pub answers : AreAnswers kept.answers entries
   pub pending : kept.pending.items ≡ flat_map unnumbered entries
-  pub order : kept.order.items ≡ flat_map packets_in entries
+  pub order : kept.order.items ≡ flat_map packets_told entries
 
 -- the line of an order was taken in, where one stood there
 abbrev pub TakesOrder : Option (List ℕ × List ℕ) → Entries → Head → List Entry → (found : Option (List ℕ)) → Type 0

@@ -182,7 +182,9 @@ const ROWS: [Row; 69] = [
         TWO,
         1,
         4,
-        "order 2 1\ncall 1 seat 0 insert 10.0.0.1:1-10.0.0.2:80/tcp new 1 steps 28 after 0,0\ncall 2 seat 1 insert 10.0.0.1:2-10.0.0.2:80/tcp new 2 steps 56 after 0,0\n",
+        "order 2 1\n\
+               call 1 seat 0 insert 10.0.0.1:1-10.0.0.2:80/tcp new 1 steps 28 after 0,0\n\
+               call 2 seat 1 insert 10.0.0.1:2-10.0.0.2:80/tcp new 2 steps 56 after 0,0\n",
         None,
     ),
     (ONE, 2, 3, "order 1 1 1 1 1 1 1 1 1 1 1 1 1 1 1 1\n", None),
@@ -322,7 +324,9 @@ const ROWS: [Row; 69] = [
         ONE,
         1,
         4,
-        "call 1 seat 0 insert 10.0.0.2:80-10.0.0.1:1/tcp new 1 steps 45 after 0\norder 1\nsession 10.0.0.2:80-10.0.0.1:1/tcp 1 bytes 0\n",
+        "call 1 seat 0 insert 10.0.0.2:80-10.0.0.1:1/tcp new 1 steps 45 after 0\n\
+               order 1\n\
+               session 10.0.0.2:80-10.0.0.1:1/tcp 1 bytes 0\n",
         Some(2),
     ),
     (ONE, 2, 3, "order 1 7\n", None),
@@ -337,14 +341,18 @@ const ROWS: [Row; 69] = [
         BEFORE,
         1,
         4,
-        "call 1 seat 0 lookup 10.0.0.1:1-10.0.0.2:80/tcp found 3 steps 11 after 0,1\ncall 2 seat 1 insert 10.0.0.1:1-10.0.0.2:80/tcp new 2 steps 51 after 0,0\norder 2 1 1\n",
+        "call 1 seat 0 lookup 10.0.0.1:1-10.0.0.2:80/tcp found 3 steps 11 after 0,1\n\
+               call 2 seat 1 insert 10.0.0.1:1-10.0.0.2:80/tcp new 2 steps 51 after 0,0\n\
+               order 2 1 1\n",
         None,
     ),
     (
         ONE,
         1,
         4,
-        "call 0 seat 0 insert 10.0.0.1:1-10.0.0.2:80/tcp new 0 steps 45 after 0\norder 0\nsession 10.0.0.1:1-10.0.0.2:80/tcp 0 bytes 0\n",
+        "call 0 seat 0 insert 10.0.0.1:1-10.0.0.2:80/tcp new 0 steps 45 after 0\n\
+               order 0\n\
+               session 10.0.0.1:1-10.0.0.2:80/tcp 0 bytes 0\n",
         None,
     ),
     (

@@ -16,7 +16,7 @@ packets_more ids i id inside before after =
     rw (map_more (λ (id : CallId). decimal id.packet) ids i id inside) (before ⨟ after)
 
 -- a list that is not empty has one part of 16 elements more than what is left after 16
-chunk_count_step : (n : ℕ) → 0 < n → chunk_count n 16 ≡ suc (chunk_count (n - 16) 16)
+pub chunk_count_step : (n : ℕ) → 0 < n → chunk_count n 16 ≡ suc (chunk_count (n - 16) 16)
 chunk_count_step n some = omega arith
 
 pub order_lines_step : (xs : List CallId) → 0 < length xs →

@@ -1,13 +1,12 @@
--- The report of totals: the head line; for each batch the lines of its adds in packet order and of its order; the totals
--- of each class, the ending of the input, and the steps.
+-- The report of totals: the head line; for each batch the lines of its adds in packet order and of its order; the
+-- totals of each class, the ending of the input, and the steps.
 -- Source: docs/FORMATS.md, the report of totals.
 use Rattle.std.specs.Prelude.{ℕ, zero, suc, ◌+◌, List, [], ◌∷◌, ◌++◌, codes, decimal, flat_map, slice_index}
 use Rattle.sim_steps.specs.declared.adds.Added.{Added}
 use Rattle.sim_steps.specs.declared.adds.Totals.{Totals}
 use Rattle.plain_map.specs.declared.records.CallId.{CallId}
-use Rattle.batch_orders.specs.Batches.{with_counts}
+use Rattle.batch_history.specs.Batches.{with_counts}
 use Rattle.report_text.specs.declared.adds.TotalsTail.{TotalsTail}
-use Rattle.report_text.specs.declared.parts.Ending.{Ending}
 use Rattle.report_text.specs.Lines.{line}
 use Rattle.report_text.specs.Report.{after_words, input_line, order_lines, steps_words}
 

@@ -1,7 +1,7 @@
 //! The lines of a report of totals.
 
 ghost use Rattle.std.specs.Prelude.{◌≡◌, ◌+◌, ◌<◌, ◌≤◌, [], ◌∷◌, ◌++◌, length, slice_index, OnOk, OnErr};
-ghost use Rattle.batch_orders.specs.Batches.{seen_on};
+ghost use Rattle.batch_history.specs.Batches.{seen_on};
 ghost use Rattle.report_text.specs.Adds.{add_line, add_steps_line, added_on, class_word, total_line, totals_head, totals_tail};
 ghost use Rattle.report_text.specs.Report.{IsEnding};
 ghost use Rattle.report_text.specs.Lines.{room, Puts, text_in};

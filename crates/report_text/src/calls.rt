@@ -1,7 +1,7 @@
 //! The line of an answered, a refused or a pending call.
 
 ghost use Rattle.std.specs.Prelude.{◌≡◌, ℕ, ◌+◌, ◌<◌, ◌≤◌, [], ◌∷◌, ◌++◌, decimal, length, slice_index, OnOk, OnErr};
-ghost use Rattle.batch_orders.specs.Batches.{gone_on, seen_on, with_counts};
+ghost use Rattle.batch_history.specs.Batches.{gone_on, seen_on, with_counts};
 ghost use Rattle.flow_keys.specs.FlowText.{HasText};
 ghost use Rattle.plain_map.specs.Calls.{key_in};
 ghost use Rattle.trace_share.specs.declared.outcome.Outcome.TheVariants.{Answered, Refused};

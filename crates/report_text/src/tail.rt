@@ -11,8 +11,7 @@ use crate::parts::{Ending, Tail};
 use crate::pieces::{
     append, begin_line, end_line, put_digits, put_named, put_number, put_text, put_word,
 };
-use pcap_reader::CaptureFault;
-use pcapng_reader::{AnyFault, MOST_INTERFACES, MOST_OTHERS};
+use capture_faults::{AnyFault, CaptureFault, MOST_INTERFACES, MOST_OTHERS};
 use std::alloc::AllocError;
 
 // The digits of numbers below 16.

@@ -11,9 +11,8 @@ use crate::{
     Ending, Head, Line, Tail, Trial, head_text, order_text, outcome_text, pending_text,
     session_text, tail_text, trial_text,
 };
+use capture_faults::{AnyFault, CaptureFault};
 use hash_bits::Hashing;
-use pcap_reader::CaptureFault;
-use pcapng_reader::AnyFault;
 use plain_map::{Call, CallId, Full, FullKind, Key, Pair, Pending, Record, Reply, Seen};
 use std::alloc::{AllocError, Global};
 use std::test::Fail;

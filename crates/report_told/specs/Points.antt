@@ -13,7 +13,8 @@ use Rattle.report_told.specs.declared.told.Ended.{Ended}
 use Rattle.report_told.specs.declared.told.Ended.TheVariants.{Answered, Refused}
 use Rattle.report_told.specs.declared.told.CallLine.{CallLine}
 use Rattle.report_told.specs.Told.{Entry, call, pending, order, Told}
-use Rattle.report_told.specs.Rules.{is_update, times}
+use Rattle.report_told.specs.Rules.{times}
+use Rattle.plain_map.specs.Calls.{is_update}
 
 -- The calls of the lines.
 
@@ -45,16 +46,16 @@ record_of number told (Answered reply steps seen) = record {
 } ∷ []
 record_of number told (Refused full) = []
 
-abbrev pub record_in : (before : List Entry) → Entry → List Record
-record_in before (call told) = record_of (suc (answers_of told.seat before)) told told.ended
-record_in before (pending told) = []
-record_in before (order packets) = []
+abbrev pub record_told : (before : List Entry) → Entry → List Record
+record_told before (call told) = record_of (suc (answers_of told.seat before)) told told.ended
+record_told before (pending told) = []
+record_told before (order packets) = []
 
 -- the answered calls of these lines, behind others
 abbrev pub records_behind : (before : List Entry) → List Entry → List Record
 records_behind before [] = []
 records_behind before (entry ∷ entries) =
-    record_in before entry ++ records_behind (before ++ entry ∷ []) entries
+    record_told before entry ++ records_behind (before ++ entry ∷ []) entries
 
 abbrev pub records_told : Told → List Record
 records_told told = records_behind [] told.entries
@@ -75,13 +76,13 @@ abbrev pub pending_told : Told → List Pending
 pending_told told = flat_map (pending_in told.entries) told.entries
 
 -- the one list of the order lines
-abbrev pub packets_in : Entry → List ℕ
-packets_in (call told) = []
-packets_in (pending told) = []
-packets_in (order packets) = packets
+abbrev pub packets_told : Entry → List ℕ
+packets_told (call told) = []
+packets_told (pending told) = []
+packets_told (order packets) = packets
 
 abbrev pub order_told : Told → List ℕ
-order_told told = flat_map packets_in told.entries
+order_told told = flat_map packets_told told.entries
 
 -- the calls in it: to each packet those that came from it, which is one where the list is whole
 abbrev pub calls_told : Told → List Placed

@@ -1,6 +1,6 @@
 -- Which reports are in the grammar: what each line may tell, and what it may tell beside the lines before it.
 -- Source: docs/FORMATS.md, the report.
-use Rattle.std.specs.Prelude.{◌≡◌, ℕ, ◌+◌, ◌-◌, ◌^◌, ◌<◌, ◌≤◌, ◌==◌, Bool, true, false, List, [], ◌∷◌, ◌++◌, count_by, flat_map, length, replicate, All}
+use Rattle.std.specs.Prelude.{◌≡◌, ℕ, ◌+◌, ◌-◌, ◌^◌, ◌<◌, ◌≤◌, ◌==◌, true, List, [], ◌∷◌, ◌++◌, count_by, flat_map, length, replicate, All}
 use Rattle.hash_bits.specs.declared.hashing.Hashing.{Hashing}
 use Rattle.hash_bits.specs.declared.hashing.Hashing.TheVariants.{Mix, Ports}
 use Rattle.step_counts.specs.declared.settings.Settings.{Settings}
@@ -18,12 +18,12 @@ use Rattle.plain_map.specs.declared.full.FullKind.{FullKind}
 use Rattle.plain_map.specs.declared.full.FullKind.TheVariants.{OpRows, BucketRows, BucketWords, DirRows}
 use Rattle.plain_map.specs.declared.records.Seen.{Seen}
 use Rattle.plain_map.specs.declared.records.TheConstants.{MOST_SEATS}
-use Rattle.plain_map.specs.Calls.{key_in}
+use Rattle.plain_map.specs.Calls.{key_in, is_update}
 use Rattle.plain_map.specs.Places.{IsInKeyOrder}
-use Rattle.pcap_reader.specs.declared.fault.CaptureFault.{CaptureFault}
-use Rattle.pcap_reader.specs.declared.fault.CaptureFault.TheVariants.{ReadFault as NoRead, ShortHeader, Magic, Version, LinkType, RecordLength, Memory}
-use Rattle.pcapng_reader.specs.declared.fault.AnyFault.{AnyFault}
-use Rattle.pcapng_reader.specs.declared.fault.AnyFault.TheVariants.{Capture, ByteOrder, BlockLength, Trailer, SectionVersion, Interface, CapturedLength, Interfaces, Blocks}
+use Rattle.capture_faults.specs.declared.fault.CaptureFault.{CaptureFault}
+use Rattle.capture_faults.specs.declared.fault.CaptureFault.TheVariants.{ReadFault as NoRead, ShortHeader, Magic, Version, LinkType, RecordLength, Memory}
+use Rattle.capture_faults.specs.declared.any_fault.AnyFault.{AnyFault}
+use Rattle.capture_faults.specs.declared.any_fault.AnyFault.TheVariants.{Capture, ByteOrder, BlockLength, Trailer, SectionVersion, Interface, CapturedLength, Interfaces, Blocks}
 use Rattle.flow_reading.specs.Flows.{IsFlow}
 use Rattle.flow_keys.specs.Flow.{InsertsOnly}
 use Rattle.report_text.specs.declared.parts.Head.{Head}
@@ -81,12 +81,6 @@ pub record IsSeen (seats : ℕ) (seen : Seen) : Type 0 where
   pub long : length told ≡ seats
   pub fit : All (λ count. count < 2 ^ 32) told
   pub counts : seen.counts ≡ told ++ replicate (MOST_SEATS - seats) 0
-
-abbrev pub is_update : Call → Bool
-is_update (Insert key value) = true
-is_update (Remove key) = true
-is_update (Lookup key) = false
-is_update (Tally key amount) = true
 
 abbrev pub part_of : SeatRows → FullKind → ℕ
 part_of rows OpRows = rows.op_rows

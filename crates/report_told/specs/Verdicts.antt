@@ -29,8 +29,8 @@ pub record AreBegun (text : List ℕ) (many : ℕ) : Type 0 where
   pub rest : List ℕ
   pub begins : told_text told ≡ front ++ rest
 
--- the text is no report, and this is the first line with which none begins; a line that is missing, or has no line feed,
--- counts as one
+-- the text is no report, and this is the first line with which none begins; a line that is
+-- missing, or has no line feed, counts as one
 pub record IsBadLine (text : List ℕ) (line : ℕ) : Type 0 where
   pub no_report : (told : Told) → Tells text told → ⊥
   pub from_one : 1 ≤ line

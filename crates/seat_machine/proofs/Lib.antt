@@ -1,10 +1,7 @@
-pub mod RunLemmas
-pub mod DeskLemmas
-pub mod OpsLemmas
 pub mod RowLemmas
-pub mod DirectoryLemmas
+pub mod PrefixLemmas
+pub mod Taking
 pub mod LoadLemmas
 pub mod PutLemmas
-pub mod LeafLemmas
-pub mod ItemLemmas
-pub mod SeatLemmas
+pub mod ChangeLemmas
+pub mod RowsLoaded

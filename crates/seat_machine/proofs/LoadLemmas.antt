@@ -1,209 +1,138 @@
--- Which bucket of the announced ops is loaded next.
-use Rattle.std.proofs.Common.{◌≡◌, ℕ, zero, suc, ◌+◌, ◌<◌, Bool, true, false, eqb, List, [], ◌∷◌, ◌++◌, length, take, drop, set, map, get_or, Option, Some, None, refl, sym, ap, ◌∙◌, subst, arith}
-use Rattle.std.specs.Prelude.{◌||◌, All, find, not, if◌then◌else◌}
-use Rattle.std.specs.Option.{option_map, option_or}
-use Rattle.std.proofs.lemmas.Bool.Decides.{nat_tests}
+-- There is room for each bucket that a directory try loads: each is that of another op.
+use Rattle.std.proofs.Common.{◌≡◌, ℕ, suc, ◌+◌, ◌<◌, ◌≤◌, Bool, true, false, List, [], ◌∷◌, length, map, take, Option, Some, None, refl, ap, ◌∙◌, subst, arith}
+use Rattle.std.specs.Prelude.{◌||◌, find, min, not, if◌then◌else◌}
 use Rattle.std.specs.List.{list_any}
-use Rattle.std.proofs.lemmas.List.{append-nil, map-append}
-use Rattle.std.proofs.lemmas.List.Elements.{All-append, All-cons, All-nil, All-head, All-tail, filter_map-append}
-use Rattle.std.proofs.lemmas.List.Folds.{find-append, list_any-append}
-use Rattle.plain_map.specs.declared.rules.Rules.{Rules}
-use Rattle.plain_map.specs.Calls.{key_in}
+use Rattle.std.proofs.lemmas.Bool.{eq-eqb}
+use Rattle.std.proofs.lemmas.List.{length-map, length-take, length_push}
+use Rattle.std.proofs.lemmas.List.Folds.{list_any-append}
 use Rattle.bucket_states.specs.declared.ops.Op.{Op}
-use Rattle.core_model.specs.Directories.{DirectoryState, bucket_of}
-use Rattle.core_model.specs.DirectoryChange.{LoadedBucket, buckets_of, is_bucket, next_bucket}
-use Rattle.step_counts.specs.StepCounts.{bucket_row_words}
-use Rattle.core_model.specs.declared.rounds.Round.{Round}
-use Rattle.core_model.specs.Setup.{rules_of, settings_of}
-use Rattle.core_model.specs.Phases.{Phase, DirRow, DirStore, DirWord, DirectoryTry}
-use Rattle.core_model.specs.Fits.{Makes}
-use Rattle.core_model.specs.Goes.{after_loaded, bucket_in_words, load_or_store, more}
-use Rattle.dir_states.specs.declared.values.Loaded.{Loaded}
+use Rattle.table_model.specs.Directories.{DirectoryState}
+use Rattle.table_model.specs.DirectoryChange.{LoadedBucket, buckets_of, is_bucket, next_bucket}
+use Rattle.table_model.specs.Goes.{more}
+use Rattle.table_model.specs.Setup.{Setup, rules_of}
 use Rattle.dir_states.specs.Views.{as_loaded}
-use Rattle.seat_machine.specs.Going.{Going, goes, later, on}
-use Rattle.seat_machine.specs.Rows.{row_then}
-use Rattle.seat_machine.specs.Loads.{AddsBucket, HasLoaded, IsLoaded}
-use Rattle.seat_machine.proofs.RunLemmas.{later_later, take_more}
+use Rattle.dir_states.specs.declared.values.Loaded.{Loaded}
+use Rattle.change_laws.proofs.Counts.{buckets-few}
+use Rattle.seat_machine.specs.Stands.{AreFew, flag, many_loaded}
+use Rattle.std.proofs.Math.Bool.{or-true}
 
--- the first elements, one by one
-pub take_one : {A : Type 0} → (xs : List A) (i j : ℕ) (d : A) → j ≡ suc i → i < length xs →
-    take j xs ≡ take i xs ++ get_or xs i d ∷ []
-take_one [] i j d e h = absurd (omega arith)
-take_one {A} (y ∷ ys) zero j d e h = ap (λ (k : ℕ). take k (y ∷ ys)) e
-take_one {A} (y ∷ ys) (suc i) j d e h = ap (λ (k : ℕ). take k (y ∷ ys)) e
-    ∙ ap (λ (zs : List A). y ∷ zs) (take_one ys i (suc i) d refl (omega arith))
+-- the bucket is among those that were loaded
+abbrev is_seen : List LoadedBucket → ℕ → Bool
+is_seen loaded bucket = list_any (is_bucket bucket) loaded
 
--- a list that is cut at an element
-pub cut_at : {A : Type 0} → (xs : List A) (i : ℕ) (d : A) → i < length xs →
-    xs ≡ take i xs ++ get_or xs i d ∷ drop (suc i) xs
-cut_at [] i d h = absurd (omega arith)
-cut_at (y ∷ ys) zero d h = refl
-cut_at {A} (y ∷ ys) (suc i) d h = ap (λ (zs : List A). y ∷ zs) (cut_at ys i d (omega arith))
+-- the first of these buckets that was not loaded
+abbrev unseen : List LoadedBucket → List ℕ → Option ℕ
+unseen loaded buckets = find (λ bucket. not (is_seen loaded bucket)) buckets
 
--- the buckets that were loaded, with one more
-pub loaded_more : (loaded : List Loaded) (i : ℕ) (x : Loaded) → i < length loaded →
-    map as_loaded (take (i + 1) (set loaded i x)) ≡ more (map as_loaded (take i loaded)) (as_loaded x)
-loaded_more loaded i x h =
-    ap (map as_loaded) (take_more loaded i (i + 1) x (omega arith) h) ∙ map-append as_loaded (take i loaded) (x ∷ [])
+-- a flag is 1 at most
+flag-few : (t : Bool) → flag t ≤ 1
+flag-few true = omega arith
+flag-few false = omega arith
 
-module _ (rules : Rules) (directory : DirectoryState) where
-  -- the bucket of an op's key
-  abbrev bucket_for : Op → ℕ
-  bucket_for op = bucket_of rules directory (key_in op.call)
+-- no more are loaded than there are
+many-few : (loaded : List LoadedBucket) (buckets : List ℕ) → many_loaded loaded buckets ≤ length buckets
+many-few loaded [] = omega arith
+many-few loaded (b ∷ bs) = omega (arith, flag-few (is_seen loaded b), many-few loaded bs)
 
-  -- the buckets of more ops
-  pub buckets_none : (front : List (Option Op)) →
-      buckets_of rules directory (front ++ None ∷ []) ≡ buckets_of rules directory front ++ []
-  buckets_none front = filter_map-append (option_map bucket_for) front (None ∷ [])
+module _ (loaded now : List LoadedBucket)
+    (kept : (bucket : ℕ) → is_seen loaded bucket ≡ true → is_seen now bucket ≡ true) where
+  -- a bucket that was loaded still is
+  flag-grows : (bucket : ℕ) (t : Bool) → is_seen loaded bucket ≡ t → flag t ≤ flag (is_seen now bucket)
+  flag-grows bucket true seen = (let one : flag (is_seen now bucket) ≡ 1 = ap flag (kept bucket seen) in
+      omega (arith, one))
+  flag-grows bucket false seen = omega arith
 
-  pub buckets_some : (front : List (Option Op)) (op : Op) →
-      buckets_of rules directory (front ++ Some op ∷ []) ≡ buckets_of rules directory front ++ bucket_for op ∷ []
-  buckets_some front op = filter_map-append (option_map bucket_for) front (Some op ∷ [])
+  -- so no fewer are
+  many-grows : (buckets : List ℕ) → many_loaded loaded buckets ≤ many_loaded now buckets
+  many-grows [] = omega arith
+  many-grows (b ∷ bs) = omega (arith, flag-grows b (is_seen loaded b) refl, many-grows bs)
 
-  -- none of these is still to be loaded
-  pub all_found : (loaded : List LoadedBucket) (buckets : List ℕ) → All (IsLoaded loaded) buckets →
-      find (λ b. not (list_any (is_bucket b) loaded)) buckets ≡ None
-  all_found loaded [] all = refl
-  all_found loaded (b ∷ bs) all =
-      ap (λ (t : Bool). if not t then Some b else find (λ b. not (list_any (is_bucket b) loaded)) bs)
-      (All-head (IsLoaded loaded) b bs all)
-      ∙ all_found loaded bs (All-tail (IsLoaded loaded) b bs all)
+  module _ (bucket : ℕ) (new : is_seen now bucket ≡ true) where
+    -- and one more is, where that is new
+    many-here : (b : ℕ) (bs : List ℕ) (t : Bool) → is_seen loaded b ≡ t →
+        (unseen loaded bs ≡ Some bucket → many_loaded loaded bs + 1 ≤ many_loaded now bs) →
+        (if not t then Some b else unseen loaded bs) ≡ Some bucket →
+        flag t + many_loaded loaded bs + 1 ≤ flag (is_seen now b) + many_loaded now bs
+    many-here b bs true seen rest e =
+        let one : flag (is_seen now b) ≡ 1 = ap flag (kept b seen) in
+        omega (arith, one, rest e)
+    many-here b bs false seen rest e =
+        let same : b ≡ bucket = ap (value b) e in
+        let one : flag (is_seen now b) ≡ 1 = ap (λ (k : ℕ). flag (is_seen now k)) same ∙ ap flag new in
+        omega (arith, one, many-grows bs)
+      where
+        value : ℕ → Option ℕ → ℕ
+        value none None = none
+        value none (Some x) = x
 
-  -- the bucket of the first op that has none
-  pub next_is : (loaded : List LoadedBucket) (front back ops : List (Option Op)) (op : Op) →
-      ops ≡ front ++ Some op ∷ back →
-      All (IsLoaded loaded) (buckets_of rules directory front) → list_any (is_bucket (bucket_for op)) loaded ≡ false →
-      next_bucket rules directory loaded ops ≡ Some (bucket_for op)
-  next_is loaded front back ops op cut all new =
-      let p = λ (b : ℕ). not (list_any (is_bucket b) loaded) in
-      ap (λ (os : List (Option Op)). next_bucket rules directory loaded os) cut
-      ∙ ap (find p) (filter_map-append (option_map bucket_for) front (Some op ∷ back))
-      ∙ find-append p (buckets_of rules directory front) (buckets_of rules directory (Some op ∷ back))
-      ∙ ap (λ (o : Option ℕ). option_or o (find p (buckets_of rules directory (Some op ∷ back))))
-      (all_found loaded (buckets_of rules directory front) all)
-      ∙ ap (λ (t : Bool). if not t then Some (bucket_for op) else find p (buckets_of rules directory back)) new
+    many-more : (buckets : List ℕ) → unseen loaded buckets ≡ Some bucket →
+        many_loaded loaded buckets + 1 ≤ many_loaded now buckets
+    many-more [] e = absurd (subst some e tt)
+      where
+        some : Option ℕ → Type 0
+        some None = Unit {0}
+        some (Some x) = ⊥
+    many-more (b ∷ bs) e = many-here b bs (is_seen loaded b) refl (many-more bs) e
 
--- a bucket that was loaded stays so, and the new one is
-pub still_loaded : (bucket b : ℕ) (was now : List LoadedBucket) → AddsBucket bucket was now → IsLoaded was b →
-    IsLoaded now b
-still_loaded bucket b was now adds is =
-    ap (list_any (is_bucket b)) adds.now_are ∙ list_any-append (is_bucket b) was (adds.one ∷ [])
-    ∙ ap (λ (t : Bool). t || list_any (is_bucket b) (adds.one ∷ [])) is
+-- one bucket more
+module _ (loaded : List LoadedBucket) (one : LoadedBucket) where
+  seen-more : (bucket : ℕ) →
+      is_seen (more loaded one) bucket ≡ (is_seen loaded bucket || (is_bucket bucket one || false))
+  seen-more bucket = list_any-append (is_bucket bucket) loaded (one ∷ [])
 
--- buckets that were loaded stay so
-pub all_still : (bucket : ℕ) (was now : List LoadedBucket) (buckets : List ℕ) → AddsBucket bucket was now →
-    All (IsLoaded was) buckets → All (IsLoaded now) buckets
-all_still bucket was now [] adds all = All-nil (IsLoaded now)
-all_still bucket was now (b ∷ bs) adds all =
-    All-cons (IsLoaded now) b bs (still_loaded bucket b was now adds (All-head (IsLoaded was) b bs all))
-    (all_still bucket was now bs adds (All-tail (IsLoaded was) b bs all))
+  seen-kept : (bucket : ℕ) → is_seen loaded bucket ≡ true → is_seen (more loaded one) bucket ≡ true
+  seen-kept bucket seen = seen-more bucket ∙ ap (λ (s : Bool). s || (is_bucket bucket one || false)) seen
 
--- one of three tests holds
-or_true : (s t : Bool) → t ≡ true → (s || (t || false)) ≡ true
-or_true true t is = refl
-or_true false true is = refl
-or_true false false is = is
+  seen-new : is_seen (more loaded one) one.bucket ≡ true
+  seen-new =
+      seen-more one.bucket
+      ∙ ap (λ (s : Bool). is_seen loaded one.bucket || (s || false)) (eq-eqb one.bucket one.bucket refl)
+      ∙ or-true (is_seen loaded one.bucket)
 
--- two equal numbers
-same_number : (a b : ℕ) → a ≡ b → eqb a b ≡ true
-same_number a b is = grind (arith, nat_tests)
+  module _ (setup : Setup) (directory : DirectoryState) (found : List (Option Op)) (bucket : ℕ)
+      (few : AreFew setup directory found loaded)
+      (next : next_bucket (rules_of setup) directory loaded found ≡ Some bucket) (is : one.bucket ≡ bucket) where
+    -- no more are loaded than ops have theirs among them
+    pub few_more : AreFew setup directory found (more loaded one)
+    few_more =
+        let grown = many-more loaded (more loaded one) seen-kept bucket
+        (subst (λ (b : ℕ). is_seen (more loaded one) b ≡ true) is seen-new)
+        (buckets_of (rules_of setup) directory found) next in
+        omega (arith, few, grown, length_push loaded one)
 
--- the new bucket is loaded
-pub now_loaded : (bucket : ℕ) (was now : List LoadedBucket) → AddsBucket bucket was now → IsLoaded now bucket
-now_loaded bucket was now adds =
-    ap (list_any (is_bucket bucket)) adds.now_are ∙ list_any-append (is_bucket bucket) was (adds.one ∷ [])
-    ∙ or_true (list_any (is_bucket bucket) was) (is_bucket bucket adds.one)
-    (same_number adds.one.bucket bucket adds.number)
+-- one of these buckets is not loaded
+room-here : (loaded : List LoadedBucket) (bucket b : ℕ) (bs : List ℕ) (t : Bool) →
+    (unseen loaded bs ≡ Some bucket → many_loaded loaded bs + 1 ≤ length bs) →
+    (if not t then Some b else unseen loaded bs) ≡ Some bucket → flag t + many_loaded loaded bs + 1 ≤ suc (length bs)
+room-here loaded bucket b bs true rest e = omega (arith, rest e)
+room-here loaded bucket b bs false rest e = omega (arith, many-few loaded bs)
 
--- a bucket word and a row are loaded
-module _ (f mid : Going) (round : Round) (attempt : DirectoryTry) (found : List (Option Op))
-    (loaded : List LoadedBucket) (bucket row : ℕ)
-    (phase : f.phase ≡ DirWord round attempt found loaded bucket) (then_mid : mid ≡ goes f row) where
-  -- after the bucket word
-  mid_is : mid ≡ later f 1 (DirRow round attempt found loaded bucket row [])
-  mid_is = then_mid ∙ ap (λ (p : Phase). goes (on f p) row) phase
+many-room : (loaded : List LoadedBucket) (bucket : ℕ) (buckets : List ℕ) → unseen loaded buckets ≡ Some bucket →
+    many_loaded loaded buckets + 1 ≤ length buckets
+many-room loaded bucket [] e = absurd (subst some e tt)
+  where
+    some : Option ℕ → Type 0
+    some None = Unit {0}
+    some (Some x) = ⊥
+many-room loaded bucket (b ∷ bs) e =
+    room-here loaded bucket b bs (is_seen loaded b) (many-room loaded bucket bs) e
 
-  abbrev pub with_row : List ℕ → List LoadedBucket
-  with_row words = more loaded (record { bucket = bucket; row = row; state = bucket_in_words f.setup words })
+-- there is an op whose bucket is not loaded
+pub room_for : (setup : Setup) (directory : DirectoryState) (found : List (Option Op)) (loaded : List LoadedBucket)
+    (bucket : ℕ) → AreFew setup directory found loaded →
+    next_bucket (rules_of setup) directory loaded found ≡ Some bucket → length loaded < length found
+room_for setup directory found loaded bucket few next =
+    omega (
+      arith,
+      few,
+      many-room loaded bucket (buckets_of (rules_of setup) directory found) next,
+      buckets-few (rules_of setup) directory found,
+    )
 
-  pub bucket_goes : (words : List ℕ) → later mid (bucket_row_words (settings_of mid.setup))
-      (row_then mid.setup mid.seat mid.flight mid.phase words)
-      ≡ later f (1 + bucket_row_words (settings_of f.setup)) (after_loaded f.setup round attempt found (with_row words))
-  bucket_goes words =
-      ap (λ (h : Going). later h (bucket_row_words (settings_of h.setup))
-      (row_then h.setup h.seat h.flight h.phase words)) mid_is
-      ∙ later_later f 1 (bucket_row_words (settings_of f.setup)) (DirRow round attempt found loaded bucket row [])
-      (after_loaded f.setup round attempt found (with_row words))
-
-  pub bucket_makes : (words : List ℕ) → Makes mid.setup (row_then mid.setup mid.seat mid.flight mid.phase words) →
-      Makes f.setup (after_loaded f.setup round attempt found (with_row words))
-  bucket_makes words makes = subst (λ (h : Going). Makes h.setup (row_then h.setup h.seat h.flight h.phase words))
-      mid_is makes
-
--- one op more is gone through
-module _ (first now : Going) (round : Round) (attempt : DirectoryTry) (ops front : List (Option Op))
-    (loaded : List LoadedBucket) (spent : ℕ)
-    (found : HasLoaded first now round attempt ops front loaded spent) where
-  -- the bucket of an op's key
-  abbrev number : Op → ℕ
-  number op = bucket_of (rules_of first.setup) attempt.directory (key_in op.call)
-
-  -- a seat that announced none
-  pub found_none : HasLoaded first now round attempt ops (front ++ None ∷ []) loaded spent
-  found_none = record {
-    goes = found.goes;
-    makes = found.makes;
-    among = subst (All (IsLoaded loaded)) (sym (append-nil (buckets_of
-        (rules_of first.setup) attempt.directory front))
-        ∙ sym (buckets_none (rules_of first.setup) attempt.directory front)) found.among;
-  }
-
-  with_number : (now_loaded : List LoadedBucket) (op : Op) →
-      All (IsLoaded now_loaded) (buckets_of (rules_of first.setup) attempt.directory front) →
-      IsLoaded now_loaded (number op) →
-      All (IsLoaded now_loaded) (buckets_of (rules_of first.setup) attempt.directory (front ++ Some op ∷ []))
-  with_number now_loaded op all is =
-      subst (All (IsLoaded now_loaded)) (sym (buckets_some (rules_of first.setup) attempt.directory front op))
-      (All-append (IsLoaded now_loaded) (buckets_of (rules_of first.setup) attempt.directory front) (number op ∷ []) all
-      (All-cons (IsLoaded now_loaded) (number op) [] is (All-nil (IsLoaded now_loaded))))
-
-  -- an op whose bucket is loaded
-  pub found_old : (op : Op) → IsLoaded loaded (number op) →
-      HasLoaded first now round attempt ops (front ++ Some op ∷ []) loaded spent
-  found_old op is = record { goes = found.goes; makes = found.makes; among = with_number loaded op found.among is }
-
-  -- an op whose bucket is not: it comes next
-  pub found_next : (op : Op) (back : List (Option Op)) → ops ≡ front ++ Some op ∷ back →
-      list_any (is_bucket (number op)) loaded ≡ false →
-      now.phase ≡ DirWord round attempt ops loaded (number op)
-  found_next op back cut new =
-      ap (λ (h : Going). h.phase) found.goes
-      ∙ ap (load_or_store round attempt ops loaded)
-      (next_is (rules_of first.setup) attempt.directory loaded front back ops op cut found.among new)
-
-  -- and is then loaded
-  pub found_new : (op : Op) (last : Going) (more_loaded : List LoadedBucket) (k : ℕ) →
-      AddsBucket (number op) loaded more_loaded →
-      last ≡ later now k (after_loaded now.setup round attempt ops more_loaded) →
-      Makes now.setup (after_loaded now.setup round attempt ops more_loaded) →
-      HasLoaded first last round attempt ops (front ++ Some op ∷ []) more_loaded (spent + k)
-  found_new op last more_loaded k adds goes makes = record {
-    goes =
-        goes ∙ ap (λ (h : Going). later h k (after_loaded h.setup round attempt ops more_loaded)) found.goes
-        ∙ later_later first spent k (after_loaded first.setup round attempt ops loaded)
-        (after_loaded first.setup round attempt ops more_loaded);
-    makes = subst (λ (h : Going). Makes h.setup (after_loaded h.setup round attempt ops more_loaded)) found.goes makes;
-    among = with_number more_loaded op (all_still (number op) loaded more_loaded
-        (buckets_of (rules_of first.setup) attempt.directory front) adds found.among)
-        (now_loaded (number op) loaded more_loaded adds);
-  }
-
--- the ops of all seats are gone through
-module _ (first now : Going) (round : Round) (attempt : DirectoryTry) (ops : List (Option Op))
-    (loaded : List LoadedBucket) (spent : ℕ)
-    (found : HasLoaded first now round attempt ops ops loaded spent) where
-  -- the words of the change come next
-  pub all_loaded : after_loaded first.setup round attempt ops loaded ≡ DirStore round attempt ops loaded 0
-  all_loaded = ap (load_or_store round attempt ops loaded)
-      (all_found (rules_of first.setup) attempt.directory loaded
-      (buckets_of (rules_of first.setup) attempt.directory ops) found.among)
+-- fewer are loaded than there is room for, where fewer are seen
+pub few_within : (loaded : List Loaded) (many seats : ℕ) → length (map as_loaded (take many loaded)) < seats →
+    length loaded ≡ seats → many < length loaded
+few_within loaded many seats few all =
+    let count : length (map as_loaded (take many loaded)) ≡ min many (length loaded) =
+    length-map (take many loaded) as_loaded ∙ length-take many loaded in
+    omega (arith, count, few, all)

@@ -1,311 +1,115 @@
--- The stores of a directory try, run by run.
-use Rattle.std.proofs.Common.{◌≡◌, ℕ, zero, suc, ◌+◌, ◌<◌, ◌≤◌, List, [], ◌∷◌, ◌++◌, length, drop, get_or, map, replicate, Option, Some, refl, sym, ap, ◌∙◌, subst, arith, append_assoc}
-use Rattle.std.specs.Prelude.{All, slice_get, slice_index, nat_lt}
-use Rattle.std.proofs.lemmas.Bool.{cond-false, cond-true, lt-ltb}
-use Rattle.std.proofs.lemmas.List.Elements.{All-head, All-tail}
-use Rattle.std.proofs.lemmas.List.{append-nil, length-append, drop_at, drop-drop, length-drop}
-use Rattle.step_counts.specs.StepCounts.{bucket_row_words}
-use Rattle.word_rows.specs.declared.addresses.Address.{Address}
+-- Leaves one after the other as stores, and all that a directory try stores.
+use Rattle.std.proofs.Common.{◌≡◌, ℕ, zero, suc, ◌+◌, ◌*◌, ◌^◌, ◌<◌, ◌≤◌, Bool, false, List, [], ◌∷◌, ◌++◌, length, map, drop, drop-cons, get_or, Option, Some, refl, sym, ap, subst, ◌∙◌, arith, add-one, append_assoc}
+use Rattle.std.specs.Prelude.{All, if◌then◌else◌}
+use Rattle.std.proofs.lemmas.List.{get_or-map, length-map}
+use Rattle.step_counts.specs.declared.rows.SeatRows.{SeatRows}
+use Rattle.plain_map.specs.Calls.{key_in}
+use Rattle.plain_map.specs.declared.rules.Rules.{Rules}
+use Rattle.plain_map.specs.declared.full.FullKind.TheVariants.{BucketRows, BucketWords, DirRows}
 use Rattle.word_rows.specs.declared.addresses.Address.TheVariants.{BucketRowWord, BucketWord, DirectoryWord}
-use Rattle.plain_map.specs.declared.full.FullKind.TheVariants.{BucketRows, BucketWords}
-use Rattle.word_rows.specs.Places.{place}
-use Rattle.word_rows.proofs.BucketLemmas.{length-bucket}
-use Rattle.bucket_states.specs.States.{row_of_state}
-use Rattle.core_model.specs.declared.events.Put.{Put}
-use Rattle.core_model.specs.declared.events.Ask.{Ask}
-use Rattle.core_model.specs.declared.events.Action.TheVariants.{Store}
-use Rattle.core_model.specs.Asks.{action_of, store_of}
-use Rattle.core_model.specs.Phases.{Phase, DirExchange, DirStore}
-use Rattle.core_model.specs.Leaves.{NewLeaf}
-use Rattle.core_model.specs.Setup.{Setup, next_number, settings_of}
-use Rattle.core_model.specs.Stores.{base_of_leaf, bucket_words, directory_puts, leaf_puts, made_leaves, row_puts}
-use Rattle.dir_states.specs.declared.values.NewLeaf.{NewLeaf as PlainLeaf}
+use Rattle.bucket_states.specs.declared.ops.Op.{Op}
+use Rattle.bucket_states.specs.States.{state_of}
+use Rattle.table_model.specs.declared.events.Put.{Put}
+use Rattle.table_model.specs.DirectoryChange.{LoadedBucket, with_leaves}
+use Rattle.table_model.specs.Directories.{DirectoryState}
+use Rattle.table_model.specs.Goes.{answered_by, answered_by_leaf}
+use Rattle.table_model.specs.Leaves.{NewLeaf, is_in}
+use Rattle.table_model.specs.Phases.{DirectoryTry}
+use Rattle.table_model.specs.SeatStates.{Flight}
+use Rattle.table_model.specs.Setup.{Setup, next_number}
+use Rattle.table_model.specs.Stores.{base_of_leaf, bucket_words, directory_puts, directory_words, leaf_puts, made_directory, made_leaves, row_puts}
+use Rattle.dir_states.proofs.NumberLemmas.{depth_after-least, fewer_places, length-first_values}
+use Rattle.dir_states.specs.declared.values.NewLeaf.{NewLeaf as Made}
 use Rattle.dir_states.specs.Views.{as_leaf}
-use Rattle.seat_machine.specs.Going.{Going, IsGoing, Writes, action, asks, goes, goes_by, later, on}
-use Rattle.seat_machine.specs.Puts.{Changing, ComesNext, directory_row_puts, puts_of, puts_of_leaf, storing}
-use Rattle.seat_machine.proofs.RunLemmas.{later_later, lt_false}
 
--- the store that comes next is in the list
-pub get_next : (puts rest : List Put) (p : ℕ) (put : Put) → drop p puts ≡ put ∷ rest →
-    (slice_get puts p ≡ Some put) × (drop (suc p) puts ≡ rest) × (p < length puts)
-get_next [] rest zero put is = absurd (nothing is)
-  where
-    nothing : [] ≡ put ∷ rest → ⊥
-    nothing e = subst (λ (ps : List Put). some ps) (sym e) tt
-      where
-        some : List Put → Type 0
-        some [] = ⊥
-        some (x ∷ xs) = Unit {0}
-get_next [] rest (suc p) put is = absurd (nothing is)
-  where
-    nothing : [] ≡ put ∷ rest → ⊥
-    nothing e = subst (λ (ps : List Put). some ps) (sym e) tt
-      where
-        some : List Put → Type 0
-        some [] = ⊥
-        some (x ∷ xs) = Unit {0}
-get_next (x ∷ xs) rest zero put is = (ap first is, ap (drop 1) is, omega arith)
-  where
-    first : List Put → Option Put
-    first ps = slice_get ps 0
-get_next (x ∷ xs) rest (suc p) put is = let r = get_next xs rest p put is in (r.0, r.1, omega (arith, r.2))
+-- what holds of all leaves holds of one
+pub All-leaf : (P : NewLeaf → Type 0) (leaves : List Made) (i : ℕ) (leaf : Made) → i < length leaves →
+    leaf ≡ get_or leaves i leaf → All P (map as_leaf leaves) → P (as_leaf leaf)
+All-leaf P leaves i leaf inside is all =
+    let within : i < length (map as_leaf leaves) = rw length-map inside in
+    subst P (get_or-map as_leaf leaves i leaf _ inside ∙ ap as_leaf (sym is)) (all i (as_leaf leaf) within)
 
-module _ (c : Changing) where
-  -- a word is stored
-  module _ (g : Going) (p : ℕ) (at : g.phase ≡ storing g c p) (put : Put) (rest : List Put)
-      (left : drop p (puts_of g c) ≡ put ∷ rest) where
-    one : (slice_get (puts_of g c) p ≡ Some put) × (drop (suc p) (puts_of g c) ≡ rest) × (p < length (puts_of g c))
-    one = get_next (puts_of g c) rest p put left
+leaf_puts-cons : (setup : Setup) (base : NewLeaf → Option ℕ) (bucket row : ℕ) (leaf : NewLeaf)
+    (leaves : List NewLeaf) → leaf_puts setup base bucket row (leaf ∷ leaves)
+    ≡ record { address = BucketWord bucket; word = row }
+    ∷ row_puts (BucketRowWord row) 0 (bucket_words setup (base leaf) leaf.bucket)
+    ++ leaf_puts setup base (suc bucket) (suc row) leaves
+leaf_puts-cons setup base bucket row leaf leaves = refl
 
-    pub here : g.phase ≡ DirStore c.round c.attempt c.found c.loaded p
-    here = at ∙ cond-true (nat_lt p (length (puts_of g c))) _ _ (lt-ltb p (length (puts_of g c)) one.2)
+-- the stores of one leaf more
+pub leaf_puts-more : (setup : Setup) (base : NewLeaf → Option ℕ) (bucket row : ℕ) (leaves : List Made) (i : ℕ)
+    (leaf : Made) (front after : List Put) (words : List ℕ) → i < length leaves → leaf ≡ get_or leaves i leaf →
+    words ≡ bucket_words setup (base (as_leaf leaf)) (state_of leaf.bucket) →
+    after ≡ (front ++ record { address = BucketWord (bucket + i); word = row + i } ∷ [])
+    ++ row_puts (BucketRowWord (row + i)) 0 words →
+    after ++ leaf_puts setup base (bucket + (i + 1)) (row + (i + 1)) (map as_leaf (drop (i + 1) leaves))
+    ≡ front ++ leaf_puts setup base (bucket + i) (row + i) (map as_leaf (drop i leaves))
+leaf_puts-more setup base bucket row leaves i leaf front after words inside is spelled made =
+    let next : map as_leaf (drop i leaves) ≡ as_leaf leaf ∷ map as_leaf (drop (suc i) leaves) =
+    ap (map as_leaf) (drop-cons leaves i leaf inside ∙ ap (λ l. l ∷ drop (suc i) leaves) (sym is)) in
+    let put : Put = record { address = BucketWord (bucket + i); word = row + i } in
+    let rest : List Put = leaf_puts setup base (suc (bucket + i)) (suc (row + i)) (map as_leaf (drop (suc i) leaves)) in
+    let same : leaf_puts setup base (bucket + (i + 1)) (row + (i + 1)) (map as_leaf (drop (i + 1) leaves)) ≡ rest =
+    ap (λ k. leaf_puts setup base k (row + (i + 1)) (map as_leaf (drop (i + 1) leaves)))
+    (let e : bucket + (i + 1) ≡ suc (bucket + i) = omega arith in e)
+    ∙ ap (λ k. leaf_puts setup base (suc (bucket + i)) k (map as_leaf (drop (i + 1) leaves)))
+    (let e : row + (i + 1) ≡ suc (row + i) = omega arith in e)
+    ∙ ap (λ k. leaf_puts setup base (suc (bucket + i)) (suc (row + i)) (map as_leaf (drop k leaves))) (add-one i) in
+    let joined : ((front ++ put ∷ []) ++ row_puts (BucketRowWord (row + i)) 0 words) ++ rest ≡ front
+    ++ (put ∷ row_puts (BucketRowWord (row + i)) 0 words ++ rest) =
+    simp append_assoc in
+    ap (λ a. a ++ leaf_puts setup base (bucket + (i + 1)) (row + (i + 1)) (map as_leaf (drop (i + 1) leaves))) made
+    ∙ ap (λ x. ((front ++ put ∷ []) ++ row_puts (BucketRowWord (row + i)) 0 words) ++ x) same
+    ∙ joined
+    ∙ ap (λ w. front ++ (put ∷ row_puts (BucketRowWord (row + i)) 0 w ++ rest)) spelled
+    ∙ ap (λ l. front ++ l) (sym (leaf_puts-cons setup base (bucket + i) (row + i) (as_leaf leaf)
+    (map as_leaf (drop (suc i) leaves))))
+    ∙ sym (ap (λ l. front ++ leaf_puts setup base (bucket + i) (row + i) l) next)
 
-    pub put_asks : asks g ≡ Ask.Store put.address put.word
-    put_asks = ap (λ (f : Phase). asks (on g f)) here ∙ ap store_of one.0
+-- so many times as much, and once more
+pub times_more : (i n k : ℕ) → i < n → i * k + k ≤ n * k
+times_more i zero k less = absurd (omega (arith, less))
+times_more zero (suc n) k less = omega arith
+times_more (suc i) (suc n) k less = omega (arith, times_more i n k (omega (arith, less)))
 
-    pub put_goes_on : IsGoing g.phase
-    put_goes_on = subst IsGoing (sym here) tt
+pub times_less : (i n k : ℕ) → i ≤ n → i * k ≤ n * k
+times_less zero n k le = omega arith
+times_less (suc i) zero k le = absurd (omega (arith, le))
+times_less (suc i) (suc n) k le = omega (arith, times_less i n k (omega (arith, le)))
 
-    pub put_goes : goes g 0 ≡ later g 1 (storing g c (p + 1))
-    put_goes = ap (λ (f : Phase). goes (on g f) 0) here
+pub times_next : (i k : ℕ) → (i + 1) * k ≡ i * k + k
+times_next i k = omega arith
 
-    pub put_left : drop (p + 1) (puts_of g c) ≡ rest
-    put_left = (let next : p + 1 ≡ suc p = omega arith in ap (λ (k : ℕ). drop k (puts_of g c)) next) ∙ one.1
-
-  -- the words of a row are stored
-  pub run_writes : (row : List ℕ) (g : Going) (p : ℕ) → g.phase ≡ storing g c p →
-      (at : ℕ → Address) (i start : ℕ) (rest : List Put) →
-      drop p (puts_of g c) ≡ row_puts at i row ++ rest → ((k : ℕ) → place g.setup.shape (at (i + k)) ≡ start + k) →
-      Writes g start row
-  run_writes [] g p phase at i start rest left places k h = absurd (omega (arith, h))
-  run_writes (w ∷ ws) g p phase at i start rest left places zero h =
-      let put : Put = record { address = at i; word = w } in
-      let asked = put_asks g p phase put (row_puts at (suc i) ws ++ rest) left in
-      let there : place g.setup.shape (at i) ≡ start + 0 =
-      (let same : i ≡ i + 0 = omega arith in ap (λ (k : ℕ). place g.setup.shape (at k)) same) ∙ places 0 in (
-        ap (λ (a : Ask). action_of g.setup.shape a) asked ∙ ap (λ (k : ℕ). Store k w) there,
-        put_goes_on g p phase put (row_puts at (suc i) ws ++ rest) left,
-      )
-  run_writes (w ∷ ws) g p phase at i start rest left places (suc k) h =
-      let put : Put = record { address = at i; word = w } in
-      let more = row_puts at (suc i) ws ++ rest in
-      let next : Going = later g 1 (storing g c (p + 1)) in
-      let one = run_writes ws next (p + 1) refl at (suc i) (start + 1) rest (put_left g p phase put more left)
-      (λ j. (let same : suc i + j ≡ i + (j + 1) = omega arith in ap (λ (n : ℕ). place g.setup.shape (at n)) same)
-      ∙ places (j + 1) ∙ (let e : start + (j + 1) ≡ start + 1 + j = omega arith in e))
-      k (omega (arith, h)) in
-      let there : goes_by g (replicate (suc k) 0) ≡ goes_by next (replicate k 0) =
-      ap (λ (f : Going). goes_by f (replicate k 0)) (put_goes g p phase put more left) in (
-        ap action there ∙ one.0 ∙ (let e : start + 1 + k ≡ start + suc k = omega arith in
-            ap (λ (n : ℕ). Store n (slice_index ws k)) e),
-        subst (λ (f : Going). IsGoing f.phase) (sym there) one.1,
-      )
-
-  pub run_goes : (row : List ℕ) (g : Going) (p : ℕ) → g.phase ≡ storing g c p →
-      (at : ℕ → Address) (i : ℕ) (rest : List Put) →
-      drop p (puts_of g c) ≡ row_puts at i row ++ rest →
-      (goes_by g (replicate (length row) 0) ≡ later g (length row) (storing g c (p + length row)))
-      × (drop (p + length row) (puts_of g c) ≡ rest)
-  run_goes [] g p phase at i rest left =
-      let none : p ≡ p + 0 = omega arith in
-      let spent : g.flight.steps ≡ g.flight.steps + 0 = omega arith in (
-        (λ j. record {
-          setup = g.setup;
-          seat = g.seat;
-          account = g.account;
-          flight = record g.flight { steps = spent j };
-          phase = (phase ∙ ap (storing g c) none) j;
-        }),
-        sym (ap (λ (k : ℕ). drop k (puts_of g c)) none) ∙ left,
-      )
-  run_goes (w ∷ ws) g p phase at i rest left =
-      let put : Put = record { address = at i; word = w } in
-      let more = row_puts at (suc i) ws ++ rest in
-      let next : Going = later g 1 (storing g c (p + 1)) in
-      let all = run_goes ws next (p + 1) refl at (suc i) rest (put_left g p phase put more left) in
-      let n : ℕ = length ws in
-      let sum : p + 1 + n ≡ p + suc n = omega arith in
-      let steps : 1 + n ≡ suc n = omega arith in (
-        ap (λ (f : Going). goes_by f (replicate n 0)) (put_goes g p phase put more left) ∙ all.0
-            ∙ later_later g 1 n (storing g c (p + 1)) (storing g c (p + 1 + n))
-            ∙ (λ j. later g (steps j) (storing g c (sum j))),
-        sym (ap (λ (k : ℕ). drop k (puts_of g c)) sum) ∙ all.1,
-      )
-
--- what is left after these stores
-pub drop_past : (puts front rest : List Put) (p n : ℕ) → drop p puts ≡ front ++ rest → length front ≡ n →
-    drop (p + n) puts ≡ rest
-drop_past puts front rest p n left long =
-    sym (drop-drop n p puts) ∙ ap (drop n) left ∙ drop_at front rest n long
-
--- a row has a store for each word
-pub length-row_puts : (at : ℕ → Address) (i : ℕ) (row : List ℕ) → length (row_puts at i row) ≡ length row
-length-row_puts at i [] = refl
-length-row_puts at i (w ∷ ws) = ap suc (length-row_puts at (suc i) ws)
-
--- one leaf, and those after it
-module _ (setup : Setup) (base : NewLeaf → Option ℕ) (bucket row : ℕ) (leaf : NewLeaf) where
-  -- a leaf has a store for its word and one for each word of its row
-  pub length-leaf : length (leaf_puts setup base bucket row (leaf ∷ [])) ≡ 1 + bucket_row_words (settings_of setup)
-  length-leaf =
-      let words = bucket_words setup (base leaf) leaf.bucket in
-      let puts = row_puts (BucketRowWord row) 0 words in
-      ap (λ (ps : List Put). suc (length ps)) (append-nil puts)
-      ∙ ap suc (length-row_puts (BucketRowWord row) 0 words
-      ∙ length-bucket (settings_of setup) (row_of_state (base leaf) leaf.bucket))
-      ∙ (let n : ℕ = bucket_row_words (settings_of setup) in let e : suc n ≡ 1 + n = omega arith in e)
-
-  pub leaf_first : (leaves : List NewLeaf) (rest : List Put) →
-      leaf_puts setup base bucket row (leaf ∷ leaves) ++ rest ≡ leaf_puts setup base bucket row (leaf ∷ [])
-      ++ (leaf_puts setup base (suc bucket) (suc row) leaves ++ rest)
-  leaf_first leaves rest =
-      let puts = row_puts (BucketRowWord row) 0 (bucket_words setup (base leaf) leaf.bucket) in
-      let more = leaf_puts setup base (suc bucket) (suc row) leaves in
-      ap (λ (ps : List Put). record { address = BucketWord bucket; word = row } ∷ ps)
-      (append_assoc puts more rest ∙ ap (λ (ps : List Put). ps ++ (more ++ rest)) (sym (append-nil puts)))
-
--- all is stored
-pub all_stored : (g : Going) (c : Changing) (p : ℕ) → drop p (puts_of g c) ≡ [] →
-    storing g c p ≡ DirExchange c.round c.attempt c.found c.loaded
-all_stored g c p none =
-    let few : length (puts_of g c) ≤ p = omega (
-      arith,
-      ap (λ (ps : List Put). length ps) none,
-      length-drop p (puts_of g c),
-    ) in
-    cond-false (nat_lt p (length (puts_of g c))) (DirStore c.round c.attempt c.found c.loaded p)
-    (DirExchange c.round c.attempt c.found c.loaded) (lt_false p (length (puts_of g c)) few)
-
--- the leaves come first, and then the directory row
-pub puts_are : (g : Going) (c : Changing) → puts_of g c
-    ≡ leaf_puts g.setup (base_of_leaf c.loaded) (next_number g.setup g.seat BucketWords g.account.used)
-    (next_number g.setup g.seat BucketRows g.account.used) (made_leaves g.setup c.attempt c.found c.loaded)
-    ++ directory_row_puts g c
+-- all that a directory try stores: its leaves, and then its directory row
+pub puts_are : (setup : Setup) (seat : ℕ) (used : SeatRows) (attempt : DirectoryTry) (found : List (Option Op))
+    (loaded : List LoadedBucket) → directory_puts setup seat used attempt found loaded
+    ≡ leaf_puts setup (base_of_leaf loaded) (next_number setup seat BucketWords used)
+    (next_number setup seat BucketRows used) (made_leaves setup attempt found loaded)
+    ++ row_puts (DirectoryWord (next_number setup seat DirRows used)) 0
+    (directory_words (Some attempt.root) (made_directory setup seat used attempt found loaded))
 unfolding directory_puts
-puts_are g c = refl
+puts_are setup seat used attempt found loaded = refl
 
--- the leaf at a place, and those after it
-pub leaf_at : (leaves : List PlainLeaf) (i : ℕ) (leaf : PlainLeaf) → i < length leaves →
-    leaf ≡ get_or leaves i leaf → drop i (map as_leaf leaves) ≡ as_leaf leaf ∷ drop (suc i) (map as_leaf leaves)
-leaf_at [] i leaf h is = absurd (omega (arith, h))
-leaf_at (l ∷ ls) zero leaf h is = ap (λ (x : PlainLeaf). as_leaf x ∷ map as_leaf ls) (sym is)
-leaf_at (l ∷ ls) (suc i) leaf h is = leaf_at ls i leaf (omega (arith, h)) is
+-- the new directory has no more entries than one of the greatest depth
+pub entries_few : (fresh most : ℕ) (leaves : List NewLeaf) (directory : DirectoryState) → directory.depth ≤ most →
+    All (λ leaf. leaf.bucket.depth ≤ most) leaves → length (with_leaves fresh leaves directory).entries ≤ 2 ^ most
+unfolding with_leaves
+entries_few fresh most leaves directory le each =
+    let few = fewer_places _ most (depth_after-least directory leaves most le each) in
+    subst (λ (n : ℕ). n ≤ 2 ^ most) (sym (length-first_values _ _)) few
 
--- what holds of all leaves holds of the leaf at a place
-pub leaf_all : (P : NewLeaf → Type 0) (leaves : List PlainLeaf) (i : ℕ) (leaf : PlainLeaf) →
-    All P (map as_leaf leaves) → i < length leaves → leaf ≡ get_or leaves i leaf → P (as_leaf leaf)
-leaf_all P [] i leaf all h is = absurd (omega (arith, h))
-leaf_all P (l ∷ ls) zero leaf all h is = subst (λ (x : PlainLeaf). P (as_leaf x)) (sym is)
-    (All-head P (as_leaf l) (map as_leaf ls) all)
-leaf_all P (l ∷ ls) (suc i) leaf all h is = leaf_all P ls i leaf (All-tail P (as_leaf l) (map as_leaf ls) all)
-    (omega (arith, h)) is
-
--- one leaf more is stored
-module _ (first : Going) (c : Changing) (stored bucket number : ℕ) (leaf : NewLeaf) (leaves : List NewLeaf)
-    (rest : List Put)
-    (left : drop stored (puts_of first c) ≡ leaf_puts first.setup (base_of_leaf c.loaded) bucket number
-    (leaf ∷ leaves) ++ rest) where
-  -- what comes after the leaf
-  abbrev pub after_leaf : List Put
-  after_leaf = leaf_puts first.setup (base_of_leaf c.loaded) (suc bucket) (suc number) leaves ++ rest
-
-  pub leaf_next : (now : Going) → now ≡ later first stored (storing first c stored) →
-      ComesNext now c stored (puts_of_leaf now c bucket number leaf)
-  leaf_next now goes =
-      subst (λ (h : Going). ComesNext h c stored (puts_of_leaf h c bucket number leaf)) (sym goes) (record {
-        phase = refl;
-        rest = after_leaf;
-        left = left ∙ leaf_first first.setup (base_of_leaf c.loaded) bucket number leaf leaves rest;
-      })
-
-  pub leaf_left : (n : ℕ) → n ≡ 1 + bucket_row_words (settings_of first.setup) →
-      drop (stored + n) (puts_of first c) ≡ after_leaf
-  leaf_left n is =
-      drop_past (puts_of first c) (puts_of_leaf first c bucket number leaf) after_leaf stored n
-      (left ∙ leaf_first first.setup (base_of_leaf c.loaded) bucket number leaf leaves rest)
-      (length-leaf first.setup (base_of_leaf c.loaded) bucket number leaf ∙ sym is)
-
-  pub leaf_goes : (now last : Going) (n : ℕ) → n ≡ 1 + bucket_row_words (settings_of first.setup) →
-      now ≡ later first stored (storing first c stored) →
-      last ≡ later now (1 + bucket_row_words (settings_of now.setup))
-      (storing now c (stored + (1 + bucket_row_words (settings_of now.setup)))) →
-      last ≡ later first (stored + n) (storing first c (stored + n))
-  leaf_goes now last n is goes next =
-      let size : ℕ = 1 + bucket_row_words (settings_of first.setup) in
-      next ∙ ap (λ (h : Going). later h (1 + bucket_row_words (settings_of h.setup))
-      (storing h c (stored + (1 + bucket_row_words (settings_of h.setup))))) goes
-      ∙ later_later first stored size (storing first c stored) (storing first c (stored + size))
-      ∙ ap (λ (k : ℕ). later first (stored + k) (storing first c (stored + k))) (sym is)
-
--- a directory row comes next: its depth, its base and its entries
-module _ (f : Going) (c : Changing) (p number depth base : ℕ) (entries : List ℕ) (phase : f.phase ≡ storing f c p)
-    (left : drop p (puts_of f c) ≡ row_puts (DirectoryWord number) 0 (depth ∷ base ∷ entries)) where
-  -- the depth
-  abbrev first_put : Put
-  first_put = record { address = DirectoryWord number 0; word = depth }
-
-  abbrev second_put : Put
-  second_put = record { address = DirectoryWord number 1; word = base }
-
-  abbrev rest_puts : List Put
-  rest_puts = row_puts (DirectoryWord number) 2 entries
-
-  pub depth_asks : asks f ≡ Ask.Store (DirectoryWord number 0) depth
-  depth_asks = put_asks c f p phase first_put (second_put ∷ rest_puts) left
-
-  pub depth_goes : (mid : Going) → mid ≡ goes f 0 → mid ≡ later f 1 (storing f c (p + 1))
-  depth_goes mid goes = goes ∙ put_goes c f p phase first_put (second_put ∷ rest_puts) left
-
-  after_depth : drop (p + 1) (puts_of f c) ≡ second_put ∷ rest_puts
-  after_depth = put_left c f p phase first_put (second_put ∷ rest_puts) left
-
-  pub base_asks : (mid : Going) → mid ≡ goes f 0 →
-      action mid ≡ Store (place f.setup.shape (DirectoryWord number 1)) base
-  base_asks mid goes =
-      ap action (depth_goes mid goes)
-      ∙ ap (λ (a : Ask). action_of f.setup.shape a)
-      (put_asks c (later f 1 (storing f c (p + 1))) (p + 1) refl second_put rest_puts after_depth)
-
-  pub base_goes_on : (mid : Going) → mid ≡ goes f 0 → IsGoing mid.phase
-  base_goes_on mid goes =
-      subst (λ (h : Going). IsGoing h.phase) (sym (depth_goes mid goes))
-      (put_goes_on c (later f 1 (storing f c (p + 1))) (p + 1) refl second_put rest_puts after_depth)
-
-  pub base_goes : (mid two : Going) → mid ≡ goes f 0 → two ≡ goes mid 0 → two ≡ later f 2 (storing f c (p + 1 + 1))
-  base_goes mid two goes_mid goes_two =
-      goes_two ∙ ap (λ (h : Going). goes h 0) (depth_goes mid goes_mid)
-      ∙ put_goes c (later f 1 (storing f c (p + 1))) (p + 1) refl second_put rest_puts after_depth
-      ∙ later_later f 1 1 (storing f c (p + 1)) (storing f c (p + 1 + 1))
-
-  after_base : drop (p + 1 + 1) (puts_of f c) ≡ rest_puts ++ []
-  after_base = put_left c (later f 1 (storing f c (p + 1))) (p + 1) refl second_put rest_puts after_depth
-      ∙ sym (append-nil rest_puts)
-
-  pub entries_write : (two : Going) (start : ℕ) → two ≡ later f 2 (storing f c (p + 1 + 1)) →
-      start ≡ place f.setup.shape (DirectoryWord number 2) → Writes two start entries
-  entries_write two start goes at =
-      subst (λ (h : Going). Writes h start entries) (sym goes)
-      (run_writes c entries (later f 2 (storing f c (p + 1 + 1))) (p + 1 + 1) refl
-      (DirectoryWord number) 2 start [] after_base (λ k. omega (arith, at)))
-
-  pub entries_goes : (two last : Going) → two ≡ later f 2 (storing f c (p + 1 + 1)) →
-      last ≡ goes_by two (replicate (length entries) 0) →
-      last ≡ later f (2 + length entries) (DirExchange c.round c.attempt c.found c.loaded)
-  entries_goes two last goes then_last =
-      let n : ℕ = length entries in
-      let h = later f 2 (storing f c (p + 1 + 1)) in
-      let all = run_goes c entries h (p + 1 + 1) refl (DirectoryWord number) 2 [] after_base in
-      then_last ∙ ap (λ (k : Going). goes_by k (replicate n 0)) goes ∙ all.0
-      ∙ later_later f 2 n (storing f c (p + 1 + 1)) (storing f c (p + 1 + 1 + n))
-      ∙ ap (later f (2 + n)) (all_stored f c (p + 1 + 1 + n) all.1)
-
--- a directory try stores something
-pub begins_storing : (g : Going) (c : Changing) → DirStore c.round c.attempt c.found c.loaded 0 ≡ storing g c 0
-begins_storing g c =
-    let leaves = leaf_puts g.setup (base_of_leaf c.loaded) (next_number g.setup g.seat BucketWords g.account.used)
-    (next_number g.setup g.seat BucketRows g.account.used) (made_leaves g.setup c.attempt c.found c.loaded) in
-    let many : length (puts_of g c) ≡ length leaves + length (directory_row_puts g c) =
-    ap (λ (ps : List Put). length ps) (puts_are g c) ∙ length-append leaves (directory_row_puts g c) in
-    let some : 0 < length (puts_of g c) = omega (arith, many) in
-    sym (cond-true (nat_lt 0 (length (puts_of g c))) (DirStore c.round c.attempt c.found c.loaded 0)
-    (DirExchange c.round c.attempt c.found c.loaded) (lt-ltb 0 (length (puts_of g c)) some))
+-- the answer is not in the leaf at this place
+pub leaf_passed : (rules : Rules) (seat : ℕ) (flight : Flight) (row : ℕ) (leaves : List Made) (i : ℕ) (leaf : Made) →
+    i < length leaves → leaf ≡ get_or leaves i leaf → is_in rules (key_in flight.call) (state_of leaf.bucket) ≡ false →
+    answered_by_leaf rules seat flight (row + i) (map as_leaf (drop i leaves))
+    ≡ answered_by_leaf rules seat flight (row + (i + 1)) (map as_leaf (drop (i + 1) leaves))
+leaf_passed rules seat flight row leaves i leaf inside is other =
+    let next : map as_leaf (drop i leaves) ≡ as_leaf leaf ∷ map as_leaf (drop (suc i) leaves) =
+    ap (map as_leaf) (drop-cons leaves i leaf inside ∙ ap (λ l. l ∷ drop (suc i) leaves) (sym is)) in
+    ap (answered_by_leaf rules seat flight (row + i)) next
+    ∙ ap (λ (b : Bool). if b then answered_by seat (state_of leaf.bucket) (row + i) else
+    answered_by_leaf rules seat flight (row + i + 1) (map as_leaf (drop (suc i) leaves))) other
+    ∙ ap (λ k. answered_by_leaf rules seat flight k (map as_leaf (drop (suc i) leaves)))
+    (let e : row + i + 1 ≡ row + (i + 1) = omega arith in e)
+    ∙ ap (λ k. answered_by_leaf rules seat flight (row + (i + 1)) (map as_leaf (drop k leaves)))
+    (let e : suc i ≡ i + 1 = omega arith in e)

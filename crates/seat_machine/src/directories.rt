@@ -1,81 +1,70 @@
-//! The leg of a directory try that loads the directory, and where a key's bucket stands in it.
+//! The directory row of a directory try, word by word.
 
-ghost use Rattle.std.specs.Prelude.{◌≡◌, ◌+◌, ◌<◌, ◌≤◌, ◌^◌, vec_capacity, vec_len};
-ghost use Rattle.bucket_machine.specs.HashedKeys.{IsHashed};
-ghost use Rattle.core_model.specs.Directories.{bucket_of};
-ghost use Rattle.core_model.specs.Goes.{after_directory};
-ghost use Rattle.core_model.specs.Phases.{DirRoot};
-ghost use Rattle.dir_states.specs.Rooms.{HasPlaces};
+ghost use Rattle.std.specs.Prelude.{◌≡◌, ◌≤◌, [], length};
+ghost use Rattle.table_model.specs.Fits.{Finds};
+ghost use Rattle.table_model.specs.Goes.{after_directory};
 ghost use Rattle.dir_states.specs.Views.{as_directory};
-ghost use Rattle.seat_machine.specs.Going.{later};
-ghost use Rattle.seat_machine.specs.Desks.{IsOf, settings_at};
-ghost use Rattle.seat_machine.specs.Tries.{directory_tried};
+ghost use Rattle.seat_machine.specs.Stages.{directory_try_of, phase_at};
 
-use crate::desk::Desk;
-use crate::runs::load_run;
-use crate::steps::Steps;
-use bucket_machine::Hashed;
-use core_model::Round;
-use dir_states::DirState;
-use hash_bits::bits;
-use plain_map::{Key, Rules};
-use step_counts::DIRECTORY_HEAD_WORDS;
+use crate::endings::after_round;
+use crate::machine::Machine;
+use crate::stage::Stage;
+use table_model::Round;
 
-// A directory of this depth, whose entries are to be filled in.
-fn make_places(directory: &mut DirState, depth: u32)
-    requires depth { depth ≤ 12 }
-    requires room { 2 ^ depth ≤ vec_capacity directory.old.entries }
-    ensures depth { directory.new.depth ≡ depth }
-    ensures entries { vec_len directory.new.entries ≡ 2 ^ depth }
-    ensures room { vec_capacity directory.new.entries ≡ vec_capacity directory.old.entries }
-{
-    directory.depth = depth;
-    directory.entries.clear();
-    for _ in 0..1usize << depth {
-        directory.entries.push_reserved(0);
+impl Machine {
+    ghost use Rattle.seat_machine.specs.Stands.{IsKept, StageStands};
+    ghost use Rattle.seat_machine.specs.Steps.{KeepsCall};
+    ghost use Rattle.seat_machine.specs.View.{flight_of, held_of, phase_of, phase_then, setup_of, sizes};
+
+    /// The depth of a directory row.
+    pub fn take_depth(&mut self, round: Round, turn: u64, first: u64, root: u64, word: u64)
+        requires kept { IsKept self.old }
+        requires stage { self.old.stage ≡ Stage.DirDepth round turn first root }
+        requires finds { Finds (setup_of self.old) (phase_of self.old) word }
+        ensures phase { phase_of self.new ≡ phase_then self.old word }
+        ensures same { KeepsCall self.old self.new }
+        ensures kept { IsKept self.new }
+    {
+        self.directory.depth = word as u32;
+        self.directory.entries.clear();
+        self.stage = Stage::DirEntries(round, turn, first, root, word);
     }
-}
 
-/// Loads the directory: its row, and the first row of the round's directory tries.
-pub fn load_directory<S: Steps>(
-    steps: &mut S,
-    desk: &Desk,
-    round: &Round,
-    turn: u64,
-    first: Option<u64>,
-    directory: &mut DirState,
-) -> (u64, u64)
-    requires phase { (S.now steps.old).phase ≡ DirRoot round.now turn first }
-    requires desk { IsOf (S.now steps.old) desk.now }
-    requires room { HasPlaces (settings_at desk.now).depth directory.old }
-    ensures goes { S.now steps.new ≡ later (S.now steps.old) (2 + vec_len directory.new.entries)
-        (after_directory (S.now steps.old).setup (S.now steps.old).flight round.now
-        (directory_tried turn result.1 result.0 (as_directory directory.new))) }
-    ensures depth { directory.new.depth ≤ (settings_at desk.now).depth }
-    ensures entries { vec_len directory.new.entries ≡ 2 ^ directory.new.depth }
-    ensures room { HasPlaces (settings_at desk.now).depth directory.new }
-{
-    let root = steps.load(desk.layout.root());
-    let first = first.unwrap_or(root);
-    steps.stands();
-    let start = desk.directory_row(root);
-    let depth = steps.load(start) as u32;
-    make_places(directory, depth);
-    load_run(
-        steps,
-        start + DIRECTORY_HEAD_WORDS as u64,
-        &mut directory.entries,
-    );
-    (root, first)
-}
+    /// An entry of a directory row.
+    pub fn take_entry(
+        &mut self,
+        round: Round,
+        turn: u64,
+        first: u64,
+        root: u64,
+        depth: u64,
+        word: u64,
+    )
+        requires kept { IsKept self.old }
+        requires stage { self.old.stage ≡ Stage.DirEntries round turn first root depth }
+        ensures phase { phase_of self.new ≡ phase_then self.old word }
+        ensures same { KeepsCall self.old self.new }
+        ensures kept { IsKept self.new }
+    {
+        self.directory.entries.push_reserved(word);
+        if self.directory.entries.len() == 1 << depth {
+            self.found.clear();
+            self.stage = self.after_directory(round, turn, first, root);
+        }
+    }
 
-/// The number of the bucket of a key.
-#[tactic(auto, unfolding(bucket_states::specs::Items::prefix_of))]
-pub fn bucket_in(rules: &Rules, own: &Hashed, directory: &DirState, key: &Key) -> u64
-    requires own { IsHashed rules.now.hashing own.now }
-    requires depth { directory.now.depth ≤ 64 }
-    requires entries { vec_len directory.now.entries ≡ 2 ^ directory.now.depth }
-    ensures { result ≡ bucket_of rules.now (as_directory directory.now) key.now }
-{
-    directory.entries[bits(own.hash_of(&rules.hashing, key), directory.depth) as usize]
+    // A directory row is loaded whole: there is a try only where it still names the bucket of the round.
+    fn after_directory(&self, round: Round, turn: u64, first: u64, root: u64) -> Stage
+        requires found { self.now.found.items ≡ [] }
+        requires depth { self.now.directory.depth ≤ (sizes self.now).depth }
+        ensures phase { phase_at result (held_of self.now) ≡ after_directory (setup_of self.now) (flight_of self.now)
+            round (directory_try_of turn first root (as_directory self.now.directory)) }
+        ensures stands { StageStands self.now result }
+    {
+        if self.directory.bucket_of(&self.rules(), self.call.key()) == round.bucket {
+            Stage::DirAnnouncement(round, turn, first, root)
+        } else {
+            after_round(round)
+        }
+    }
 }

@@ -1,43 +1,30 @@
-//! A seat's call as straight code over steps.
+//! A seat's call as a machine that is given one word at a time.
 //!
-//! **Words:** the seat's own announcement, done word, op rows, bucket rows, bucket words and directory rows are stored
-//! by this seat alone; the root and the bucket words of the table change by exchanges.
-//! **Keeps:** each step is the one that the definition of the core asks for, and leads to the state that it gives.
-//! **Steps:** a lookup's are 6, one for each seat and three for each item of its row; an update's are told by its
-//! record.
-//! **Why it ends:** a round has three looks at a bucket and two directory tries at most, and there are two rounds. No
-//! loop waits for a word.
+//! **Stands for:** the program of its seat that the core's definitions have: what it has published, how many calls it
+//! has answered, and its call in flight.
+//! **Keeps:** what it asks for next, and where it goes by the word that it found, are exactly those of that program.
+//! **Memory:** all that the seat will ever need is taken when the machine is made. A row that it stores is made once,
+//! as its first word is asked for.
 #![tactic(auto)]
 
-mod announcing;
-mod asking;
-mod desk;
+mod asks;
+mod bucket_tries;
+mod changes;
 mod directories;
 mod directory_tries;
-mod finding;
-mod last_looks;
-mod limits;
-mod loading;
-mod looking;
+mod endings;
+mod loads;
 mod lookups;
+mod machine;
+mod opens;
 mod ops;
-mod own;
-mod room;
-mod rounds;
-mod rows;
-mod runs;
-mod steps;
-mod storing;
-mod tries;
-mod updates;
-mod words;
+mod passes;
+mod puts;
+mod seat;
+mod stage;
+mod takes;
 
-pub use desk::Desk;
-pub use limits::MOST_WORDS;
-pub use lookups::{glance, lookup};
-pub use room::Room;
-pub use steps::Steps;
-pub use updates::update;
+pub use seat::SeatMachine;
 
 #[cfg(test)]
 mod tests;

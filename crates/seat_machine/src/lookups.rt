@@ -1,77 +1,134 @@
-//! A whole lookup.
+//! The done words, the announcement, and a lookup's items.
 
-ghost use Rattle.std.specs.Prelude.{◌≡◌, ℕ, ◌^◌, ◌<◌, ◌≤◌, All, length};
-ghost use Rattle.plain_map.specs.declared.calls.Call.TheVariants.{Lookup};
-ghost use Rattle.step_counts.specs.StepCounts.{lookup_steps};
-ghost use Rattle.core_model.specs.declared.rounds.Aim.TheVariants.{ForLookup};
-ghost use Rattle.core_model.specs.Phases.{FindRoot, StoreDone};
-ghost use Rattle.core_model.specs.SeatStates.{seen_counts};
-ghost use Rattle.seat_machine.specs.Going.{Begins, later};
-ghost use Rattle.seat_machine.specs.Desks.{IsOf};
+ghost use Rattle.std.specs.Prelude.{◌≡◌, ◌+◌, ◌*◌, ◌^◌, ◌≤◌, ◌<◌, length, vec_capacity};
+ghost use Rattle.step_counts.specs.declared.TheConstants.{ITEM_WORDS as WORDS};
+ghost use Rattle.word_rows.specs.BucketWords.{items_of_words};
+ghost use Rattle.word_rows.specs.Shape.{AreBelow};
+ghost use Rattle.bucket_states.specs.Items.{reply_in};
+ghost use Rattle.table_model.specs.Fits.{Finds};
+ghost use Rattle.table_model.specs.Goes.{more, used_after};
+ghost use Rattle.table_model.specs.Setup.{rules_of};
 
-use crate::desk::Desk;
-use crate::finding::{find, see_done};
-use crate::looking::look;
-use crate::steps::Steps;
-use core_model::Aim;
-use plain_map::{Call, Key, MOST_SEATS, Record, Reply, Seen};
+use crate::machine::Machine;
+use crate::stage::Stage;
+use plain_map::{Call, Pair, Reply};
 use step_counts::ITEM_WORDS;
+use table_model::Aim;
+use word_rows::{OpRow, read_pair, write_op};
 
-/// The seen counts as they stand in a record.
-#[inline(always)]
-pub fn counts(seen: &[u64]) -> Seen
-    requires long { length seen.now ≤ MOST_SEATS }
-    requires few { All (λ n. n < 2 ^ 32) seen.now }
-    ensures { result ≡ seen_counts seen.now }
-{
-    let mut counts = [0; MOST_SEATS];
-    for i in 0..seen.len() {
-        counts[i] = seen[i] as u32;
+impl Machine {
+    ghost use Rattle.seat_machine.specs.Room.{HasAllRoom};
+    ghost use Rattle.seat_machine.specs.Stands.{CallStands, IsKept};
+    ghost use Rattle.seat_machine.specs.Steps.{KeepsCall};
+    ghost use Rattle.seat_machine.specs.View.{flight_of, phase_of, phase_then, setup_of, sizes};
+
+    /// A done word.
+    pub fn take_done(&mut self, word: u64)
+        requires kept { IsKept self.old }
+        requires stage { self.old.stage ≡ Stage.SeeDone }
+        requires finds { Finds (setup_of self.old) (phase_of self.old) word }
+        requires number { self.old.number < 2 ^ 32 }
+        ensures phase { phase_of self.new ≡ phase_then self.old word }
+        ensures flight { flight_of self.new ≡ record (flight_of self.old) { seen = more self.old.seen.items word } }
+        ensures setup { setup_of self.new ≡ setup_of self.old }
+        ensures seat { self.new.seat ≡ self.old.seat }
+        ensures count { self.new.count ≡ self.old.count }
+        ensures used { self.new.used ≡ self.old.used }
+        ensures kept { IsKept self.new }
+    {
+        self.seen.push_reserved(word as u32);
+        if self.seen.len() == self.seats() {
+            if matches!(self.call, Call::Lookup(_)) {
+                self.stage = Stage::FindRoot(Aim::ForLookup);
+            } else {
+                let row = OpRow {
+                    number: self.number,
+                    call: self.call,
+                };
+                write_op(&row, &mut self.op);
+                self.stage = Stage::StoreOp(0);
+            }
+        }
     }
-    Seen { counts }
+
+    /// The announcement is stored.
+    pub fn take_announced(&mut self, word: u64)
+        requires kept { IsKept self.old }
+        requires stage { self.old.stage ≡ Stage.Announce }
+        requires used { AreBelow (2 ^ 62) self.old.used }
+        ensures phase { phase_of self.new ≡ phase_then self.old word }
+        ensures used { self.new.used ≡ used_after (setup_of self.old) self.old.used (phase_of self.old) word }
+        ensures flight { flight_of self.new ≡ flight_of self.old }
+        ensures setup { setup_of self.new ≡ setup_of self.old }
+        ensures seat { self.new.seat ≡ self.old.seat }
+        ensures count { self.new.count ≡ self.old.count }
+        ensures kept { IsKept self.new }
+    {
+        self.used.op_rows += 1;
+        self.stage = Stage::FindRoot(Aim::ForFirstRound);
+    }
+
+    /// The count of a row's items.
+    pub fn take_count(&mut self, row: u64, word: u64)
+        requires kept { IsKept self.old }
+        requires stage { self.old.stage ≡ Stage.LookCount row }
+        requires finds { Finds (setup_of self.old) (phase_of self.old) word }
+        ensures phase { phase_of self.new ≡ phase_then self.old word }
+        ensures same { KeepsCall self.old self.new }
+        ensures kept { IsKept self.new }
+    {
+        self.words.clear();
+        if word > 0 {
+            self.stage = Stage::LookItems(row, word);
+        } else {
+            let reply = self.reply(0);
+            self.stage = Stage::StoreDone(reply, row);
+        }
+    }
+
+    /// A word of a row's items.
+    pub fn take_item_word(&mut self, row: u64, count: u64, word: u64)
+        requires kept { IsKept self.old }
+        requires stage { self.old.stage ≡ Stage.LookItems row count }
+        ensures phase { phase_of self.new ≡ phase_then self.old word }
+        ensures same { KeepsCall self.old self.new }
+        ensures kept { IsKept self.new }
+    {
+        self.words.push_reserved(word);
+        if self.words.len() == count as usize * ITEM_WORDS {
+            let reply = self.reply(count as usize);
+            self.stage = Stage::StoreDone(reply, row);
+        }
+    }
+
+    // The reply by the items that the words spell.
+    fn reply(&mut self, count: usize) -> Reply
+        requires words { count * WORDS ≤ length self.old.words.items }
+        requires room { HasAllRoom self.old }
+        requires few { count ≤ (sizes self.old).items }
+        ensures reply { result ≡ reply_in (rules_of (setup_of self.old)) (items_of_words count self.old.words.items)
+            self.old.call }
+        ensures same { KeepsCall self.old self.new }
+        ensures words { self.new.words ≡ self.old.words }
+        ensures stage { self.new.stage ≡ self.old.stage }
+        ensures call { CallStands self.old → CallStands self.new }
+        ensures room { HasAllRoom self.new }
+    {
+        fill_items(&self.words, count, &mut self.base.items);
+        let rules = self.rules();
+        self.base.reply(&rules, &self.call)
+    }
 }
 
-/// Looks a key up.
-#[inline(always)]
-pub fn lookup<S: Steps>(steps: &mut S, desk: &Desk, packet: u32, number: u32, key: &Key) -> Record
-    requires begins { Begins (S.now steps.old) packet number (Lookup key.now) }
-    requires desk { IsOf (S.now steps.old) desk.now }
-    ensures answered { S.answered steps.new result (S.now steps.old).account.used }
+// So many items that the words spell.
+fn fill_items(words: &[u64], count: usize, into: &mut Vec<Pair>)
+    requires words { count * WORDS ≤ length words.now }
+    requires room { count ≤ vec_capacity into.old }
+    ensures items { into.new.items ≡ items_of_words count words.now }
+    ensures capacity { vec_capacity into.new ≡ vec_capacity into.old }
 {
-    let seats = desk.layout.settings().seats;
-    let mut room = [0; MOST_SEATS];
-    let words = &mut room[..seats as usize];
-    see_done(steps, desk, words);
-    let hash = key.hash(&desk.rules.hashing);
-    let (root, bucket) = find(steps, desk, Aim::ForLookup, hash);
-    let (row, count, reply) = look(steps, desk, root, bucket, key);
-    steps.finish(desk.layout.done(desk.seat), number as u64);
-    // The record is made last, since the store of the done word waits for all that is written before it.
-    let seen = counts(words);
-    Record {
-        seat: desk.seat,
-        number,
-        packet,
-        call: Call::Lookup(*key),
-        reply,
-        steps: seats as u64 + 6 + ITEM_WORDS as u64 * count,
-        seen,
-        place: row,
+    into.clear();
+    for i in 0..count {
+        into.push_reserved(read_pair(&words[i * ITEM_WORDS..(i + 1) * ITEM_WORDS]));
     }
-}
-
-/// Looks a key up by loads alone: the part of a lookup that tells its reply.
-///
-/// **Steps:** 5, and seven for each item of the row that it reads.
-#[inline(always)]
-pub fn glance<S: Steps>(steps: &mut S, desk: &Desk, key: &Key) -> Reply
-    requires phase { (S.now steps.old).phase ≡ FindRoot ForLookup }
-    requires call { (S.now steps.old).flight.call ≡ Lookup key.now }
-    requires desk { IsOf (S.now steps.old) desk.now }
-    ensures { (row : ℕ) × ((spent : ℕ) × (S.now steps.new ≡ later (S.now steps.old) spent (StoreDone result row))) }
-{
-    let hash = key.hash(&desk.rules.hashing);
-    let (root, bucket) = find(steps, desk, Aim::ForLookup, hash);
-    let (_, _, reply) = look(steps, desk, root, bucket, key);
-    reply
 }

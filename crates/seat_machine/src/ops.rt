@@ -1,137 +1,93 @@
-//! The leg of a try that finds what all seats announce.
-//!
-//! **Words**: each seat's announcement and the op row that it names. All are loaded, none is stored.
-//! **Keeps**: a try takes this leg after it has loaded the word that it will exchange, a bucket word or the root. So if
-//! the exchange happens, it has every op that was announced before that word was loaded. All helping rests on this
-//! order of loads. In the proof: the fields `late` of `Found` and `DirFound` in `core_history/proofs/Ghost.antt`.
-//! **Steps**: at most `1 + OP_WORDS` a seat.
+//! What is read from the words of a row that was loaded whole: an op, or a bucket.
 
-ghost use Rattle.std.specs.Prelude.{◌≡◌, ◌+◌, ◌*◌, ◌<◌, ◌≤◌, ◌^◌, [], IfSome, Some, length};
-ghost use Rattle.word_rows.specs.Places.{place};
-ghost use Rattle.word_rows.specs.declared.addresses.Address.TheVariants.{OpWord};
-ghost use Rattle.bucket_states.specs.Values.{AreUpdates, IsUpdate};
-ghost use Rattle.core_model.specs.Setup.{seats_of};
-ghost use Rattle.core_model.specs.Goes.{more, op_in_words};
-ghost use Rattle.core_model.specs.Fits.{IsOpSoFar, Makes};
-ghost use Rattle.seat_machine.specs.Going.{later};
-ghost use Rattle.seat_machine.specs.Desks.{IsOf};
-ghost use Rattle.seat_machine.specs.Found.{IsSmallOp};
-ghost use Rattle.seat_machine.specs.Tries.{after_all_ops, after_ops, announcing, reading};
+ghost use Rattle.std.specs.Prelude.{◌≡◌, ◌<◌, length};
+ghost use Rattle.step_counts.specs.declared.TheConstants.{OP_WORDS as WORDS};
+ghost use Rattle.step_counts.specs.StepCounts.{bucket_row_words};
+ghost use Rattle.plain_map.specs.Rows.{HasBucketRoom};
+ghost use Rattle.word_rows.specs.BucketWords.{SpellSomeBucket, bucket_of_words};
+ghost use Rattle.word_rows.specs.LayoutView.{shape_of};
+ghost use Rattle.bucket_states.specs.States.{state_in_row, state_of};
+ghost use Rattle.table_model.specs.Fits.{IsOpSoFar};
+ghost use Rattle.table_model.specs.Goes.{bucket_in_words, op_in_words};
+ghost use Rattle.dir_states.specs.Views.{as_loaded};
+ghost use Rattle.seat_machine.specs.Room.{HasLoadedRoom};
 
-use crate::asking::Trying;
-use crate::desk::Desk;
-use crate::limits::FINDING_STEPS;
-use crate::runs::load_run;
-use crate::steps::Steps;
+use crate::machine::Machine;
 use bucket_states::Op;
-use plain_map::MOST_SEATS;
-use step_counts::OP_WORDS;
-use word_rows::{read_op, row_laws};
+use dir_states::Loaded;
+use plain_map::BucketRow;
+use word_rows::{Layout, read_op, row_laws};
 
-// The op that these words spell.
-#[inline(always)]
-fn read_found(words: &[u64; OP_WORDS], seat: usize) -> Op
-    requires spelled { IsOpSoFar words.now }
-    requires seats { seat < MOST_SEATS }
-    ensures is { result ≡ op_in_words seat words.now }
-    ensures small { IsSmallOp result }
+impl Machine {
+    ghost use Rattle.seat_machine.specs.Room.{HasAllRoom};
+    ghost use Rattle.seat_machine.specs.Stands.{IsOfTable};
+    ghost use Rattle.seat_machine.specs.Steps.{KeepsCall};
+    ghost use Rattle.seat_machine.specs.View.{setup_of, sizes};
+
+    /// The loaded words as the op of the next seat.
+    pub fn read_found(&self) -> Op
+        requires spelled { IsOpSoFar self.now.words.items }
+        requires whole { length self.now.words.items ≡ WORDS }
+        requires seats { length self.now.found.items < 8 }
+        ensures { result ≡ op_in_words (length self.now.found.items) self.now.words.items }
+    {
+        row_laws();
+        let Some(words) = self.words.as_array() else {
+            unreachable!()
+        };
+        let Some(row) = read_op(words) else {
+            unreachable!()
+        };
+        Op {
+            seat: self.found.len() as u32,
+            number: row.number,
+            call: row.call,
+        }
+    }
+
+    /// The loaded words as the bucket of a bucket try.
+    pub fn read_base(&mut self)
+        requires room { HasAllRoom self.old }
+        requires spelled { SpellSomeBucket (sizes self.old) self.old.words.items }
+        requires whole { length self.old.words.items ≡ length self.old.out.items }
+        ensures base { state_of self.new.base ≡ bucket_in_words (setup_of self.old) self.old.words.items }
+        ensures of_table { IsOfTable (sizes self.old) (state_of self.new.base) }
+        ensures same { KeepsCall self.old self.new }
+        ensures words { self.new.words ≡ self.old.words }
+        ensures found { self.new.found ≡ self.old.found }
+        ensures stage { self.new.stage ≡ self.old.stage }
+        ensures room { HasAllRoom self.new }
+    {
+        row_laws();
+        self.layout.read_bucket(&self.words, &mut self.row);
+        self.base.from_row(&self.row);
+    }
+}
+
+/// Reads a bucket that a directory try loaded from the words of its row.
+pub fn read_loaded(
+    layout: &Layout,
+    words: &[u64],
+    bucket: u64,
+    row: u64,
+    room: &mut BucketRow,
+    into: &mut Loaded,
+)
+    requires spelled { SpellSomeBucket (shape_of layout.now).settings words.now }
+    requires words { length words.now ≡ bucket_row_words (shape_of layout.now).settings }
+    requires room { HasBucketRoom (shape_of layout.now).settings.seats (shape_of layout.now).settings.items room.old }
+    requires into { HasLoadedRoom (shape_of layout.now).settings into.old }
+    ensures is { as_loaded into.new ≡ record {
+      bucket = bucket;
+      row = row;
+      state = state_in_row (bucket_of_words (shape_of layout.now).settings words.now);
+    } }
+    ensures room { HasBucketRoom (shape_of layout.now).settings.seats (shape_of layout.now).settings.items room.new }
+    ensures into { HasLoadedRoom (shape_of layout.now).settings into.new }
 {
     row_laws();
-    let Some(row) = read_op(words) else {
-        unreachable!()
-    };
-    Op {
-        seat: seat as u32,
-        number: row.number,
-        call: row.call,
-    }
-}
-
-// Loads an op row.
-#[inline(always)]
-fn load_op<S: Steps, A: Trying>(
-    steps: &mut S,
-    start: u64,
-    attempt: &A,
-    found: &[Option<Op>],
-    op: u64,
-) -> Op
-    requires phase { (S.now steps.old).phase ≡
-        reading (A.round attempt.now) (A.attempt attempt.now (S.now steps.old).setup) found.now op [] }
-    requires start { start ≡ place (S.now steps.old).setup.shape (OpWord op 0) }
-    requires few { start < 2 ^ 63 }
-    requires seats { length found.now < MOST_SEATS }
-    ensures goes { S.now steps.new ≡ later (S.now steps.old) OP_WORDS
-        (after_ops (S.now steps.old).setup (A.round attempt.now) (A.attempt attempt.now (S.now steps.old).setup)
-        (more found.now (Some result))) }
-    ensures makes { Makes (S.now steps.old).setup
-        (after_ops (S.now steps.old).setup (A.round attempt.now) (A.attempt attempt.now (S.now steps.old).setup)
-        (more found.now (Some result))) }
-    ensures small { IsSmallOp result }
-{
-    let mut words = [0; OP_WORDS];
-    load_run(steps, start, &mut words);
-    read_found(&words, found.len())
-}
-
-// Finds what the next seat announces, and tells how many steps that took.
-#[inline(always)]
-fn find_op<S: Steps, A: Trying>(
-    steps: &mut S,
-    desk: &Desk,
-    attempt: &A,
-    found: &[Option<Op>],
-) -> (Option<Op>, u64)
-    requires phase { (S.now steps.old).phase ≡
-        announcing (A.round attempt.now) (A.attempt attempt.now (S.now steps.old).setup) found.now }
-    requires desk { IsOf (S.now steps.old) desk.now }
-    ensures goes { S.now steps.new ≡ later (S.now steps.old) result.1
-        (after_ops (S.now steps.old).setup (A.round attempt.now) (A.attempt attempt.now (S.now steps.old).setup)
-        (more found.now result.0)) }
-    ensures makes { Makes (S.now steps.old).setup
-        (after_ops (S.now steps.old).setup (A.round attempt.now) (A.attempt attempt.now (S.now steps.old).setup)
-        (more found.now result.0)) }
-    ensures small { IfSome result.0 IsSmallOp }
-    ensures few { result.1 ≤ 1 + OP_WORDS }
-{
-    steps.stands();
-    let word = steps.load(desk.layout.announcement(found.len() as u32));
-    if word == 0 {
-        return (None, 1);
-    }
-    steps.stands();
-    let start = desk.layout.op_word(word - 1, 0);
-    let op = load_op(steps, start, attempt, found, word - 1);
-    (Some(op), 1 + OP_WORDS as u64)
-}
-
-/// Finds what all seats announce, and tells how many steps that took.
-#[inline(always)]
-pub fn find_ops<S: Steps, A: Trying>(
-    steps: &mut S,
-    desk: &Desk,
-    attempt: &A,
-    ops: &mut [Option<Op>],
-) -> u64
-    requires phase { (S.now steps.old).phase ≡
-        announcing (A.round attempt.now) (A.attempt attempt.now (S.now steps.old).setup) [] }
-    requires desk { IsOf (S.now steps.old) desk.now }
-    requires seats { length ops.old ≡ seats_of (S.now steps.old).setup }
-    ensures goes { S.now steps.new ≡ later (S.now steps.old) result
-        (after_all_ops (S.now steps.old).setup (A.round attempt.now)
-        (A.attempt attempt.now (S.now steps.old).setup) ops.new) }
-    ensures makes { Makes (S.now steps.old).setup
-        (after_all_ops (S.now steps.old).setup (A.round attempt.now)
-        (A.attempt attempt.now (S.now steps.old).setup) ops.new) }
-    ensures updates { AreUpdates ops.new }
-    ensures few { result ≤ FINDING_STEPS }
-    ensures len { length ops.new ≡ length ops.old }
-{
-    let mut spent = 0;
-    for i in 0..ops.len() {
-        let (op, more) = find_op(steps, desk, attempt, &ops[..i]);
-        ops[i] = op;
-        spent += more;
-    }
-    spent
+    layout.read_bucket(words, room);
+    into.bucket = bucket;
+    into.row = row;
+    into.state.from_row(room);
 }

@@ -1,23 +1,18 @@
 -- What a closed table and its seats leave is of a run.
-use Rattle.std.proofs.Common.{◌≡◌, ℕ, zero, suc, ◌+◌, ◌<◌, List, [], ◌∷◌, ◌++◌, length, map, Some, refl, sym, ap, ◌∙◌, subst, arith}
+use Rattle.std.proofs.Common.{◌≡◌, ℕ, suc, ◌+◌, ◌<◌, List, [], ◌∷◌, ◌++◌, length, map, Some, refl, sym, ap, ◌∙◌, subst, arith}
 use Rattle.std.specs.Prelude.{slice_get, flat_map}
 use Rattle.std.specs.List.{enumerate_from}
 use Rattle.std.proofs.lemmas.List.{same_lists, get_or-map}
 use Rattle.std.proofs.lemmas.Option.{get_or_from_slice_get, slice_get_within}
-use Rattle.core_model.specs.Setup.{Setup, seats_of}
-use Rattle.core_model.specs.SeatStates.{SeatState, Idle, fresh_seat}
-use Rattle.core_model.specs.Worlds.{World, world_after, seat_in}
-use Rattle.core_model.specs.Closed.{begun_by}
-use Rattle.core_answers.proofs.AllRuns.{all_tell}
+use Rattle.table_model.specs.Setup.{Setup, seats_of}
+use Rattle.table_model.specs.SeatStates.{SeatState, Idle, fresh_seat}
+use Rattle.table_model.specs.Worlds.{World, world_after, seat_in}
+use Rattle.table_model.specs.Closed.{begun_by}
+use Rattle.order_laws.proofs.AllRuns.{all_tell}
 use Rattle.shared_table.specs.SeatValues.{SeatValue, account_of}
 use Rattle.shared_table.specs.Values.{Ran, IsLeft}
 use Rattle.shared_table.specs.Orders.{logs_of, AreInTurn, ClosedIsOfARun}
-
--- below the length something stands
-there : {A : Type 0} → (xs : List A) (i : ℕ) → i < length xs → (x : A) × (slice_get xs i ≡ Some x)
-there [] i less = absurd (omega (arith, less))
-there (x ∷ xs) zero less = (x, refl)
-there (x ∷ xs) (suc i) less = there xs i (omega (arith, less))
+use Rattle.list_laws.proofs.Places.{stands_there}
 
 -- as many images as members
 length_map : {A B : Type 0} → (f : A → B) (xs : List A) → length (map f xs) ≡ length xs
@@ -61,7 +56,7 @@ module _ (setup : Setup) (words : List ℕ) (seats : List SeatValue) (ran : Ran 
       (λ i d less.
       let few : i < length world.seats =
       omega (arith, less, length_map (λ (state : SeatState). state.account.records) world.seats) in
-      let x = there seats i (omega (arith, few, long, turn.all)) in
+      let x = stands_there seats i (omega (arith, few, long, turn.all)) in
       get_or-map (λ (state : SeatState). state.account.records) world.seats i fresh_seat d few
       ∙ ap (λ (state : SeatState). state.account.records) (state_is i x.0 x.1)
       ∙ ap (λ (s : SeatValue). (account_of s).records) (sym (get_or_from_slice_get seats i x.0 x.0 x.1))
@@ -72,7 +67,7 @@ module _ (setup : Setup) (words : List ℕ) (seats : List SeatValue) (ran : Ran 
   idle : (i : ℕ) (s : SeatState) → slice_get world.seats i ≡ Some s → s.stand ≡ Idle
   idle i s e =
       let few = slice_get_within world.seats i s e in
-      let x = there seats i (omega (arith, few, long, turn.all)) in
+      let x = stands_there seats i (omega (arith, few, long, turn.all)) in
       ap (λ (z : SeatState). z.stand) (sym (get_or_from_slice_get world.seats i s fresh_seat e) ∙ state_is i x.0 x.1)
       ∙ (left i x.0 x.1).idle
 

@@ -1,8 +1,8 @@
 -- What a reader knows is a front of every longer run.
-use Rattle.std.proofs.Common.{◌≡◌, List, ◌++◌, get_or, ap, ◌∙◌, append_assoc}
+use Rattle.std.proofs.Common.{List, ◌++◌, get_or, ap, ◌∙◌, append_assoc}
 use Rattle.std.specs.Prelude.{All}
-use Rattle.core_model.specs.declared.events.Event.{Event}
-use Rattle.core_model.specs.Setup.{Setup}
+use Rattle.table_model.specs.declared.events.Event.{Event}
+use Rattle.table_model.specs.Setup.{Setup}
 use Rattle.shared_table.specs.declared.view.View.{View}
 use Rattle.shared_table.specs.Fronts.{Front, IsFrontOf}
 

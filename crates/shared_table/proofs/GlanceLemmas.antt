@@ -15,24 +15,24 @@ use Rattle.word_rows.specs.Shape.{AreBelow}
 use Rattle.word_rows.specs.BucketWords.{items_of_words}
 use Rattle.word_rows.specs.Places.{IsAddress, place, word_count}
 use Rattle.word_rows.specs.PlaceLaws.{PlacesAreWithin}
-use Rattle.core_model.specs.declared.events.Event.{Event}
-use Rattle.core_model.specs.declared.events.Ask.{Ask}
-use Rattle.core_model.specs.declared.events.Action.{Action}
-use Rattle.core_model.specs.declared.events.Action.TheVariants as Act
-use Rattle.core_model.specs.declared.rounds.Aim.TheVariants.{ForLookup, ForFirstRound, ForSecondRound, ForLastLook}
-use Rattle.core_model.specs.Setup.{Setup, rules_of, seats_of, settings_of}
-use Rattle.core_model.specs.Asks.{action_of, ask_in}
-use Rattle.core_model.specs.Phases.{Phase, FindRoot, FindDepth, FindEntry, LookWord, LookCount, LookItems, StoreDone}
-use Rattle.core_model.specs.SeatStates.{Flight}
-use Rattle.core_model.specs.Goes.{phase_after, used_after}
-use Rattle.core_model.specs.Worlds.{IsRun, found_by, world_after}
-use Rattle.core_model.specs.Promises.{words_in}
-use Rattle.core_model.specs.Steps.{IsOnWord}
-use Rattle.core_model.specs.Fits.{Counts, Finds, Makes, most_steps}
-use Rattle.core_peeks.specs.Peeks.{WasHeld}
-use Rattle.core_peeks.specs.Glances.{IsLooking, Sees}
-use Rattle.core_peeks.proofs.Glances.{finds, on_word, sees_next, sees_on}
-use Rattle.seat_machine.specs.Going.{Going, Fits, IsGoing, action, asks, goes, goes_by, later}
+use Rattle.table_model.specs.declared.events.Event.{Event}
+use Rattle.table_model.specs.declared.events.Ask.{Ask}
+use Rattle.table_model.specs.declared.events.Action.{Action}
+use Rattle.table_model.specs.declared.events.Action.TheVariants as Act
+use Rattle.table_model.specs.declared.rounds.Aim.TheVariants.{ForLookup, ForFirstRound, ForSecondRound, ForLastLook}
+use Rattle.table_model.specs.Setup.{Setup, rules_of, seats_of, settings_of}
+use Rattle.table_model.specs.Asks.{action_of, ask_in}
+use Rattle.table_model.specs.Phases.{Phase, FindRoot, FindDepth, FindEntry, LookWord, LookCount, LookItems, StoreDone}
+use Rattle.table_model.specs.SeatStates.{Flight}
+use Rattle.table_model.specs.Goes.{phase_after, used_after}
+use Rattle.table_model.specs.Worlds.{IsRun, found_by, world_after}
+use Rattle.table_model.specs.Promises.{words_in}
+use Rattle.table_model.specs.Steps.{IsOnWord}
+use Rattle.table_model.specs.Fits.{Counts, Finds, Makes, most_steps}
+use Rattle.peek_laws.specs.Peeks.{WasHeld}
+use Rattle.peek_laws.specs.Glances.{IsLooking, Sees}
+use Rattle.peek_laws.proofs.Glances.{finds, on_word, sees_next, sees_on}
+use Rattle.seat_calls.specs.Going.{Going, Fits, IsGoing, action, asks, goes, goes_by, later}
 use Rattle.shared_table.specs.declared.rule.Plan.{Plan}
 use Rattle.shared_table.specs.Fronts.{Front}
 use Rattle.shared_table.specs.Seen.{WasSeen}
@@ -42,10 +42,12 @@ use Rattle.shared_table.specs.Calls.{Token}
 use Rattle.shared_table.specs.Glancing.{Glances, GlancingValue, HasGlanced, IsGlancing, IsPaced, Start, began_at, front_of, glance_at, glancing_value, start_of}
 use Rattle.shared_table.proofs.Loads.{looks_at}
 use Rattle.shared_table.proofs.StepLemmas.{Loads, loads_from}
+use Rattle.seat_calls.proofs.RunLemmas.{goes_by-more}
 
 -- ---- one load, as the definitions have it
 
-module _ (setup : Setup) (first last : List Event) (key : Key) (seat : ℕ) (used : SeatRows) (flight : Flight) (n : ℕ) where
+module _ (setup : Setup) (first last : List Event) (key : Key) (seat : ℕ) (used : SeatRows) (flight : Flight)
+    (n : ℕ) where
   -- a phase that loads goes on
   used_same : (phase : Phase) → Sees setup first last key phase → used_after setup used phase n ≡ used
   used_same (FindRoot aim) k = refl
@@ -141,7 +143,8 @@ module _ (setup : Setup) (first last : List Event) (key : Key) (g : Going) (t : 
 
     -- its step is on a word of the table
     pub on_word_here : IsOnWord g.setup.shape (asks g)
-    on_word_here = on_word g.setup first last key run_here g.seat seat_in g.account.used g.flight t.call_is g.phase t.sees
+    on_word_here =
+        on_word g.setup first last key run_here g.seat seat_in g.account.used g.flight t.call_is g.phase t.sees
 
     module _ (looking : IsLooking g.phase) (n : ℕ)
         (found : n ≡ found_by g.setup (asks g) (words_in g.setup last)) where
@@ -189,14 +192,18 @@ glances_on setup first last more key g t = record {
 }
 
 -- it begins at the root
-pub glances_first : (setup : Setup) (events : List Event) (key : Key) → Glances setup events events key (start_of setup key)
+pub glances_first : (setup : Setup) (events : List Event) (key : Key) →
+    Glances setup events events key (start_of setup key)
 glances_first setup events key = record {
   setup_is = refl;
   seat_is = refl;
   used_is = refl;
   number_is = refl;
   call_is = refl;
-  sees = (refl, record { before = []; after = []; from_first = sym (append-nil events); to_last = sym (append-nil events) });
+  sees = (
+    refl,
+    record { before = []; after = []; from_first = sym (append-nil events); to_last = sym (append-nil events) },
+  );
   paced = refl;
 }
 
@@ -206,11 +213,6 @@ glances_first setup events key = record {
 drop_front : {X : Type 0} → (xs ys : List X) → drop (length xs) (xs ++ ys) ≡ ys
 drop_front [] ys = refl
 drop_front (x ∷ xs) ys = drop_front xs ys
-
--- after one word more
-by_more : (g : Going) (words : List ℕ) (word : ℕ) → goes_by g (words ++ word ∷ []) ≡ goes (goes_by g words) word
-by_more g [] word = refl
-by_more g (w ∷ ws) word = by_more (goes g w) ws word
 
 -- the action is a load
 abbrev IsLoad : Action → Type 0
@@ -399,8 +401,8 @@ module _ (key : Key) (since : List Start) (plan : Plan) (table_id : TableId) (to
       -- after all that was known
       after_now : (after : List Event)
           × (began_at inv.first.front.known (inv.moments ++ now ∷ []) ≡ inv.first.front.known ++ after)
-      after_now = begun_after (plain plan) key inv.first.front.known now inv.moments inv.more inv.as_many known inv.later
-          inv.after
+      after_now = begun_after (plain plan) key inv.first.front.known now inv.moments inv.more inv.as_many
+          known inv.later inv.after
 
       -- the reader is still on its way
       pub load_keeps : then_token.table_id ≡ token.table_id → IsGlancing key since plan table_id then_token
@@ -426,7 +428,7 @@ module _ (key : Key) (since : List Start) (plan : Plan) (table_id : TableId) (to
         at = subst (λ (f : Front). Glances (plain plan) (began_at inv.first.front.known (inv.moments ++ now ∷ []))
             f.known key (goes_by (start_of (plain plan) key) (inv.more ++ n ∷ []))) (sym front_is)
             (subst (Glances (plain plan) (began_at inv.first.front.known (inv.moments ++ now ∷ [])) now key)
-            (sym (by_more (start_of (plain plan) key) inv.more n))
+            (sym (goes_by-more (start_of (plain plan) key) inv.more n))
             (glances_next (plain plan) (began_at inv.first.front.known (inv.moments ++ now ∷ [])) now key g here run_now
             looking n found));
       }
@@ -440,7 +442,7 @@ module _ (key : Key) (since : List Start) (plan : Plan) (table_id : TableId) (to
           ∙ ap (λ ws. goes_by (start_of (plain plan) key) (drop (length inv.first.front.heard) ws))
           (append_assoc inv.first.front.heard inv.more (n ∷ []))
           ∙ ap (goes_by (start_of (plain plan) key)) (drop_front inv.first.front.heard (inv.more ++ n ∷ []))
-          ∙ by_more (start_of (plain plan) key) inv.more n
+          ∙ goes_by-more (start_of (plain plan) key) inv.more n
           ∙ ap (λ (y : Going). goes y n) (sym at_is)
 
   -- so it has glanced
@@ -454,11 +456,12 @@ module _ (key : Key) (since : List Start) (plan : Plan) (table_id : TableId) (to
         run = subst (λ (c : Setup). IsRun c front.known) inv.of_setup inv.run;
         held = λ reply row e.
             let phase : g.phase ≡ StoreDone reply row =
-            sym (ap (λ (y : Going). y.phase) at_is) ∙ ap (λ (v : GlancingValue). (glance_at key since v).phase) (sym view_is) ∙ e in
+            sym (ap (λ (y : Going). y.phase) at_is)
+            ∙ ap (λ (v : GlancingValue). (glance_at key since v).phase) (sym view_is) ∙ e in
             let sees : WasHeld g.setup base front.known key reply =
             subst (Sees g.setup base front.known key) phase inv.at.sees in
-            seen_since (plain plan) inv.first.opened key inv.first.front front reply row inv.moments inv.more inv.as_many
-            phase inv.times inv.later inv.after
+            seen_since (plain plan) inv.first.opened key inv.first.front front reply row inv.moments inv.more
+            inv.as_many phase inv.times inv.later inv.after
             (subst (λ (c : Setup). WasHeld c base front.known key reply) (inv.at.setup_is ∙ inv.of_setup) sees);
       })
 
@@ -491,15 +494,3 @@ begins_glancing key since plan table_id token table size one opened run is = rec
   after = sym (append-nil (front_of plan token.me).known);
   at = glances_first (plain plan) (front_of plan token.me).known key;
 }
-
--- at the root
-pub begins_there : (key : Key) (since : List Start) (plan : Plan) (token : Token) (value : GlancingValue) →
-    glancing_value plan token ≡ value → (front_of plan token.me).setup ≡ plain plan →
-    since ≡ start_by plan token ∷ [] → glance_at key since value ≡ start_of (plain plan) key
-begins_there key since plan token value view_is opened is =
-    let f : Front = front_of plan token.me in
-    sym (ap (glance_at key since) view_is)
-    ∙ ap (λ (fs : List Start). glance_at key fs (glancing_value plan token)) is
-    ∙ ap (λ ws. goes_by (start_of f.setup key) (drop (length f.heard) ws)) (sym (append-nil f.heard))
-    ∙ ap (goes_by (start_of f.setup key)) (drop_front f.heard [])
-    ∙ ap (λ (c : Setup). start_of c key) opened

@@ -7,5 +7,5 @@ pub mod Moves
 pub mod StepLemmas
 mod Parts
 mod Seats
-mod TestLemmas
+pub mod NewSeats
 mod ClosedOrders

@@ -1,6 +1,6 @@
 -- Lists of views, and events one after the other.
-use Rattle.std.proofs.Common.{◌≡◌, ◌≢◌, ℕ, zero, suc, ◌+◌, ◌<◌, Bool, cond, List, [], ◌∷◌, ◌++◌, length, get_or, set, map, inl, inr, refl, sym, ap, ◌∙◌, subst, arith, get_or-set_same, get_or-set_other, length-set}
-use Rattle.std.specs.Prelude.{All, sum_by, count_by, fold}
+use Rattle.std.proofs.Common.{◌≡◌, ◌≢◌, ℕ, zero, suc, ◌+◌, ◌<◌, Bool, cond, List, [], ◌∷◌, ◌++◌, length, get_or, set, map, inl, inr, sym, ap, ◌∙◌, subst, arith, get_or-set_same, get_or-set_other, length-set}
+use Rattle.std.specs.Prelude.{All, sum_by, count_by}
 use Rattle.std.proofs.lemmas.Bool.{cases_eq}
 use Rattle.std.proofs.lemmas.List.Sums.{sum_by-cons, sum_by-set, get_or-le-sum_by, sum_by-append}
 use mathlib.Core.Option.{some, some-injective, some-ne-none}
@@ -50,9 +50,3 @@ module _ {E : Type 0} (p : E → Bool) where
   pub count-snoc : (es : List E) (e : E) → count_by p (es ++ e ∷ []) ≡ count_by p es + cond (p e) 1 0
   count-snoc es e = sum_by-append (λ x. cond (p x) 1 0) es (e ∷ [])
       ∙ omega (arith, sum_by-cons (λ (x : E). cond (p x) 1 0) e [])
-
--- a place that is there needs no default
-pub get_or_default : {X : Type 0} (xs : List X) (k : ℕ) (d e : X) → k < length xs → get_or xs k d ≡ get_or xs k e
-get_or_default [] k d e h = absurd (omega arith)
-get_or_default (x ∷ xs) zero d e h = refl
-get_or_default (x ∷ xs) (suc k) d e h = get_or_default xs k d e (omega arith)

@@ -7,10 +7,10 @@ use Rattle.std.proofs.lemmas.List.Sums.{sum_by-append, sum_by-cons}
 use mathlib.Core.Option.{some}
 use lib.ListN.{get_elem?}
 use Rattle.atomic_table.specs.Table.{State, keeps, stepped, Allows, Enters}
-use Rattle.core_model.specs.declared.events.Event.{Event}
-use Rattle.core_model.specs.Setup.{Setup, seats_of}
-use Rattle.core_model.specs.Worlds.{IsRun, world_after}
-use Rattle.core_model.specs.Shown.{Holding, Bundle, IsOfRun}
+use Rattle.table_model.specs.declared.events.Event.{Event}
+use Rattle.table_model.specs.Setup.{Setup, seats_of}
+use Rattle.table_model.specs.Worlds.{IsRun, world_after}
+use Rattle.table_model.specs.Shown.{Holding, Bundle, IsOfRun}
 use Rattle.shared_table.specs.declared.view.View.{View}
 use Rattle.shared_table.specs.Fronts.{Front, IsFrontOf}
 use Rattle.shared_table.specs.Rule.{bundles, Holds, M}
@@ -127,7 +127,8 @@ enters_at c slots p s r homes few =
     let events : List Event = r.shows.events in
     let front : Front = record { setup = c; known = events; heard = []; times = [] } in
     let v : View = (lone front).0 in
-    let is : bundles (s.views ++ v ∷ []) ≡ bundles s.views ++ [] ∷ [] = map-append (λ (u : View). u.bundle) s.views (v ∷ []) in
+    let is : bundles (s.views ++ v ∷ []) ≡ bundles s.views ++ [] ∷ [] =
+    map-append (λ (u : View). u.bundle) s.views (v ∷ []) in
     let times : ℕ → Bundle → ℕ = λ seat b. count_by (λ (x : Holding). eqb x.seat seat) b in (
       v,
       record {

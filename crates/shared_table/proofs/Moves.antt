@@ -13,21 +13,22 @@ use Rattle.plain_map.specs.declared.calls.Call.{Call}
 use Rattle.word_rows.specs.Shape.{Shape}
 use Rattle.word_rows.specs.declared.addresses.Address.{Address}
 use Rattle.word_rows.specs.Places.{place}
-use Rattle.core_model.specs.declared.events.Event.{Event}
-use Rattle.core_model.specs.Setup.{Setup, seats_of}
-use Rattle.core_model.specs.SeatStates.{SeatState, fresh_seat}
-use Rattle.core_model.specs.declared.events.Ask.{Ask}
-use Rattle.core_model.specs.declared.events.Ask.TheVariants.{Load, Store, Exchange}
-use Rattle.core_model.specs.Worlds.{World, IsRun, world_after, seat_in, found_by, words_after}
-use Rattle.core_model.specs.Shown.{Holding, Bundle, IsOfRun}
+use Rattle.table_model.specs.declared.events.Event.{Event}
+use Rattle.table_model.specs.Setup.{Setup, seats_of}
+use Rattle.table_model.specs.SeatStates.{SeatState, fresh_seat}
+use Rattle.table_model.specs.declared.events.Ask.{Ask}
+use Rattle.table_model.specs.declared.events.Ask.TheVariants.{Load, Store, Exchange}
+use Rattle.table_model.specs.Worlds.{World, IsRun, world_after, seat_in, found_by, words_after}
+use Rattle.table_model.specs.Shown.{Holding, Bundle, IsOfRun}
 use Rattle.shared_table.specs.declared.view.View.{View}
-use Rattle.core_model.specs.Steps.{MayStep, event_of, advanced, address_of, becomes, told, IsOnWord}
-use Rattle.core_model.specs.Fits.{EveryStepFits}
+use Rattle.table_model.specs.Steps.{MayStep, event_of, advanced, address_of, becomes, told, IsOnWord}
+use Rattle.table_model.specs.Fits.{EveryStepFits}
 use Rattle.shared_table.specs.Fronts.{IsFrontOf}
 use Rattle.shared_table.proofs.Fronts.{fronts_stay}
 use Rattle.shared_table.specs.Rule.{bundles, Holds, M, alone, IsReached, asked_by, after_step, Steps, Moved, AsksFor, IsFor}
-use Rattle.shared_table.proofs.Lists.{at_place, elem_map, zero_elsewhere, all_but_one, get_or_default, count-snoc}
-use Rattle.core_programs.proofs.Worlds.{is_event, steps_world, words_are, found_is, run-snoc, world-snoc, length-world}
+use Rattle.shared_table.proofs.Lists.{at_place, elem_map, zero_elsewhere, all_but_one, count-snoc}
+use Rattle.std.proofs.lemmas.List.{get_or_default}
+use Rattle.play_laws.proofs.Worlds.{is_event, steps_world, words_are, found_is, run-snoc, world-snoc, length-world}
 
 -- a test as a number
 abbrev bit : Bool → ℕ
@@ -67,7 +68,8 @@ mine_of c s r id h at =
     let there : get_elem? (bundles s.views) id ≡ some (h ∷ []) =
     elem_map (λ (v : View). v.bundle) s.views id (alone h).0 at in
     let p = at_place (bundles s.views) id (h ∷ []) [] there in
-    let all : All (IsOfRun c r.shows.events) (h ∷ []) = subst (All (IsOfRun c r.shows.events)) p.1 (r.shows.of_run id [] p.0) in
+    let all : All (IsOfRun c r.shows.events) (h ∷ []) =
+    subst (All (IsOfRun c r.shows.events)) p.1 (r.shows.of_run id [] p.0) in
     all 0 h (omega arith)
 
 module _ (asked : ℕ × Call) (h : Holding) (s : State (Unit {0}) View) (r : Holds h.setup s) (id : ℕ)
@@ -193,8 +195,8 @@ module _ (asked : ℕ × Call) (h : Holding) (s : State (Unit {0}) View) (r : Ho
       get_or_default (bundles s.views) k d [] hk in
       let zero : times_of h.seat (get_or (bundles s.views) k []) ≡ 0 =
       zero_elsewhere (times_of h.seat) (bundles s.views) id k [] [] refl inside hk ne (total ∙ sym one) in
-      all_stay c r.shows.events e then.state seats_are (get_or (bundles s.views) k d) (ap (times_of h.seat) same_d ∙ zero)
-      (r.shows.of_run k d hk)
+      all_stay c r.shows.events e then.state seats_are (get_or (bundles s.views) k d)
+      (ap (times_of h.seat) same_d ∙ zero) (r.shows.of_run k d hk)
 
   -- and the seat's own is true of the new run
   mine_after : IsOfRun c run then

@@ -1,22 +1,22 @@
 -- Views cut and put together, the rule at the opening, and what is known at the close.
-use Rattle.std.proofs.Common.{◌≡◌, ℕ, zero, suc, ◌+◌, ◌-◌, ◌<◌, ◌≤◌, Bool, cond, eqb, ltb, List, [], ◌∷◌, ◌++◌, length, get_or, set, take, Some, inl, inr, refl, sym, ap, ◌∙◌, subst, arith, length-set, get_or-set_other}
+use Rattle.std.proofs.Common.{◌≡◌, ℕ, zero, suc, ◌+◌, ◌-◌, ◌<◌, ◌≤◌, Bool, cond, eqb, ltb, List, [], ◌∷◌, ◌++◌, length, get_or, set, Some, inl, inr, refl, sym, ap, ◌∙◌, subst, arith, length-set, get_or-set_other}
 use Rattle.std.specs.Prelude.{All, sum_by, count_by}
 use Rattle.std.proofs.lemmas.Bool.{cases_eq, eq-eqb, ne_eqb}
 use Rattle.std.proofs.lemmas.Bool.Decides.{nat_tests}
 use Rattle.std.proofs.lemmas.List.{map-set, map-append, get_or-replicate}
 use Rattle.std.proofs.lemmas.List.Elements.{All-nil, All-cons, All-head, All-tail, All-append, All-set, All-push, All-pop}
 use Rattle.std.proofs.lemmas.List.Sums.{sum_by-set, sum_by-cons, sum_by-append, get_or-le-sum_by}
-use mathlib.Core.Option.{some, some-injective, some-ne-none}
+use mathlib.Core.Option.{some}
 use lib.ListN.{get_elem?}
 use Rattle.atomic_table.specs.Table.{State, Splits, Joins, Final, Seen, opening}
-use Rattle.core_model.specs.declared.events.Event.{Event}
-use Rattle.core_model.specs.Setup.{Setup, IsSetup, seats_of}
-use Rattle.core_model.specs.SeatStates.{fresh_seat}
-use Rattle.core_model.specs.Worlds.{opening_words}
-use Rattle.core_model.specs.Shown.{Holding, Bundle}
+use Rattle.table_model.specs.declared.events.Event.{Event}
+use Rattle.table_model.specs.Setup.{Setup, IsSetup, seats_of}
+use Rattle.table_model.specs.SeatStates.{fresh_seat}
+use Rattle.table_model.specs.Worlds.{opening_words}
+use Rattle.table_model.specs.Shown.{Holding, Bundle}
 use Rattle.shared_table.specs.declared.view.View.{View}
 use Rattle.shared_table.specs.Seating.{fresh, fresh_from, whole, tail_of, head_of, others, foremost, together, spent}
-use Rattle.core_model.specs.Shown.{IsOfRun}
+use Rattle.table_model.specs.Shown.{IsOfRun}
 use Rattle.shared_table.specs.Fronts.{IsFrontOf}
 use Rattle.shared_table.specs.Rule.{bundles, Holds, M, IsReached, alone}
 use Rattle.shared_table.specs.SeatValues.{SeatValue, IsIdle}
@@ -77,7 +77,8 @@ fronts_other : (c : Setup) (s : State (Unit {0}) View) (r : Holds c s) (id other
 fronts_other c s r id other u w ne at =
     let p = at_place (set s.views id u) other w w at in
     subst (λ (x : View). All (IsFrontOf c r.shows.events) x.fronts)
-    (sym (get_or-set_other s.views id other u w ne) ∙ p.1) (r.fronts other w (omega (arith, p.0, length-set s.views id u)))
+    (sym (get_or-set_other s.views id other u w ne) ∙ p.1)
+    (r.fronts other w (omega (arith, p.0, length-set s.views id u)))
 
 -- what holds of all holds of the first
 head_all : (P : Holding → Type 0) (b : Bundle) → All P b → All P (head_of b)
@@ -156,7 +157,8 @@ joins c id v other w s r at ne at' =
         is_run = r.shows.is_run;
         same_words = r.shows.same_words;
         of_run = subst (All P) (sym is) (All-set P (set bs id both) other [] (All-nil (IsOfRun c r.shows.events))
-            (All-set P bs id both (All-append (IsOfRun c r.shows.events) w.bundle v.bundle theirs mine) r.shows.of_run));
+            (All-set P bs id both (All-append (IsOfRun c r.shows.events) w.bundle v.bundle theirs mine)
+            r.shows.of_run));
         once = λ seat h.
             let one = sum_by-set (times_of seat) bs id both [] (inside c s r id v at) in
             let two = sum_by-set (times_of seat) (set bs id both) other [] [] p.0 in
@@ -305,7 +307,8 @@ length-holdings (s ∷ seats) = omega (arith, length-holdings seats)
 -- all seats that are put together leave one run
 pub ends : (c : Setup) (id : ℕ) (me : M) (seats : List SeatValue) (words : List ℕ) (slots : List (Unit {0})) →
     length seats ≡ seats_of c → All IsIdle seats →
-    me ≡ (record { bundle = holdings seats; fronts = [] }, []) → Final (Seen (Holds c) id me.0) words slots → Ran c words seats
+    me ≡ (record { bundle = holdings seats; fronts = [] }, []) → Final (Seen (Holds c) id me.0) words slots →
+    Ran c words seats
 ends c id me seats words slots all idle is f =
     let s : State (Unit {0}) View = f.0 in
     let r : Holds c s = f.1.0 in
@@ -357,13 +360,6 @@ gathers_first t x a table a_table me idle = record {
   idle = All-cons IsIdle x [] idle (All-nil IsIdle);
 }
 
--- one word more of a list
-pub take_at : (l : List ℕ) (i n : ℕ) → get_elem? l i ≡ some n → take (i + 1) l ≡ take i l ++ n ∷ []
-take_at [] i n e = absurd (some-ne-none n (sym e))
-take_at (x ∷ xs) zero n e = ap (λ (k : ℕ). k ∷ []) (some-injective x n e)
-take_at (x ∷ xs) (suc i) n e = let f : suc i + 1 ≡ suc (i + 1) = omega arith in
-    ap (λ (k : ℕ). take k (x ∷ xs)) f ∙ ap (λ (l : List ℕ). x ∷ l) (take_at xs i n e)
-
 -- ---- seats that are dealt
 
 -- the seats from one on are it and those from the next on
@@ -375,7 +371,8 @@ deal_one c k n h =
 
 -- cutting a seat off leaves those from the next on
 pub dealt : (c : Setup) (me left right : M) (k n : ℕ) → k < n →
-    me ≡ (record { bundle = fresh_from c k (n - k); fronts = [] }, []) → left ≡ (others me.0, me.1) → right ≡ (foremost me.0, []) →
+    me ≡ (record { bundle = fresh_from c k (n - k); fronts = [] }, []) → left ≡ (others me.0, me.1) →
+    right ≡ (foremost me.0, []) →
     (left ≡ (record { bundle = fresh_from c (k + 1) (n - (k + 1)); fronts = [] }, [])) × (right ≡ alone (fresh c k))
 dealt c me left right k n h is l r =
     let at : me ≡ (record { bundle = fresh c k ∷ fresh_from c (k + 1) (n - (k + 1)); fronts = [] }, []) =

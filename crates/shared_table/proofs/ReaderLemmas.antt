@@ -1,15 +1,11 @@
 -- What a reader's badge has, and what that says of its value.
-use Rattle.std.proofs.Common.{◌≡◌, ℕ, List, [], ◌∷◌, refl, sym, ap, ◌∙◌, subst}
-use Rattle.core_model.specs.Setup.{Setup}
-use Rattle.core_model.specs.Worlds.{IsRun}
+use Rattle.std.proofs.Common.{◌≡◌, List, [], ◌∷◌, sym, ap, ◌∙◌, subst}
+use Rattle.table_model.specs.Worlds.{IsRun}
 use Rattle.word_rows.specs.LayoutView.{shape_of}
-use Rattle.seat_machine.specs.declared.desk.Desk.{Desk}
+use Rattle.seat_calls.specs.declared.desk.Desk.{Desk}
 use Rattle.shared_table.specs.declared.view.View.{View}
-use Rattle.shared_table.specs.declared.rule.Plan.{Plan}
 use Rattle.shared_table.specs.Fronts.{Front}
-use Rattle.shared_table.specs.Rule.{M}
 use Rattle.shared_table.specs.Readings.{lone}
-use Rattle.shared_table.specs.Glancing.{front_of}
 use Rattle.shared_table.specs.Readers.{ReaderStands, front_in}
 
 -- a reader of one front stands so
@@ -30,10 +26,3 @@ stands_by desk views front is run shape hashing seat =
 abbrev first_view : View → List View → View
 first_view d [] = d
 first_view d (v ∷ vs) = v
-
--- a badge and its token have the same front
-pub badge_front : (key : Plan) (desk : Desk) (views : List View) (me : M) → views ≡ me.0 ∷ [] → me.1 ≡ [] →
-    (f : Front) → views ≡ (lone f).0 ∷ [] → me ≡ lone f
-badge_front key desk views me into none f one =
-    let same : me.0 ≡ (lone f).0 = ap (first_view me.0) (sym into ∙ one) in
-    λ i. (same i, none i)

@@ -1,37 +1,33 @@
 -- A seat after a call: what its badge holds then, and what that says of its value.
-use Rattle.std.proofs.Common.{refl, Some, ◌≡◌, ℕ, ◌+◌, ◌-◌, List, [], ◌∷◌, ◌++◌, length, sym, ap, ◌∙◌, subst, arith}
+use Rattle.std.proofs.Common.{refl, Some, ◌≡◌, ℕ, ◌+◌, ◌-◌, List, [], ◌∷◌, ◌++◌, length, sym, ap, ◌∙◌, subst}
 use Rattle.std.specs.Prelude.{All}
-use Rattle.std.proofs.lemmas.List.{length_push, get_or_push}
+use Rattle.std.proofs.lemmas.List.{length_push}
 use Rattle.std.proofs.lemmas.List.Elements.{All-pop}
 use Rattle.atomic_table.specs.Seated.{TableId}
 use Rattle.step_counts.specs.declared.rows.SeatRows.{SeatRows}
 use Rattle.plain_map.specs.declared.calls.Call.{Call}
 use Rattle.plain_map.specs.declared.records.Record.{Record}
-use Rattle.plain_map.specs.Room.{published, no_rows}
-use Rattle.core_model.specs.SeatStates.{SeatState}
-use Rattle.core_model.specs.Worlds.{world_after, seat_in}
-use Rattle.core_model.specs.Promises.{HasSteps, IsAnsweredBy, words_in}
-use Rattle.core_model.specs.Shown.{Holding}
-use Rattle.core_bounds.proofs.Ends.{steps_are_bounded}
-use Rattle.core_answers.proofs.Answered.{replies_are_of_rows}
+use Rattle.plain_map.specs.Room.{published}
+use Rattle.table_model.specs.SeatStates.{SeatState}
+use Rattle.table_model.specs.Worlds.{world_after, seat_in}
+use Rattle.table_model.specs.Promises.{HasSteps, IsAnsweredBy, words_in}
+use Rattle.table_model.specs.Shown.{Holding}
+use Rattle.bound_laws.proofs.Ends.{steps_are_bounded}
+use Rattle.order_laws.proofs.Answered.{replies_are_of_rows}
 use Rattle.step_counts.specs.StepCounts.{need_of}
 use Rattle.word_rows.specs.Shape.{sizes_of}
-use Rattle.core_model.specs.Setup.{Setup, settings_of}
-use Rattle.seat_machine.specs.declared.desk.Desk.{Desk}
-use Rattle.seat_machine.specs.declared.room.Room.{Room}
-use Rattle.seat_machine.specs.Desks.{settings_at}
-use Rattle.seat_machine.specs.Rooms.{HasAllRoom}
+use Rattle.table_model.specs.Setup.{Setup, settings_of}
+use Rattle.seat_calls.specs.declared.desk.Desk.{Desk}
+use Rattle.seat_calls.specs.declared.room.Room.{Room}
+use Rattle.seat_calls.specs.Desks.{settings_at}
+use Rattle.seat_calls.specs.Rooms.{HasAllRoom}
 use Rattle.shared_table.specs.declared.rule.Plan.{Plan}
 use Rattle.shared_table.specs.declared.view.View.{View}
 use Rattle.shared_table.specs.Rule.{M, IsReached}
 use Rattle.shared_table.specs.Calls.{Ended, holding_of}
 use Rattle.shared_table.specs.Values.{Answers, IsSame}
 use Rattle.shared_table.specs.Insides.{SeatStands, holding_in, seat_value}
-
--- what was published last is the last entry
-pub published_last : (spent : List SeatRows) (used : SeatRows) → published (spent ++ used ∷ []) ≡ used
-published_last spent used =
-    get_or_push spent used no_rows (length (spent ++ used ∷ []) - 1) (omega (arith, length_push spent used))
+use Rattle.bound_laws.proofs.Numbers.{last_push}
 
 -- the first of the views, or this one
 abbrev first_view : View → List View → View
@@ -40,7 +36,8 @@ first_view d (v ∷ vs) = v
 
 -- a badge and its token hold the same
 pub badge_holds : (key : Plan) (desk : Desk) (views : List View) (me : M) → views ≡ me.0 ∷ [] →
-    (h : Holding) → views ≡ (record { bundle = h ∷ []; fronts = [] }) ∷ [] → (holding_of key me ≡ h) × (holding_in desk views ≡ h)
+    (h : Holding) → views ≡ (record { bundle = h ∷ []; fronts = [] }) ∷ [] →
+    (holding_of key me ≡ h) × (holding_in desk views ≡ h)
 badge_holds key desk views me into h one =
     let same : me.0 ≡ record { bundle = h ∷ []; fronts = [] } = ap (first_view me.0) (sym into ∙ one) in
     (ap (λ (v : View). holding_of key (v, [])) same, ap (holding_in desk) one)
@@ -126,7 +123,7 @@ module _ (packet : ℕ) (call : Call) (made : Record) (used : SeatRows) (key : P
             seat = ended_here.seat ∙ b.at_desk.seat;
           };
           published_is = ended_here.published;
-          spent_is = ap published ended_here.spent ∙ published_last h.state.account.spent k.state.account.used
+          spent_is = ap published ended_here.spent ∙ last_push h.state.account.spent k.state.account.used
               ∙ ended_here.published;
           count = ap length ended_here.records ∙ length_push h.state.account.records made
               ∙ ap (λ (n : ℕ). n + 1) b.count;

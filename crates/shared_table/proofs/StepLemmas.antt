@@ -1,5 +1,5 @@
 -- A step of a call on its way: from what the table tells to what the code is promised.
-use Rattle.std.proofs.Common.{◌≡◌, ℕ, ◌+◌, ◌<◌, Bool, true, false, cond, eqb, List, [], ◌∷◌, ◌++◌, length, refl, sym, ap, ◌∙◌, subst, arith, append_assoc}
+use Rattle.std.proofs.Common.{◌≡◌, ℕ, ◌+◌, ◌<◌, Bool, true, false, cond, eqb, List, [], ◌∷◌, ◌++◌, refl, sym, ap, ◌∙◌, subst, arith, append_assoc}
 use Rattle.std.proofs.lemmas.Bool.{eq-eqb}
 use Rattle.std.proofs.lemmas.List.{append-nil}
 use Rattle.std.proofs.lemmas.List.Sums.{sum_by-append}
@@ -13,28 +13,28 @@ use Rattle.word_rows.specs.Shape.{Shape}
 use Rattle.word_rows.specs.declared.addresses.Address.{Address}
 use Rattle.word_rows.specs.Places.{IsAddress, place, word_count}
 use Rattle.word_rows.specs.PlaceLaws.{PlacesAreWithin}
-use Rattle.core_model.specs.declared.events.Event.{Event}
-use Rattle.core_model.specs.declared.events.Ask.{Ask}
-use Rattle.core_model.specs.declared.events.Ask.TheVariants as A
-use Rattle.core_model.specs.declared.events.Action.{Action}
-use Rattle.core_model.specs.declared.events.Action.TheVariants as Act
-use Rattle.core_model.specs.Setup.{Setup}
-use Rattle.core_model.specs.Asks.{action_of, ask_in}
-use Rattle.core_model.specs.Phases.{Phase, SeeDone, StoreOp, Announce, FindRoot, FindDepth, FindEntry, LookWord, LookCount, LookItems, TryWord, TryRow, TryAnnouncement, TryOp, TryStore, TryExchange, DirRoot, DirDepth, DirEntries, DirAnnouncement, DirOp, DirWord, DirRow, DirStore, DirExchange, LastWord, LastRow, StoreDone, Stuck}
-use Rattle.core_model.specs.SeatStates.{Account, Flight, Stand, Idle, InFlight, SeatState, record_of}
-use Rattle.core_model.specs.Goes.{state_after, phase_after, used_after, flight_after, with_answer}
-use Rattle.core_model.specs.Shown.{Holding}
-use Rattle.core_model.specs.Worlds.{found_by, world_after}
-use Rattle.core_model.specs.Steps.{flight_in, phase_in, MayStep, ask_of, event_of, told, IsOnWord}
-use Rattle.core_model.specs.Fits.{Counts, StepFits}
-use Rattle.core_fits.proofs.Whole.{every_step_fits}
-use Rattle.seat_machine.specs.Going.{Going, Fits, IsGoing, Begins, IsMade, IsOpen, action, asks, goes, on}
+use Rattle.table_model.specs.declared.events.Event.{Event}
+use Rattle.table_model.specs.declared.events.Ask.{Ask}
+use Rattle.table_model.specs.declared.events.Ask.TheVariants as A
+use Rattle.table_model.specs.declared.events.Action.{Action}
+use Rattle.table_model.specs.declared.events.Action.TheVariants as Act
+use Rattle.table_model.specs.Setup.{Setup}
+use Rattle.table_model.specs.Asks.{action_of, ask_in}
+use Rattle.table_model.specs.Phases.{Phase, SeeDone, StoreOp, Announce, FindRoot, FindDepth, FindEntry, LookWord, LookCount, LookItems, TryWord, TryRow, TryAnnouncement, TryOp, TryStore, TryExchange, DirRoot, DirDepth, DirEntries, DirAnnouncement, DirOp, DirWord, DirRow, DirStore, DirExchange, LastWord, LastRow, StoreDone, Stuck}
+use Rattle.table_model.specs.SeatStates.{Account, Flight, Stand, Idle, InFlight, SeatState, record_of}
+use Rattle.table_model.specs.Goes.{state_after, phase_after, used_after, flight_after, with_answer}
+use Rattle.table_model.specs.Shown.{Holding}
+use Rattle.table_model.specs.Worlds.{found_by, world_after}
+use Rattle.table_model.specs.Steps.{flight_in, phase_in, MayStep, ask_of, event_of, told, IsOnWord}
+use Rattle.table_model.specs.Fits.{Counts, StepFits}
+use Rattle.bound_laws.proofs.FitsWhole.{every_step_fits}
+use Rattle.seat_calls.specs.Going.{Going, Fits, IsGoing, IsMade, IsOpen, action, asks, goes, on}
 use Rattle.shared_table.specs.declared.rule.Plan.{Plan}
 use Rattle.shared_table.specs.Rule.{Holds, IsFor, AsksFor, M, alone, plain, Grew, IsReached, asked_by, after_step, Steps, Moved}
 use Rattle.shared_table.specs.SeatValues.{SeatValue}
 use Rattle.shared_table.specs.Calls.{Began, Ended, HasAnswered, IsRunning, Learned, Rests, RunningValue, Token, Under, going_of, holding_of, now_of, running_value}
 use Rattle.shared_table.proofs.Lists.{count-snoc}
-use Rattle.shared_table.proofs.Moves.{alone_is, tells_nothing, loads_at, stores_at, exchanges_at}
+use Rattle.shared_table.proofs.Moves.{tells_nothing, loads_at, stores_at, exchanges_at}
 use Rattle.shared_table.proofs.Moves as moves
 
 -- the first seat of a list, or this one
@@ -685,22 +685,4 @@ begins_under asked h me r =
         is = sym (append-nil h.known);
         counts = sym (ap (λ (stand : Stand). (flight_in account stand asked).steps) r.idle);
       };
-    }
-
--- it begins with this packet, call and number
-pub begins_so : (asked : ℕ × Call) (h : Holding) (me : M) (packet number : ℕ) (call : Call) → Rests asked h me →
-    asked ≡ (packet, call) → (going_of asked h).flight.number ≡ number → Begins (going_of asked h) packet number call
-begins_so asked h me packet number call r is same =
-    let flown : (going_of asked h).flight ≡ record {
-      packet = packet;
-      call = call;
-      number = length h.state.account.records + 1;
-      seen = [];
-      steps = 0;
-    } =
-    (λ i. flight_in h.state.account (r.idle i) (is i)) in
-    record {
-      flight = flown ∙ ap (λ (n : ℕ). record { packet = packet; call = call; number = n; seen = []; steps = 0 })
-          (sym (ap (λ (f : Flight). f.number) flown) ∙ same);
-      phase = ap phase_in r.idle;
     }

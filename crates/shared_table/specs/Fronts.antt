@@ -1,8 +1,8 @@
 -- What a reader knows, which is no seat: what its table was opened with, the first events of the run, and the words
 -- that it has found, one after the other, each with the events that had come by then.
 use Rattle.std.specs.Prelude.{◌≡◌, ℕ, List, ◌++◌}
-use Rattle.core_model.specs.declared.events.Event.{Event}
-use Rattle.core_model.specs.Setup.{Setup}
+use Rattle.table_model.specs.declared.events.Event.{Event}
+use Rattle.table_model.specs.Setup.{Setup}
 
 -- the events that it knows are a front of the run
 pub record Front : Type 0 where

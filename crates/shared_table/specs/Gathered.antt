@@ -1,6 +1,6 @@
 -- A token that has all these seats.
 use Rattle.std.specs.Prelude.{◌≡◌, List, [], map, All}
-use Rattle.core_model.specs.Shown.{Holding}
+use Rattle.table_model.specs.Shown.{Holding}
 use Rattle.shared_table.specs.SeatValues.{SeatValue, IsIdle}
 use Rattle.shared_table.specs.Values.{TableValue}
 use Rattle.shared_table.specs.Calls.{Token}

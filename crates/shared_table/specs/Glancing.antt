@@ -7,13 +7,13 @@ use Rattle.plain_map.specs.declared.calls.Call.TheVariants.{Lookup}
 use Rattle.plain_map.specs.declared.calls.Reply.{Reply}
 use Rattle.plain_map.specs.Room.{no_rows}
 use Rattle.word_rows.specs.Places.{word_count}
-use Rattle.core_model.specs.declared.events.Event.{Event}
-use Rattle.core_model.specs.declared.rounds.Aim.TheVariants.{ForLookup}
-use Rattle.core_model.specs.Setup.{Setup, settings_of}
-use Rattle.core_model.specs.Phases.{Phase, FindRoot, FindDepth, FindEntry, LookWord, LookCount, LookItems, StoreDone}
-use Rattle.core_model.specs.Worlds.{IsRun}
-use Rattle.core_peeks.specs.Glances.{Sees}
-use Rattle.seat_machine.specs.Going.{Going, goes_by}
+use Rattle.table_model.specs.declared.events.Event.{Event}
+use Rattle.table_model.specs.declared.rounds.Aim.TheVariants.{ForLookup}
+use Rattle.table_model.specs.Setup.{Setup, settings_of}
+use Rattle.table_model.specs.Phases.{Phase, FindRoot, FindDepth, FindEntry, LookWord, LookCount, LookItems, StoreDone}
+use Rattle.table_model.specs.Worlds.{IsRun}
+use Rattle.peek_laws.specs.Glances.{Sees}
+use Rattle.seat_calls.specs.Going.{Going, goes_by}
 use Rattle.shared_table.specs.declared.rule.Plan.{Plan}
 use Rattle.shared_table.specs.Fronts.{Front}
 use Rattle.shared_table.specs.Seen.{WasSeen}
@@ -111,7 +111,8 @@ pub record IsGlancing (key : Key) (since : List Start) (plan : Plan) (table_id :
   pub at : Glances (plain plan) (began_at first.front.known moments) (front_of plan token.me).known key
       (goes_by (start_of (plain plan) key) more)
 
--- the reader is one of the same table, and where it has a reply the plain map had it at some moment since its first load
+-- the reader is one of the same table, and where it has a reply the plain map
+-- had it at some moment since its first load
 pub record HasGlanced (key : Key) (start : Start) (v : GlancingValue) (g : Going) : Type 0 where
   pub table : v.table_id ≡ start.table_id
   pub opened : v.front.setup ≡ start.opened

@@ -8,13 +8,13 @@ use Rattle.plain_map.specs.Room.{published}
 use Rattle.word_rows.specs.Places.{word_count}
 use Rattle.word_rows.specs.Shape.{sizes_of}
 use Rattle.word_rows.specs.LayoutView.{shape_of}
-use Rattle.core_model.specs.Setup.{settings_of}
-use Rattle.core_model.specs.SeatStates.{Idle, fresh_seat}
-use Rattle.core_model.specs.Shown.{Holding}
-use Rattle.seat_machine.specs.declared.desk.Desk.{Desk}
-use Rattle.seat_machine.specs.declared.room.Room.{Room}
-use Rattle.seat_machine.specs.Desks.{IsOf, settings_at}
-use Rattle.seat_machine.specs.Rooms.{HasAllRoom}
+use Rattle.table_model.specs.Setup.{settings_of}
+use Rattle.table_model.specs.SeatStates.{Idle, fresh_seat}
+use Rattle.table_model.specs.Shown.{Holding}
+use Rattle.seat_calls.specs.declared.desk.Desk.{Desk}
+use Rattle.seat_calls.specs.declared.room.Room.{Room}
+use Rattle.seat_calls.specs.Desks.{IsOf, settings_at}
+use Rattle.seat_calls.specs.Rooms.{HasAllRoom}
 use Rattle.shared_table.specs.declared.view.View.{View}
 use Rattle.shared_table.specs.declared.directory.Directory.TheInside as directory
 use Rattle.shared_table.specs.declared.in_place.ClosedTable.TheInside as closed

@@ -6,7 +6,7 @@ use Rattle.step_counts.specs.declared.rows.SeatRows.{SeatRows}
 use Rattle.step_counts.specs.declared.settings.Settings.{Settings}
 use Rattle.bucket_states.specs.Parts.{HasDistinctKeys}
 use Rattle.word_rows.specs.Shape.{IsShape, AreBelow}
-use Rattle.core_model.specs.Setup.{Setup, IsPair}
+use Rattle.table_model.specs.Setup.{Setup, IsPair}
 
 -- a table of these settings, with these ranges, hashing and first pairs
 abbrev pub setup_of : Settings → Hashing → List SeatRows → List Pair → Setup

@@ -1,8 +1,8 @@
 -- What the seats of a closed table leave of a run, for the order of its calls.
 use Rattle.std.specs.Prelude.{◌≡◌, ℕ, List, [], length, map, Some, slice_get}
 use Rattle.plain_map.specs.declared.records.Record.{Record}
-use Rattle.core_model.specs.Setup.{Setup, seats_of}
-use Rattle.history_order.specs.Closing.{IsOfARun}
+use Rattle.table_model.specs.Setup.{Setup, seats_of}
+use Rattle.table_model.specs.Closing.{IsOfARun}
 use Rattle.shared_table.specs.SeatValues.{SeatValue, account_of}
 use Rattle.shared_table.specs.Values.{Ran}
 

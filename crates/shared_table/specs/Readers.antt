@@ -1,9 +1,9 @@
 -- What contracts see of a reader.
 use Rattle.std.specs.Prelude.{◌≡◌, List, [], ◌∷◌}
 use Rattle.atomic_table.specs.Seated.{TableId}
-use Rattle.core_model.specs.Worlds.{IsRun}
+use Rattle.table_model.specs.Worlds.{IsRun}
 use Rattle.word_rows.specs.LayoutView.{shape_of}
-use Rattle.seat_machine.specs.declared.desk.Desk.{Desk}
+use Rattle.seat_calls.specs.declared.desk.Desk.{Desk}
 use Rattle.shared_table.specs.declared.view.View.{View}
 use Rattle.shared_table.specs.Fronts.{Front}
 use Rattle.shared_table.specs.Glancing.{first_front}

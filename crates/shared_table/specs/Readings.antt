@@ -1,9 +1,9 @@
 -- What a load of a reader tells.
 use Rattle.std.specs.Prelude.{◌≡◌, ℕ, List, [], ◌∷◌, ◌++◌, slice_index}
 use Rattle.atomic_table.specs.Table.{Step}
-use Rattle.core_model.specs.declared.events.Event.{Event}
-use Rattle.core_model.specs.Shown.{Holding}
-use Rattle.core_model.specs.Worlds.{IsRun, world_after}
+use Rattle.table_model.specs.declared.events.Event.{Event}
+use Rattle.table_model.specs.Shown.{Holding}
+use Rattle.table_model.specs.Worlds.{IsRun, world_after}
 use Rattle.shared_table.specs.Fronts.{Front}
 use Rattle.shared_table.specs.Rule.{M}
 

@@ -3,13 +3,13 @@ use Rattle.std.specs.Prelude.{◌≡◌, ℕ, ◌<◌, List, [], ◌∷◌, ◌+
 use Rattle.atomic_table.specs.Table.{State, Me, Step}
 use Rattle.plain_map.specs.declared.calls.Call.{Call}
 use Rattle.word_rows.specs.Shape.{Shape}
-use Rattle.core_model.specs.declared.events.Event.{Event}
-use Rattle.core_model.specs.Setup.{Setup, seats_of}
-use Rattle.core_model.specs.declared.events.Ask.{Ask}
-use Rattle.core_model.specs.Worlds.{IsRun, world_after, seat_in, found_by}
-use Rattle.core_model.specs.Worlds.{events_of}
-use Rattle.core_model.specs.Shown.{Holding, Bundle, Shows}
-use Rattle.core_model.specs.Steps.{MayStep, event_of, ask_of, advanced, told}
+use Rattle.table_model.specs.declared.events.Event.{Event}
+use Rattle.table_model.specs.Setup.{Setup, seats_of}
+use Rattle.table_model.specs.declared.events.Ask.{Ask}
+use Rattle.table_model.specs.Worlds.{IsRun, world_after, seat_in, found_by}
+use Rattle.table_model.specs.Worlds.{events_of}
+use Rattle.table_model.specs.Shown.{Holding, Bundle, Shows}
+use Rattle.table_model.specs.Steps.{MayStep, event_of, ask_of, advanced, told}
 use Rattle.shared_table.specs.declared.view.View.{View}
 use Rattle.shared_table.specs.Fronts.{IsFrontOf}
 use Rattle.shared_table.specs.declared.rule.Plan.{Plan}

@@ -1,8 +1,8 @@
 -- What contracts see of a seat.
 use Rattle.std.specs.Prelude.{◌≡◌}
 use Rattle.atomic_table.specs.Seated.{TableId}
-use Rattle.core_model.specs.SeatStates.{Account, Idle}
-use Rattle.core_model.specs.Shown.{Holding}
+use Rattle.table_model.specs.SeatStates.{Account, Idle}
+use Rattle.table_model.specs.Shown.{Holding}
 
 -- its table, its number, what it was opened with, its state, and what it knows of the run
 pub record SeatValue : Type 0 where

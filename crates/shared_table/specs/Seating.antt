@@ -2,9 +2,9 @@
 use Rattle.std.specs.Prelude.{ℕ, zero, suc, List, [], ◌∷◌, ◌++◌}
 use Rattle.plain_map.specs.declared.calls.Call.{Call}
 use Rattle.plain_map.specs.declared.calls.Call.TheVariants.{Lookup}
-use Rattle.core_model.specs.Setup.{Setup, seats_of}
-use Rattle.core_model.specs.SeatStates.{fresh_seat}
-use Rattle.core_model.specs.Shown.{Holding}
+use Rattle.table_model.specs.Setup.{Setup, seats_of}
+use Rattle.table_model.specs.SeatStates.{fresh_seat}
+use Rattle.table_model.specs.Shown.{Holding}
 use Rattle.shared_table.specs.declared.view.View.{View}
 use Rattle.plain_map.specs.Keys.{no_key}
 

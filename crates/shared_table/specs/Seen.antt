@@ -2,13 +2,13 @@
 use Rattle.std.specs.Prelude.{◌≡◌, List, ◌∷◌, ◌++◌}
 use Rattle.plain_map.specs.declared.keys.Key.{Key}
 use Rattle.plain_map.specs.declared.calls.Reply.{Reply}
-use Rattle.core_model.specs.declared.events.Event.{Event}
-use Rattle.core_model.specs.Setup.{Setup}
-use Rattle.core_peeks.specs.Peeks.{WasHeld}
+use Rattle.table_model.specs.declared.events.Event.{Event}
+use Rattle.table_model.specs.Setup.{Setup}
+use Rattle.peek_laws.specs.Peeks.{WasHeld}
 use Rattle.shared_table.specs.Fronts.{Front}
 
--- the reader made a first load after all that it knew before, and at some moment from that load to its last one the plain
--- map had this reply
+-- the reader made a first load after all that it knew before, and at some moment from that load to
+-- its last one the plain map had this reply
 pub record WasSeen (setup : Setup) (was now : Front) (key : Key) (reply : Reply) : Type 0 where
   pub first : List Event
   pub rest : List (List Event)

@@ -9,10 +9,10 @@ use Rattle.plain_map.specs.Serving.{IsNext}
 use Rattle.step_counts.specs.StepCounts.{need_of}
 use Rattle.step_counts.specs.declared.rows.SeatRows.{SeatRows}
 use Rattle.word_rows.specs.Shape.{Shape, sizes_of}
-use Rattle.core_model.specs.declared.events.Event.{Event}
-use Rattle.core_model.specs.Setup.{Setup, seats_of, settings_of}
-use Rattle.core_model.specs.Worlds.{IsRun, world_after, seat_in}
-use Rattle.core_model.specs.Promises.{HasSteps, IsAnsweredBy, words_in}
+use Rattle.table_model.specs.declared.events.Event.{Event}
+use Rattle.table_model.specs.Setup.{Setup, seats_of, settings_of}
+use Rattle.table_model.specs.Worlds.{IsRun, world_after, seat_in}
+use Rattle.table_model.specs.Promises.{HasSteps, IsAnsweredBy, words_in}
 use Rattle.shared_table.specs.Seating.{fresh}
 use Rattle.shared_table.specs.SeatValues.{SeatValue, IsIdle, account_of}
 use Rattle.shared_table.specs.Rule.{IsReached}

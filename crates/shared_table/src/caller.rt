@@ -4,7 +4,7 @@ ghost use Rattle.std.specs.Prelude.{◌≡◌, refl};
 ghost use Rattle.std.proofs.Common.{rules};
 ghost use Rattle.step_counts.specs.StepCounts.{need_of};
 ghost use Rattle.word_rows.specs.Shape.{sizes_of};
-ghost use Rattle.core_model.specs.Setup.{settings_of};
+ghost use Rattle.table_model.specs.Setup.{settings_of};
 ghost use Rattle.shared_table.specs.SeatValues.{account_of};
 ghost use Rattle.shared_table.specs.Values.{IsOf, IsSame};
 

@@ -4,7 +4,7 @@ ghost use Rattle.std.specs.Prelude.{◌≡◌, IfOk, IsPermutation, map};
 ghost use Rattle.std.specs.List.Sorted.{IsSortedByKey};
 ghost use Rattle.plain_map.specs.Keys.{key_cmp};
 ghost use Rattle.word_rows.specs.LayoutView.{shape_of};
-ghost use Rattle.core_model.specs.Closed.{closed_depth, closed_leaves, closed_pairs};
+ghost use Rattle.table_model.specs.Closed.{closed_depth, closed_leaves, closed_pairs};
 ghost use Rattle.closed_words.specs.Views.{as_leaf};
 
 use closed_words::{ClosedLeaf, Starts, Words, closed_depth, closed_leaves, closed_pairs};
@@ -33,7 +33,7 @@ pub fn leaves_in<W: Words>(
 
 /// The pairs that are held, in the order of their keys. The only error is want of memory.
 ///
-/// After a run they are the pairs of the sessions that its order leaves: `core_orders::reopen_laws`.
+/// After a run they are the pairs of the sessions that its order leaves: `order_laws::reopen_laws`.
 pub fn pairs_in<W: Words>(
     alloc: Global,
     layout: &Layout,

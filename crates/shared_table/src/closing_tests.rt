@@ -2,7 +2,7 @@
 
 ghost use Rattle.std.specs.Prelude.{◌≡◌, ◌^◌, All, IfSome, length};
 ghost use Rattle.word_rows.specs.Shape.{AreBelow};
-ghost use Rattle.core_model.specs.Setup.{seats_of};
+ghost use Rattle.table_model.specs.Setup.{seats_of};
 ghost use Rattle.shared_table.specs.Values.{IsOf, new_seat, new_seats};
 
 use crate::{Blank, ClosedTable, Directory, Seat, pairs_in};

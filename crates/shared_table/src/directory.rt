@@ -6,12 +6,12 @@ ghost use Rattle.bucket_states.specs.Parts.{HasDistinctKeys};
 ghost use Rattle.word_rows.specs.Shape.{AreBelow};
 ghost use Rattle.word_rows.specs.Places.{word_count};
 ghost use Rattle.word_rows.specs.LayoutView.{shape_of};
-ghost use Rattle.core_model.specs.Setup.{IsFirstWithoutRoom, IsPair, IsSetup, rules_of, seats_of};
-ghost use Rattle.core_model.specs.Worlds.{opening_words};
+ghost use Rattle.table_model.specs.Setup.{IsFirstWithoutRoom, IsPair, IsSetup, rules_of, seats_of};
+ghost use Rattle.table_model.specs.Worlds.{opening_words};
 ghost use Rattle.opening_words.specs.Openers.{settings_in};
 ghost use Rattle.shared_table.specs.Rule.{plain};
 ghost use Rattle.shared_table.specs.Seating.{whole};
-ghost use Rattle.shared_table.specs.Values.{IsOf, Ran, new_seats};
+ghost use Rattle.shared_table.specs.Values.{IsNew, IsOf, Ran, new_seats};
 ghost use Rattle.shared_table.specs.Openings.{IsAsked, setup_of};
 ghost use Rattle.shared_table.specs.Gathered.{HasAll};
 
@@ -142,6 +142,8 @@ impl Directory {
         requires distinct { HasDistinctKeys first.now }
         ensures setup { IfOk result (λ r. r.0.setup ≡ setup_of settings.now hashing rows.now first.now) }
         ensures seats { IfOk result (λ r. r.1.items ≡ new_seats r.0 0 settings.now.seats) }
+        ensures new { IfOk result (λ r. All (IsNew r.0) r.1.items) }
+        ensures count { IfOk result (λ r. length r.1.items ≡ settings.now.seats) }
         ensures room { IfOk result (λ r. IsSetup r.0.setup) }
         ensures no_room { (place : ℕ) → result ≡ Err (NoRoom place) →
             IsFirstWithoutRoom (rules_of (setup_of settings.now hashing rows.now first.now)) first.now place }
@@ -171,6 +173,8 @@ impl Directory {
         requires distinct { HasDistinctKeys first.now }
         ensures setup { IfOk result (λ r. r.0.setup ≡ setup_of settings.now hashing rows.now first.now) }
         ensures seats { IfOk result (λ r. r.1.items ≡ new_seats r.0 0 settings.now.seats) }
+        ensures new { IfOk result (λ r. All (IsNew r.0) r.1.items) }
+        ensures count { IfOk result (λ r. length r.1.items ≡ settings.now.seats) }
         ensures room { IfOk result (λ r. IsSetup r.0.setup) }
         ensures no_room { (place : ℕ) → result ≡ Err (NoRoom place) →
             IsFirstWithoutRoom (rules_of (setup_of settings.now hashing rows.now first.now)) first.now place }
@@ -211,6 +215,8 @@ impl Directory {
         requires blank { words.old ≡ replicate (word_count (shape_of layout)) 0 }
         ensures setup { IfOk result (λ r. r.0.setup ≡ plain plan.now) }
         ensures seats { IfOk result (λ r. r.1.items ≡ new_seats r.0 0 plan.now.settings.seats) }
+        ensures new { IfOk result (λ r. All (IsNew r.0) r.1.items) }
+        ensures count { IfOk result (λ r. length r.1.items ≡ plan.now.settings.seats) }
         ensures room { IfOk result (λ _. IsSetup (plain plan.now)) }
         ensures no_room { (place : ℕ) → result ≡ Err (NoRoom place) →
             IsFirstWithoutRoom (rules_of (plain plan.now)) plan.now.first.items place }
@@ -243,6 +249,8 @@ impl Directory {
         requires count { length words.now ≡ word_count (plain plan.now).shape }
         ensures setup { IfOk result (λ r. r.0.setup ≡ plain plan.now) }
         ensures seats { IfOk result (λ r. r.1.items ≡ new_seats r.0 0 plan.now.settings.seats) }
+        ensures new { IfOk result (λ r. All (IsNew r.0) r.1.items) }
+        ensures count { IfOk result (λ r. length r.1.items ≡ plan.now.settings.seats) }
     {
         let mut out = Vec::with_capacity(alloc, plan.settings.seats as usize)?;
         let (table, token) = Board::of_words(alloc, words, plan)?;

@@ -15,7 +15,7 @@ use crate::rule::Enters;
 use crate::view::View;
 use atomic_table::Badge;
 use plain_map::{Key, Reply};
-use seat_machine::Desk;
+use seat_calls::Desk;
 use std::marker::{Brand, Model};
 use std::mem;
 use word_rows::place_laws;

@@ -1,9 +1,9 @@
 //! The rooms of seats, kept from one table to the next.
 
 ghost use Rattle.std.specs.Prelude.{◌≡◌, ◌↔◌, All, IfOk, IsTrue};
-ghost use Rattle.seat_machine.specs.Rooms.{HasAllRoom};
+ghost use Rattle.seat_calls.specs.Rooms.{HasAllRoom};
 
-use seat_machine::Room;
+use seat_calls::Room;
 use std::alloc::{AllocError, Global};
 use step_counts::Settings;
 

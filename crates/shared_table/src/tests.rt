@@ -3,8 +3,8 @@
 ghost use Rattle.std.specs.Prelude.{◌≡◌, ◌^◌, All, IfOk, IfSome, length};
 ghost use Rattle.word_rows.specs.Shape.{AreBelow};
 ghost use Rattle.bucket_states.specs.Parts.{HasDistinctKeys};
-ghost use Rattle.core_model.specs.Setup.{IsPair, seats_of};
-ghost use Rattle.shared_table.specs.Values.{IsOf, new_seat, new_seats};
+ghost use Rattle.table_model.specs.Setup.{IsPair, seats_of};
+ghost use Rattle.shared_table.specs.Values.{IsNew, IsOf, new_seat, new_seats};
 
 mod calls;
 mod crowds;
@@ -62,7 +62,7 @@ fn no_pairs() -> [Pair; 0]
 }
 
 // Three pairs, whose keys have to differ.
-#[tactic(auto, using(crate::proofs::TestLemmas::three_distinct))]
+#[tactic(auto, using(bucket_states::proofs::DistinctKeys::three_distinct))]
 fn three(first: Pair, second: Pair, third: Pair) -> Option<[Pair; 3]>
     requires pairs { IsPair first × IsPair second × IsPair third }
     ensures distinct { IfSome result HasDistinctKeys }
@@ -87,6 +87,8 @@ fn opened(
     requires distinct { HasDistinctKeys first.now }
     ensures setup { IfOk result (λ r. seats_of r.0.setup ≡ settings.now.seats) }
     ensures seats { IfOk result (λ r. r.1.items ≡ new_seats r.0 0 settings.now.seats) }
+    ensures new { IfOk result (λ r. All (IsNew r.0) r.1.items) }
+    ensures count { IfOk result (λ r. length r.1.items ≡ settings.now.seats) }
 {
     Directory::open(alloc, settings, Hashing::Ports(0), rows, first)
 }

@@ -1,16 +1,13 @@
 -- The places of the words: within the memory, and apart. Each seat's rows are its own.
 use Rattle.std.proofs.Common.{◌≡◌, ℕ, zero, suc, ◌+◌, ◌-◌, ◌*◌, ◌<◌, ◌≤◌, take, sum, inl, inr, refl, ap, ◌∙◌, arith}
-use Rattle.std.proofs.lemmas.Nat.{same_from_place, mul-add-lt}
+use Rattle.std.proofs.lemmas.Nat.{same_from_place}
 use Rattle.std.proofs.lemmas.Bool.{cases_lt}
 use Rattle.std.proofs.lemmas.List.{get_or_past}
 use Rattle.std.proofs.lemmas.List.Sums.{sum_by_more, sum_by-take-le}
 use Rattle.sim_steps.specs.declared.words.Address.{Address}
 use Rattle.sim_steps.specs.declared.words.Address.TheVariants.{Root, Announcement, Done, OpWord, StateWord}
 use Rattle.sim_steps.specs.Layout.{Settings, seats_of, room_of, desk_of, row_words, op_row, state_row, place, words_of, IsAddress}
-
--- a word of a row lies within the rows
-pub row_within : (row w i rows : ℕ) → row < rows → i < w → row * w + i < rows * w
-row_within row w i rows h k = grind (arith, mul-add-lt)
+use Rattle.word_rows.proofs.Apart.{row_within}
 
 -- within the memory
 pub place_within : (s r : ℕ) (a : Address) → IsAddress s r a → place s r a < words_of s r

@@ -1,68 +1,20 @@
 -- A batch of adds: what it makes of a row, and what it tells of the order.
-use Rattle.std.proofs.Common.{◌≡◌, ◌≢◌, ℕ, zero, suc, ◌+◌, ◌*◌, ◌<◌, ◌≤◌, Bool, true, false, cond, ltb, List, [], ◌∷◌, ◌++◌, length, get_or, set, map, refl, sym, ap, ◌∙◌, subst, arith, get_or-set_other, append_assoc}
+use Rattle.std.proofs.Common.{◌≡◌, ℕ, zero, suc, ◌+◌, ◌*◌, ◌<◌, ◌≤◌, Bool, true, false, cond, ltb, List, [], ◌∷◌, ◌++◌, length, get_or, map, refl, sym, ap, ◌∙◌, subst, arith, append_assoc}
 use Rattle.std.proofs.lemmas.Bool.{cond-true, cond-false, ltb-true}
-use Rattle.std.proofs.lemmas.List.{set_comm, map-append}
+use Rattle.std.proofs.lemmas.List.{map-append}
 use Rattle.sim_steps.specs.declared.adds.Op.{Op}
 use Rattle.sim_steps.specs.Order.{Entry, news}
-use Rattle.sim_steps.specs.Program.{applied, reply_of, in_word, with_op, apply_op, apply_all, no_op}
+use Rattle.sim_steps.specs.Program.{applied, reply_of, with_op, apply_op, apply_all, no_op}
 use Rattle.sim_steps.proofs.Ghost.{Item, entry_of, batch, after_items, Answers}
 use Rattle.sim_steps.proofs.RowLemmas.{Classed, classed_rest, apply_op_is, apply_op_other, apply_all_before, length-apply_op, count-with_op, reply-with_op_same}
 
 -- ---- items and the first word of a row
-
--- the first word of a row is no matter to an op that it takes
-pub with_op-set : (row : List ℕ) (seat : ℕ) (op : Op) (x : ℕ) →
-    with_op (set row 0 x) seat op ≡ set (with_op row seat op) 0 x
-unfolding with_op
-with_op-set row seat op x =
-    let a = 1 + op.class in
-    let b = 4 + op.class in
-    let n = in_word (get_or row a 0 + 1) in
-    let y = in_word (get_or row b 0 + op.length) in
-    let m = op.number in
-    let ea : 0 ≢ a = omega arith in
-    let eb : 0 ≢ b = omega arith in
-    let ec : 0 ≢ 7 + 2 * seat = omega arith in
-    let ed : 0 ≢ 8 + 2 * seat = omega arith in
-    let fa : in_word (get_or (set row 0 x) a 0 + 1) ≡ n =
-    ap (λ z. in_word (z + 1)) (get_or-set_other row 0 a x 0 (λ e. ea (sym e))) in
-    let fb : in_word (get_or (set row 0 x) b 0 + op.length) ≡ y =
-    ap (λ z. in_word (z + op.length)) (get_or-set_other row 0 b x 0 (λ e. eb (sym e))) in
-    ap (λ z. set (set (set (set (set row 0 x) a z) b (in_word (get_or (set row 0 x) b 0 + op.length)))
-    (7 + 2 * seat) m) (8 + 2 * seat) z) fa
-    ∙ ap (λ z. set (set (set (set (set row 0 x) a n) b z) (7 + 2 * seat) m) (8 + 2 * seat) n) fb
-    ∙ ap (λ r. set (set (set r b y) (7 + 2 * seat) m) (8 + 2 * seat) n) (set_comm row 0 a x n ea)
-    ∙ ap (λ r. set (set r (7 + 2 * seat) m) (8 + 2 * seat) n) (set_comm (set row a n) 0 b x y eb)
-    ∙ ap (λ r. set r (8 + 2 * seat) n) (set_comm (set (set row a n) b y) 0 (7 + 2 * seat) x m ec)
-    ∙ set_comm (set (set (set row a n) b y) (7 + 2 * seat) m) 0 (8 + 2 * seat) x n ed
-
--- nor to some of them
-pub after_items-set : (row : List ℕ) (items : List Item) (x : ℕ) →
-    after_items (set row 0 x) items ≡ set (after_items row items) 0 x
-after_items-set row [] x = refl
-after_items-set row (a ∷ items) x = ap (λ r. after_items r items) (with_op-set row a.seat a.op x)
-    ∙ after_items-set (with_op row a.seat a.op) items x
 
 -- items one after the other
 pub after_items-append : (row : List ℕ) (xs ys : List Item) →
     after_items row (xs ++ ys) ≡ after_items (after_items row xs) ys
 after_items-append row [] ys = refl
 after_items-append row (a ∷ xs) ys = after_items-append (with_op row a.seat a.op) xs ys
-
--- two tests and two ops that agree, where they pass, make one batch
-pub batch_same : (s t : ℕ → Bool) (a b : ℕ → Op) (k more : ℕ) → ((p : ℕ) → p < k + more → s p ≡ t p) →
-    ((p : ℕ) → p < k + more → t p ≡ true → a p ≡ b p) → batch s a k more ≡ batch t b k more
-batch_same s t a b k zero h g = refl
-batch_same s t a b k (suc more) h g =
-    ap (λ x. cond x (record { seat = k; op = a k } ∷ []) [] ++ batch s a (k + 1) more) (h k (omega arith))
-    ∙ ap (λ xs. xs ++ batch s a (k + 1) more) (go (t k) (g k (omega arith)))
-    ∙ ap (λ xs. cond (t k) (record { seat = k; op = b k } ∷ []) [] ++ xs)
-    (batch_same s t a b (k + 1) more (λ p n. h p (omega arith)) (λ p n. g p (omega arith)))
-  where
-    go : (y : Bool) → (y ≡ true → a k ≡ b k) →
-        cond y (record { seat = k; op = a k } ∷ []) [] ≡ cond {A = List Item} y (record { seat = k; op = b k } ∷ []) []
-    go true e = ap (λ (o : Op). let i : Item = record { seat = k; op = o } in i ∷ []) (e refl)
-    go false e = refl
 
 -- what is new begins with that of the first seat
 news_front : (old new : ℕ → ℕ) (now : ℕ → Op) (k more : ℕ) (b : Bool) → (b ≡ true → (now k).number ≡ new k) →

@@ -1,5 +1,5 @@
 -- The totals of each version, and the counts that adds were answered, are those that the adds in effect give.
-use Rattle.std.proofs.Common.{◌≡◌, ◌≢◌, ℕ, ◌+◌, ◌*◌, ◌^◌, ◌<◌, ◌≤◌, Bool, true, false, cond, eqb, List, [], ◌∷◌, ◌++◌, length, get_or, inl, inr, refl, sym, ap, ◌∙◌, arith}
+use Rattle.std.proofs.Common.{◌≡◌, ◌≢◌, ℕ, ◌+◌, ◌*◌, ◌^◌, ◌<◌, ◌≤◌, Bool, true, false, cond, eqb, List, [], ◌∷◌, ◌++◌, length, get_or, inl, inr, sym, ap, ◌∙◌, arith}
 use Rattle.std.proofs.lemmas.Bool.{cases_eq, eq-eqb, ne_eqb, cond-true, cond-false}
 use Rattle.std.proofs.Math.Nat.{mod-eq_of_lt}
 use Rattle.sim_steps.specs.declared.adds.Op.{Op}
@@ -30,26 +30,22 @@ pub bytes_of-append : (class : ℕ) (xs ys : List Item) →
 bytes_of-append class [] ys = omega arith
 bytes_of-append class (x ∷ xs) ys = omega (arith, bytes_of-append class xs ys)
 
+-- a flag counts 1 at most
+at_most_one : (b : Bool) → cond b 1 0 ≤ 1
+at_most_one true = omega arith
+at_most_one false = omega arith
+
 -- items of a class are some of all
 pub items_of_few : (class : ℕ) (xs : List Item) → items_of class xs ≤ length xs
 items_of_few class [] = omega arith
-items_of_few class (x ∷ xs) = omega (arith, items_of_few class xs, one (eqb x.op.class class))
-  where
-    one : (b : Bool) → cond b 1 0 ≤ 1
-    one true = omega arith
-    one false = omega arith
+items_of_few class (x ∷ xs) = omega (arith, items_of_few class xs, at_most_one (eqb x.op.class class))
 
 -- items of the three classes, of seats that a row has, and not too long
 abbrev pub Fair : ℕ → List Item → Type 0
 Fair seats [] = Unit {0}
 Fair seats (item ∷ items) = (item.seat < seats) × (item.op.class < 3) × (item.op.length ≤ 262144) × Fair seats items
 
--- two lists that are fair are fair together
-pub fair_append : (seats : ℕ) (xs ys : List Item) → Fair seats xs → Fair seats ys → Fair seats (xs ++ ys)
-fair_append seats [] ys f g = g
-fair_append seats (x ∷ xs) ys f g = (f.0, f.1, f.2, fair_append seats xs ys f.3 g)
-
--- and so is a front
+-- a front of a fair list is fair
 pub fair_front : (seats : ℕ) (xs ys : List Item) → Fair seats (xs ++ ys) → Fair seats xs
 fair_front seats [] ys f = tt
 fair_front seats (x ∷ xs) ys f = (f.0, f.1, f.2, fair_front seats xs ys f.3)
@@ -64,11 +60,6 @@ bytes_of_few seats class (x ∷ xs) f = omega (arith, bytes_of_few seats class x
     one false = omega arith
 
 -- ---- a row after some items
-
--- items leave a row its length
-length-after_items : (row : List ℕ) (items : List Item) → length (after_items row items) ≡ length row
-length-after_items row [] = refl
-length-after_items row (i ∷ items) = length-after_items (with_op row i.seat i.op) items ∙ length-with_op row i.seat i.op
 
 -- one item counts once in its class
 count_one : (seats : ℕ) (row : List ℕ) (class seat : ℕ) (op : Op) → class < 3 → op.class < 3 → seat < seats →
@@ -122,7 +113,7 @@ pub count_after_items : (seats : ℕ) (row : List ℕ) (items : List Item) (clas
 count_after_items seats row [] class h f e small = omega arith
 count_after_items seats row (i ∷ items) class h f e small =
     let one = count_one seats row class i.seat i.op h f.1 f.0 e (omega arith) in
-    let step : cond (eqb i.op.class class) 1 0 ≤ 1 = at_most (eqb i.op.class class) in
+    let step : cond (eqb i.op.class class) 1 0 ≤ 1 = at_most_one (eqb i.op.class class) in
     omega (
       arith,
       one,
@@ -130,10 +121,6 @@ count_after_items seats row (i ∷ items) class h f e small =
       count_after_items seats (with_op row i.seat i.op) items class h f.3 (length-with_op row i.seat i.op ∙ e)
           (omega (arith, one, step, small)),
     )
-  where
-    at_most : (b : Bool) → cond b 1 0 ≤ 1
-    at_most true = omega arith
-    at_most false = omega arith
 
 -- and add their bytes
 pub bytes_after_items : (seats : ℕ) (row : List ℕ) (items : List Item) (class : ℕ) → class < 3 → Fair seats items →

@@ -16,6 +16,7 @@ use Rattle.sim_steps.proofs.Logs.{blank}
 use Rattle.sim_steps.proofs.Runs.{Follows}
 use Rattle.sim_steps.proofs.OrderLemmas.{items_to, items_few}
 use Rattle.sim_steps.proofs.Counts.{items_of, bytes_of, items_of-append, bytes_of-append, items_of_few, bytes_of_few, Fair, count_after_items, bytes_after_items}
+use Rattle.list_laws.proofs.Numbers.{plus_none}
 
 -- ---- the add that a seat is in, where it is announced
 
@@ -112,10 +113,6 @@ opening_bytes l zero h = refl
 opening_bytes l (suc zero) h = refl
 opening_bytes l (suc (suc zero)) h = refl
 opening_bytes l (suc (suc (suc n))) h = absurd (omega arith)
-
--- nothing is added
-add_none : (n : ℕ) → n ≡ n + 0
-add_none n = omega arith
 
 module _ (l : Settings) (w : World) (c : Common) (locals : ℕ → Local) (a : Follows l w c locals) where
   -- the add of an announced number, as its seat tells it
@@ -257,9 +254,9 @@ module _ (l : Settings) (w : World) (c : Common) (locals : ℕ → Local) (a : F
   pub sums : (v class : ℕ) → v ≤ c.top → class < 3 → Sums v class
   sums zero class h k = record {
     count = ap (λ r. get_or r (1 + class) 0) a.kept.shared.chain.first_words ∙ opening_count l class k
-        ∙ add_none (get_or l.first.counts class 0);
+        ∙ plus_none (get_or l.first.counts class 0);
     bytes = ap (λ r. get_or r (4 + class) 0) a.kept.shared.chain.first_words ∙ opening_bytes l class k
-        ∙ add_none (get_or l.first.bytes class 0);
+        ∙ plus_none (get_or l.first.bytes class 0);
   }
   sums (suc v) class h k =
       let s = sums v class (omega arith) k in

@@ -1,6 +1,6 @@
 -- The memory by its parts, each a function, and that the list of words is it, laid flat.
-use Rattle.std.proofs.Common.{◌≡◌, ◌≢◌, ℕ, zero, suc, ◌+◌, ◌-◌, ◌*◌, ◌<◌, ◌≤◌, cond, eqb, ◌&&◌, List, ◌++◌, length, get_or, set, sum, replicate, inl, inr, refl, sym, ap, ◌∙◌, subst, arith, get_or-set_same, get_or-set_other, length-set, length-append}
-use Rattle.std.proofs.lemmas.Bool.{eq-eqb, ne_eqb, cases_eq, and_left, and_right, and_from, cond-true, cond-false}
+use Rattle.std.proofs.Common.{◌≡◌, ◌≢◌, ℕ, zero, suc, ◌+◌, ◌-◌, ◌*◌, ◌<◌, ◌≤◌, cond, eqb, List, ◌++◌, length, get_or, set, sum, replicate, inl, inr, refl, sym, ap, ◌∙◌, subst, arith, get_or-set_same, get_or-set_other, length-set, length-append}
+use Rattle.std.proofs.lemmas.Bool.{ne_eqb, cases_eq, cond-false}
 use Rattle.std.proofs.lemmas.List.{get_or-replicate, length-replicate, get_or_append_left, get_or-append_right}
 pub use Rattle.word_rows.specs.Memory.{put, put_at}
 pub use Rattle.word_rows.proofs.MemoryLemmas.{put_same, put_other, put_is, put_at_same, put_at_row, put_at_place, put_at_is}
@@ -8,7 +8,8 @@ use Rattle.sim_steps.specs.declared.words.Address.{Address}
 use Rattle.sim_steps.specs.declared.words.Address.TheVariants.{Root, Announcement, Done, OpWord, StateWord}
 use Rattle.sim_steps.specs.Layout.{Settings, seats_of, row_words, words_of, IsAddress}
 use Rattle.sim_steps.specs.World.{place_of, opening_row, opening_words}
-use Rattle.sim_steps.proofs.Apart.{place_apart, place_within, row_within}
+use Rattle.sim_steps.proofs.Apart.{place_apart, place_within}
+use Rattle.word_rows.proofs.Apart.{row_within}
 
 -- the words by seat, and by row and place in the row
 pub record Memory : Type 0 where

@@ -10,7 +10,6 @@ use Rattle.sim_steps.proofs.Ghost.{Item, batch, after_items, Answers, Common, Sh
 use Rattle.sim_steps.proofs.RowLemmas.{Outcome}
 use Rattle.sim_steps.proofs.Batches.{news_batch, Batched, apply_all-batch, apply_all_answers}
 use Rattle.sim_steps.proofs.Step
-use Rattle.sim_steps.proofs.Step.{moves_none}
 
 -- a batch of announced ops
 named_batch : (l : Settings) (number : ℕ → ℕ) (call_at : ℕ → ℕ → Op) (passes : ℕ → Bool) (now : ℕ → Op)

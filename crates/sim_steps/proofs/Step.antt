@@ -1,8 +1,9 @@
 -- Each event keeps what holds, phase by phase.
 use Rattle.std.proofs.Common.{◌≡◌, ◌≢◌, ℕ, ◌+◌, ◌*◌, ◌%◌, ◌^◌, ◌<◌, ◌≤◌, Bool, true, false, cond, eqb, ltb, List, [], ◌∷◌, ◌++◌, length, get_or, take, sum, inl, inr, refl, sym, ap, ◌∙◌, subst, arith}
 use Rattle.std.proofs.lemmas.Bool.{ltb-true, ltb-false, leb-true, leb-false, eqb-true, eqb-false, cases_lt, cases_eq}
-use Rattle.std.proofs.lemmas.List.{take_more, take_all, length_push, get_or_push, get_or_append_left, get_or_past}
+use Rattle.std.proofs.lemmas.List.{length_push, get_or_push, get_or_append_left, get_or_past}
 use Rattle.std.proofs.Math.Nat.{mod-le, mod-eq_of_lt}
+use Rattle.list_laws.proofs.Cuts.{seen_more, seen_all}
 use Rattle.sim_steps.specs.declared.adds.Op.{Op}
 use Rattle.sim_steps.specs.Layout.{Settings, seats_of, room_of, row_words, desk_of, state_row}
 use Rattle.sim_steps.specs.Program.{LoadDone, StoreOp, Announce, LoadRoot, LoadRow, LoadAnnouncement, LoadOp, StoreRow, Publish, StoreDone, Caller, applied, reply_of, next_row, op_words, op_from, no_op, phase_after, caller_after, after_row, after_found}
@@ -14,17 +15,6 @@ use Rattle.sim_steps.proofs.RowLemmas.{Classed, Outcome, length-next_row, next_r
 -- where nothing moves, nothing has moved
 pub moves_none : (l : Settings) (me : ℕ) (c : Common) → Moves l me c c
 moves_none l me c = grind arith
-
--- one more word of a list that is loaded from its front, and the whole of it
-seen_more : (ws seen : List ℕ) (w : ℕ) → length seen < length ws → seen ≡ take (length seen) ws →
-    w ≡ get_or ws (length seen) 0 → seen ++ w ∷ [] ≡ take (length (seen ++ w ∷ [])) ws
-seen_more ws seen w h e f =
-    ap (λ xs. xs ++ w ∷ []) e ∙ ap (λ x. take (length seen) ws ++ x ∷ []) f
-    ∙ sym (take_more ws (length seen) 0 h) ∙ ap (λ n. take n ws) (sym (length_push seen w))
-
--- a front that is as long as the whole is the whole
-seen_all : (ws seen : List ℕ) → length ws ≤ length seen → seen ≡ take (length seen) ws → seen ≡ ws
-seen_all ws seen h e = e ∙ take_all (length seen) ws h
 
 -- one more number that is not above its bound
 below_more : (f : ℕ → ℕ) (n w : ℕ) (xs : List ℕ) → ((q : ℕ) → q < n → get_or xs q 0 ≤ f q) → w ≤ f (length xs) →

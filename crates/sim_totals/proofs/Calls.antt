@@ -1,9 +1,8 @@
 -- An add, step by step.
-use Rattle.std.proofs.Common.{◌≡◌, ◌≢◌, ℕ, ◌+◌, ◌^◌, ◌<◌, Bool, true, false, cond, ltb, leb, ◌&&◌, List, [], ◌∷◌, ◌++◌, length, refl, sym, ap, ◌∙◌, subst, arith}
+use Rattle.std.proofs.Common.{◌≡◌, ℕ, ◌+◌, ◌<◌, Bool, true, false, cond, ltb, leb, ◌&&◌, List, [], ◌∷◌, ◌++◌, length, refl, sym, ap, ◌∙◌, subst, arith}
 use Rattle.std.proofs.Common.{Some, None}
 use Rattle.std.proofs.lemmas.Bool.{cond-true, cond-false, lt-ltb, le-leb, and_from}
 use Rattle.std.proofs.lemmas.List.{length_push}
-use Rattle.std.proofs.lemmas.List.Sums.{get_or-le-sum_by}
 use Rattle.sim_steps.specs.declared.adds.Add.{Add}
 use Rattle.sim_steps.specs.declared.adds.Added.{Added}
 use Rattle.sim_steps.specs.declared.words.Desk.{Desk}
@@ -41,10 +40,6 @@ idle_from (StoreRow turn root row i) e = cc
 idle_from (Publish turn root row) e = cc
 idle_from (StoreDone count) e = cc
 
--- what fails it is not
-pub not_idle : (p : Phase) → is_idle p ≡ false → p ≢ Idle
-not_idle p e f = cc (ap is_idle f)
-
 -- a seat that begins
 ready_idle : (x : Add) (s : Seat) → is_idle s.phase ≡ true → ready x s ≡ begun x s
 ready_idle x s e = cond-true (is_idle s.phase) (begun x s) s e
@@ -79,19 +74,6 @@ counted_rests law i m k r =
     let none : cond {A = ℕ} (is_idle (state_of m).phase) 0 1 ≡ 0 =
     cond-true {A = ℕ} (is_idle (state_of m).phase) 0 1 (is_idle_of (state_of m).phase r.idle) in
     omega (arith, subst (λ (s : Seat). s.caller.number ≡ length s.log + cond (is_idle s.phase) 0 1) e w, none)
-
--- a machine at rest has counted as many adds as it answered
-pub number_fits : OfEach IsWhole → (i : ℕ) (m : M) (k : Machine) → Rests i m k →
-    length (state_of m).log < room_of m.0.settings i → k.caller.number + 1 < 2 ^ 32
-number_fits law i m k r h =
-    omega (
-      arith,
-      counted_rests law i m k r,
-      ap (λ (x : Machine). x.caller.number) r.machine,
-      h,
-      r.at.settings.rows,
-      get_or-le-sum_by (λ n. n) m.0.settings.adds i 0 r.at.inside,
-    )
 
 -- a machine at rest begins an add under its view
 pub begins_under : OfEach IsWhole → (i : ℕ) (x : Add) (m : M) (k : Machine) → Rests i m k →

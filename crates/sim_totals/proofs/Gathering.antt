@@ -1,11 +1,11 @@
 -- How adders are put together again, and what is known at the end.
-use Rattle.std.proofs.Common.{◌≡◌, ℕ, zero, suc, ◌+◌, ◌<◌, ◌≤◌, List, [], ◌∷◌, ◌++◌, length, set, take, cond, eqb, ltb, inl, inr, ⊎_elim, Some, refl, sym, ap, ◌∙◌, subst, arith}
+use Rattle.std.proofs.Common.{◌≡◌, ℕ, zero, suc, ◌+◌, ◌<◌, ◌≤◌, List, [], ◌∷◌, ◌++◌, length, set, cond, eqb, ltb, inl, inr, ⊎_elim, Some, refl, sym, ap, ◌∙◌, subst, arith}
 use Rattle.std.specs.Prelude.{All}
 use Rattle.std.proofs.lemmas.Bool.{cases_eq, cond-true, lt-ltb}
 use Rattle.std.proofs.lemmas.Bool.Decides.{nat_tests}
 use Rattle.std.proofs.lemmas.List.Elements.{All-nil, All-cons, All-pop}
 use Rattle.std.proofs.lemmas.List.Sums.{sum_by-cons}
-use mathlib.Core.Option.{some, some-injective, some-ne-none}
+use mathlib.Core.Option.{some}
 use lib.ListN.{get_elem?}
 use Rattle.atomic_table.specs.Table.{Joins, Final, Seen}
 use Rattle.atomic_table.proofs.Lists.{at_set, set_else}
@@ -160,10 +160,3 @@ ends c p id xs t ws slots all h f =
       once = λ i h. sym (entries_count i xs)
           ∙ each_once (entries xs) few (seats_of c) (below_length c r.run p.settings (entries xs) a ∙ long) i h;
     }
-
--- the list up to a place, with that place
-pub take_at : (l : List ℕ) (i n : ℕ) → get_elem? l i ≡ some n → take (i + 1) l ≡ take i l ++ n ∷ []
-take_at [] i n e = absurd (some-ne-none n (sym e))
-take_at (x ∷ xs) zero n e = ap (λ (k : ℕ). k ∷ []) (some-injective x n e)
-take_at (x ∷ xs) (suc i) n e = let f : suc i + 1 ≡ suc (i + 1) = omega arith in
-    ap (λ (k : ℕ). take k (x ∷ xs)) f ∙ ap (λ (l : List ℕ). x ∷ l) (take_at xs i n e)

@@ -87,11 +87,6 @@ pub steps-snoc : (c : Settings) (w : World) (es : List Event) (e : Event) → Ar
 steps-snoc c w [] e a h = (h, tt)
 steps-snoc c w (x ∷ xs) e a h = (a.0, steps-snoc c (happens c w x) xs e a.1 h)
 
--- a beginning of a list of steps is one
-pub steps-front : (c : Settings) (w : World) (es fs : List Event) → AreStepsFrom c w (es ++ fs) → AreStepsFrom c w es
-steps-front c w [] fs a = tt
-steps-front c w (x ∷ xs) fs a = (a.0, steps-front c (happens c w x) xs fs a.1)
-
 -- an event of a seat that can act is its step
 pub happens-at : (c : Settings) (w : World) (i : ℕ) (x : Add) (s : Seat) → i < seats_of c → seat_in w i ≡ s →
     can_act c i x s ≡ true →

@@ -4,7 +4,7 @@
 ghost use Rattle.std.specs.Prelude.{◌≡◌, ◌^◌, All, IfSome, length};
 ghost use Rattle.word_rows.specs.Shape.{AreBelow};
 ghost use Rattle.bucket_states.specs.Parts.{HasDistinctKeys};
-ghost use Rattle.core_model.specs.Setup.{IsPair, seats_of};
+ghost use Rattle.table_model.specs.Setup.{IsPair, seats_of};
 ghost use Rattle.shared_table.specs.Values.{new_seats};
 
 mod one_caller;

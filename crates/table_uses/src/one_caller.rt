@@ -2,7 +2,7 @@
 
 ghost use Rattle.std.specs.Prelude.{◌≡◌, ◌<◌, IfSome};
 ghost use Rattle.plain_map.specs.Updates.{value_limit};
-ghost use Rattle.core_model.specs.Setup.{seats_of};
+ghost use Rattle.table_model.specs.Setup.{seats_of};
 ghost use Rattle.shared_table.specs.Values.{IsOf, new_seat, new_seats};
 
 use crate::{opened, settings_of};

@@ -22,8 +22,8 @@ const WEB_AGAIN: Key = Key {
     k4: 0x0200_5006,
 };
 
-// An insert of a new flow has 151 steps in a table of 8 items and one caller: a bucket row has 63 words, and an op row 8.
-// The lookup of one item has 14.
+// An insert of a new flow has 151 steps in a table of 8 items and one caller: a bucket row has 63 words, and an
+// op row 8. The lookup of one item has 14.
 #[test]
 fn a_flow_is_remembered(rt: HostRuntime) -> Result<(), Fail> {
     let Some((inserted, found, pairs)) = remember(rt.alloc(), WEB, 7) else {

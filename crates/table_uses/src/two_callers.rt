@@ -3,7 +3,7 @@
 ghost use Rattle.std.specs.Prelude.{◌≡◌, ◌<◌, IfSome};
 ghost use Rattle.plain_map.specs.Serving.{CanCount};
 ghost use Rattle.plain_map.specs.Updates.{value_limit};
-ghost use Rattle.core_model.specs.Setup.{seats_of};
+ghost use Rattle.table_model.specs.Setup.{seats_of};
 ghost use Rattle.shared_table.specs.SeatValues.{account_of};
 ghost use Rattle.shared_table.specs.Values.{IsNew, IsOf, new_seats};
 
@@ -14,8 +14,8 @@ use std::alloc::{AllocError, Global};
 use std::thread::{Threads, join_mut};
 use step_counts::automatic_rows;
 
-/// Two flows with their sessions, each inserted by a caller of its own: the two records, and the pairs that the directory
-/// holds in the end, in the order of their keys. `None` comes for want of memory.
+/// Two flows with their sessions, each inserted by a caller of its own: the two records, and the pairs that the
+/// directory holds in the end, in the order of their keys. `None` comes for want of memory.
 pub fn remember_both<R: Threads>(
     rt: &R,
     alloc: Global,

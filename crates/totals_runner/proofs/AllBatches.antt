@@ -1,5 +1,5 @@
 -- Batches that were counted one after the other: their answers are right ones to all adds.
-use Rattle.std.proofs.Common.{◌≡◌, ◌==◌, ℕ, zero, suc, ◌+◌, ◌-◌, ◌^◌, ◌<◌, ◌≤◌, Bool, true, false, cond, replicate, List, [], ◌∷◌, ◌++◌, map, length, take, drop, get_or, inl, inr, refl, sym, ap, subst, ◌∙◌, arith, length-append, append_assoc, append-nil, zero-add}
+use Rattle.std.proofs.Common.{◌≡◌, ◌==◌, ℕ, suc, ◌+◌, ◌-◌, ◌^◌, ◌<◌, ◌≤◌, Bool, true, false, cond, List, [], ◌∷◌, ◌++◌, map, length, take, drop, get_or, inl, inr, refl, sym, ap, subst, ◌∙◌, arith, length-append, append_assoc, append-nil, zero-add}
 use Rattle.std.specs.Prelude.{All, count_by, filter, slice_index, sum_by}
 use Rattle.std.specs.List.{range_with_len}
 use Rattle.std.proofs.lemmas.Bool.{eq-eqb}
@@ -8,8 +8,8 @@ use Rattle.std.proofs.lemmas.List.Elements.{All-append, All-map, All-nil, All-we
 use Rattle.std.proofs.lemmas.List.FromFn.{get_or-map-range_with_len, length-map-range_with_len}
 use Rattle.std.proofs.lemmas.List.Sums.{count_by-le-length, length-filter, sum_by-append, sum_by-le, sum_by_push}
 use Rattle.std.proofs.lemmas.Simd.{map-map}
-use Rattle.batch_orders.proofs.Cuts.{cut, map_cut}
-use Rattle.batch_orders.proofs.GoneOn.{index_with}
+use Rattle.batch_history.proofs.Cuts.{cut, map_cut}
+use Rattle.batch_history.proofs.GoneOn.{index_with}
 use Rattle.sim_steps.specs.declared.adds.Add.{Add}
 use Rattle.sim_steps.specs.declared.adds.Added.{Added}
 use Rattle.sim_steps.specs.declared.adds.Totals.{Totals}
@@ -18,12 +18,16 @@ use Rattle.sim_steps.specs.Program.{step_bound}
 use Rattle.sim_steps.specs.Totals.{AreSmall, IsAdd, adds_of, length_of}
 use Rattle.sim_steps.specs.Order.{Entry, adds_in, how_many}
 use Rattle.report_text.specs.Adds.{added_on}
-use Rattle.totals_runner.specs.PacketAdds.{add_of, adds_by, no_add, seat_for}
+use Rattle.list_laws.proofs.Cuts.{cut_at, zero_at}
+use Rattle.list_laws.proofs.Places.{All-right, All-left}
+use Rattle.totals_runner.specs.PacketAdds.{add_of, adds_by, seat_for}
+use Rattle.sim_totals.specs.Rule.{no_add}
 use Rattle.totals_runner.specs.Counted.{AreCounted, Counted, IsCounted, settings_of, totals_left, world_of}
-use Rattle.totals_runner.specs.Printed.{added_in_all, added_then, adds_on, answers_on, no_counts, order_on, packet_of, packets_in}
+use Rattle.totals_runner.specs.Printed.{added_in_all, added_then, adds_on, answers_on, order_on, packet_of, packets_in}
+use Rattle.batch_history.specs.Batches.{no_counts}
 use Rattle.totals_runner.specs.Right.{CountedAreRight, FEW, Stands, nothing}
-use Rattle.totals_runner.proofs.Lists.{All-left, All-right, sum_by-map, sum_by_same}
-use Rattle.totals_runner.proofs.Orders.{IsNumbered, cut_at}
+use Rattle.totals_runner.proofs.Lists.{sum_by-map, sum_by_same}
+use Rattle.totals_runner.proofs.Orders.{IsNumbered}
 use Rattle.totals_runner.proofs.Named.{AreTurns, IsNamed, make_adds, make_length, named, sum_in_turns, turns_once}
 use Rattle.totals_runner.proofs.OneBatch.{Answer, adds_named, all_at, answer, as_many, bytes_left, counts_left, entries, many, seat_is, turns}
 
@@ -244,7 +248,8 @@ module _ (seats : ℕ) (some : 0 < seats) (few : seats ≤ 8) (all adds : List A
         ∙ sum_by-append test (map (add_of all) order) front_adds in
         let total : b.count ≡ slice_index batch.first.counts b.add.class
         + sum_by test (front_adds ++ add_of all (own entry) ∷ []) =
-        of.answered.counted ∙ ap (λ (xs : List Add). slice_index batch.first.counts b.add.class + sum_by test xs) listed in
+        of.answered.counted
+        ∙ ap (λ (xs : List Add). slice_index batch.first.counts b.add.class + sum_by test xs) listed in
         omega (
           arith,
           total,
@@ -325,7 +330,8 @@ module _ (seats : ℕ) (some : 0 < seats) (few : seats ≤ 8) (all adds : List A
             (map-map (λ (a : Added). a.add) (added_on before) batch.answers ∙ is.asked);
         seats_are = All-append (λ (a : Added). a.seat ≡ seat_for seats a.add.packet) answers
             (map (added_on before) batch.answers) come.seats_are
-            (All-map (λ (a : Added). a.seat ≡ seat_for seats a.add.packet) (added_on before) batch.answers is.seats_are);
+            (All-map (λ (a : Added). a.seat ≡ seat_for seats a.add.packet) (added_on before)
+            batch.answers is.seats_are);
         numbered = numbers_on;
         turns = λ seat less.
             let by_seat : ℕ → Bool = λ (packet : ℕ). seat_for seats packet == seat in
@@ -385,8 +391,8 @@ pub come_all : (seats : ℕ) → 0 < seats → seats ≤ 8 → (all : List Add) 
     Come seats all (adds ++ adds_on batches) (answers ++ answers_on seats before batches)
     (order ++ order_on seats batches) (totals_left totals batches) (added_in_all seats before batches)
 come_all seats some few all names good short [] adds answers order totals before come all_are counted =
-    come_same seats all adds (adds ++ []) answers (answers ++ []) order (order ++ []) totals before (sym (append-nil adds))
-    (sym (append-nil answers)) (sym (append-nil order)) come
+    come_same seats all adds (adds ++ []) answers (answers ++ []) order (order ++ []) totals before
+    (sym (append-nil adds)) (sym (append-nil answers)) (sym (append-nil order)) come
 come_all seats some few all names good short (batch ∷ batches) adds answers order totals before come all_are counted =
     let rest : List Add = adds_on batches in
     let on : List ℕ = added_then seats before batch in
@@ -418,15 +424,10 @@ come_none seats all = record {
   turns = λ seat less. refl;
   stand = All-nil (Stands seats all []);
   within = All-nil (λ (a : Added). a.steps ≤ step_bound seats);
-  counts = λ class less. zeros 3 class;
-  bytes = λ class less. zeros 3 class;
-  before_is = λ seat less. zeros 8 seat;
+  counts = λ class less. zero_at 3 class;
+  bytes = λ class less. zero_at 3 class;
+  before_is = λ seat less. zero_at 8 seat;
 }
-  where
-    zeros : (n i : ℕ) → slice_index (replicate n 0) i ≡ 0
-    zeros zero i = refl
-    zeros (suc n) zero = refl
-    zeros (suc n) (suc i) = zeros n i
 
 -- whatever the interleaving, the answers are right
 pub counted_are_right : CountedAreRight

@@ -61,10 +61,12 @@ shares_more seats frames frame seat is less =
     each s inside = elim (cases_eq s seat) [
       | inl same ↦
           let within : seat < length (shares_in seats frames) = omega (arith, long, less) in
-          let own : (seat_for seats frame.packet == s) ≡ true = eq-eqb (seat_for seats frame.packet) s (sym is ∙ sym same) in
+          let own : (seat_for seats frame.packet == s) ≡ true =
+          eq-eqb (seat_for seats frame.packet) s (sym is ∙ sym same) in
           ap (λ (r : ℕ). get_or (set (shares_in seats frames) seat
           (get_or (shares_in seats frames) seat [] ++ frame ∷ [])) r []) same
-          ∙ get_or-set_same (shares_in seats frames) seat (get_or (shares_in seats frames) seat [] ++ frame ∷ []) [] within
+          ∙ get_or-set_same (shares_in seats frames) seat
+          (get_or (shares_in seats frames) seat [] ++ frame ∷ []) [] within
           ∙ ap (λ (fs : List Frame). fs ++ frame ∷ []) (there seat less)
           ∙ ap (λ (r : ℕ). frames_by seats r frames ++ frame ∷ []) (sym same)
           ∙ ap (λ (fs : List Frame). frames_by seats s frames ++ fs)
@@ -73,7 +75,8 @@ shares_more seats frames frame seat is less =
       | inr other ↦
           let none : (seat_for seats frame.packet == s) ≡ false =
           ne_eqb (seat_for seats frame.packet) s (λ eq. other (sym eq ∙ sym is)) in
-          get_or-set_other (shares_in seats frames) seat s (get_or (shares_in seats frames) seat [] ++ frame ∷ []) [] other
+          get_or-set_other (shares_in seats frames) seat s
+          (get_or (shares_in seats frames) seat [] ++ frame ∷ []) [] other
           ∙ there s inside ∙ sym (append-nil (frames_by seats s frames))
           ∙ ap (λ (fs : List Frame). frames_by seats s frames ++ fs)
           (sym (cond-false (seat_for seats frame.packet == s) (frame ∷ []) [] none))

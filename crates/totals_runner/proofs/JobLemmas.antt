@@ -12,7 +12,8 @@ use Rattle.totals_runner.specs.declared.frames.Frames.{Frames}
 use Rattle.totals_runner.specs.declared.counting.Counting.{Counting}
 use Rattle.totals_runner.specs.PacketAdds.{MakeAdds}
 use Rattle.totals_runner.specs.Counted.{AreCounted, Counted, totals_left}
-use Rattle.totals_runner.specs.Printed.{added_in_all, added_then, adds_on, all_lines, answers_on, lines_of, no_counts, order_on}
+use Rattle.totals_runner.specs.Printed.{added_in_all, added_then, adds_on, all_lines, answers_on, lines_of, order_on}
+use Rattle.batch_history.specs.Batches.{no_counts}
 use Rattle.totals_runner.specs.Right.{AreRight, nothing}
 use Rattle.totals_runner.specs.Frames.{HasFrames}
 use Rattle.totals_runner.specs.Opened.{IsOpened}
@@ -88,7 +89,8 @@ right_of job seats batches same kept =
 
 pub counts_on : (job then : Counting) (seats : ℕ) (batches : List (List (List ℕ))) (put old new : List ℕ)
     (packets : List (List ℕ)) (batch : Counted) → (so : IsCountedSo job seats batches put) →
-    MakeAdds (job.packets + 1) packets batch.adds → HasCounted then (so.counted ++ batch ∷ []) → then.seats ≡ job.seats →
+    MakeAdds (job.packets + 1) packets batch.adds → HasCounted then (so.counted ++ batch ∷ []) →
+    then.seats ≡ job.seats →
     new ≡ old ++ add_batch_lines job.seats (lines_of job.seats job.before batch) →
     (lines : List ℕ) × (new ≡ old ++ lines) × IsCountedSo then seats (batches ++ packets ∷ []) (put ++ lines)
 counts_on job then seats batches put old new packets batch so make kept same text = (

@@ -7,7 +7,7 @@ use Rattle.std.proofs.lemmas.List.Elements.{All-cons, All-head, All-nil, All-tai
 use Rattle.std.proofs.lemmas.List.FromFn.{length-map-range_with_len}
 use Rattle.std.proofs.lemmas.List.Folds.{flat_map-map}
 use Rattle.std.proofs.lemmas.List.Sums.{count_by-le-length, fold-append, length-filter}
-use Rattle.batch_orders.specs.Batches.{with_counts}
+use Rattle.batch_history.specs.Batches.{with_counts, no_counts}
 use Rattle.sim_steps.specs.declared.adds.Add.{Add}
 use Rattle.sim_steps.specs.declared.adds.Added.{Added}
 use Rattle.sim_steps.specs.declared.adds.Totals.{Totals}
@@ -21,9 +21,10 @@ use Rattle.plain_map.specs.declared.records.CallId.{CallId}
 use Rattle.report_text.specs.Report.{order_lines}
 use Rattle.report_text.specs.Adds.{add_batch_lines, add_line, added_on}
 use Rattle.totals_runner.specs.declared.counting.Counting.{Counting}
-use Rattle.totals_runner.specs.PacketAdds.{MakeAdds, adds_by, no_add, seat_for}
+use Rattle.totals_runner.specs.PacketAdds.{MakeAdds, adds_by, seat_for}
+use Rattle.sim_totals.specs.Rule.{no_add}
 use Rattle.totals_runner.specs.Counted.{AreCounted, Counted, IsCounted, settings_of, totals_left, world_of}
-use Rattle.totals_runner.specs.Printed.{added_in_all, added_then, adds_on, answers_on, id_of, lines_of, most_steps, no_counts, order_on}
+use Rattle.totals_runner.specs.Printed.{added_in_all, added_then, adds_on, answers_on, id_of, lines_of, most_steps, order_on}
 use Rattle.totals_runner.specs.Right.{nothing}
 use Rattle.totals_runner.specs.Frames.{AreFrames, frames_by, shares_in}
 use Rattle.totals_runner.specs.Batch.{AreInTurn, IsEntry, IsOfRun, id_in, no_answer}
@@ -71,7 +72,8 @@ adds_more (b ∷ batches) batch =
     ap (λ (xs : List Add). b.adds ++ xs) (adds_more batches batch)
     ∙ sym (append_assoc b.adds (adds_on batches) batch.adds)
 
-pub make_append : (number last : ℕ) (packets more : List (List ℕ)) (adds others : List Add) → MakeAdds number packets adds →
+pub make_append : (number last : ℕ) (packets more : List (List ℕ)) (adds others : List Add) →
+    MakeAdds number packets adds →
     MakeAdds last more others → last ≡ number + length packets → MakeAdds number (packets ++ more) (adds ++ others)
 make_append number last [] more adds others make rest at =
     let same : last ≡ number = omega (arith, at) in
@@ -141,7 +143,8 @@ frames_many number (packet ∷ packets) frames are =
 pub frames_short : (number : ℕ) (packets : List (List ℕ)) (frames : List Frame) → AreFrames number packets frames →
     All (λ (packet : List ℕ). length packet ≤ 262144) packets → All (λ (frame : Frame). frame.length ≤ 262144) frames
 frames_short number [] frames are short =
-    subst (All (λ (frame : Frame). frame.length ≤ 262144)) (sym are) (All-nil (λ (frame : Frame). frame.length ≤ 262144))
+    subst (All (λ (frame : Frame). frame.length ≤ 262144)) (sym are)
+    (All-nil (λ (frame : Frame). frame.length ≤ 262144))
 frames_short number (packet ∷ packets) frames are short =
     let one : length packet ≤ 262144 = All-head (λ (p : List ℕ). length p ≤ 262144) packet packets short in
     subst (All (λ (frame : Frame). frame.length ≤ 262144)) (sym are.4)

@@ -8,8 +8,8 @@ use Rattle.std.proofs.lemmas.List.Elements.{filter-append}
 use Rattle.std.proofs.lemmas.List.Sums.{fold_push, length-filter, sum_by_push}
 use Rattle.sim_steps.specs.declared.adds.Added.{Added}
 use Rattle.report_text.specs.Adds.{add_line, added_on}
+use Rattle.list_laws.proofs.Cuts.{cut_at}
 use Rattle.totals_runner.specs.Batch.{AreInTurn}
-use Rattle.totals_runner.proofs.Orders.{cut_at}
 
 -- the lines of the first so many answers stand behind the old text, and of each seat so many of its answers were taken
 pub record AreTold (seats : ℕ) (before : List ℕ) (most : ℕ) (old now : List ℕ) (steps : ℕ) (taken : List ℕ)
@@ -56,7 +56,8 @@ next_in_turn seats first logs answers place a some turns less =
     let passes : by_seat here ≡ true = eq-eqb here.seat seat (turns.turns place a less) in
     let log : List Added = get_or logs seat [] in
     let log_is : log ≡ filter by_seat front ++ here ∷ filter by_seat back =
-    turns.logs_are seat below ∙ ap (filter by_seat) (cut_at answers place a less) ∙ filter_at by_seat front back here passes in
+    turns.logs_are seat below ∙ ap (filter by_seat) (cut_at answers place a less)
+    ∙ filter_at by_seat front back here passes in
     let count : length (filter by_seat front) ≡ count_by by_seat front = length-filter by_seat front in
     record {
       seat = below;

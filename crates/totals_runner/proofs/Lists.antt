@@ -1,20 +1,10 @@
 -- Lists: what a filter keeps, sums over a mapped list, and lists that hold the same elements.
-use Rattle.std.proofs.Common.{◌≡◌, ◌==◌, ℕ, zero, suc, ◌+◌, ◌<◌, Bool, true, false, cond, not, List, [], ◌∷◌, ◌++◌, map, length, get_or, refl, sym, ap, subst, ◌∙◌, arith, length-append}
+use Rattle.std.proofs.Common.{◌≡◌, ◌==◌, ℕ, zero, suc, ◌+◌, ◌<◌, Bool, true, false, cond, not, List, [], ◌∷◌, ◌++◌, map, get_or, refl, sym, ap, subst, ◌∙◌, arith}
 use Rattle.std.specs.Prelude.{All, IsPermutation, filter, sum_by}
 use Rattle.std.proofs.lemmas.Bool.{eqb-true, eqb-false, ne_eqb}
-use Rattle.std.proofs.lemmas.List.{get_or_append_left, get_or-append-add}
 use Rattle.std.proofs.lemmas.List.Elements.{All-filter, All-head, All-tail, filter_passes}
 use Rattle.std.proofs.lemmas.List.Sorted.{IsPermutation-append_right, IsPermutation-filter_both, IsPermutation-refl, IsPermutation-sym, IsPermutation-trans}
 use Rattle.std.proofs.lemmas.List.Sums.{sum_by-cons}
-
--- what holds of all of two lists holds of all of either
-pub All-left : {X : Type 0} (P : X → Type 0) (xs ys : List X) → All P (xs ++ ys) → All P xs
-All-left P xs ys all k d less =
-    subst P (get_or_append_left xs ys d k less) (all k d (omega (arith, less, length-append xs ys)))
-
-pub All-right : {X : Type 0} (P : X → Type 0) (xs ys : List X) → All P (xs ++ ys) → All P ys
-All-right P xs ys all k d less =
-    subst P (get_or-append-add xs ys k d) (all (length xs + k) d (omega (arith, less, length-append xs ys)))
 
 -- a filter of a mapped list is a filter that is mapped
 pub filter-map : {X Y : Type 0} (p : Y → Bool) (f : X → Y) (xs : List X) →
@@ -84,14 +74,12 @@ module _ {X : Type 0} (class : X → ℕ) (n : ℕ) where
   is_last : X → Bool
   is_last x = class x == n
 
-  is_other : X → Bool
-  is_other x = not (class x == n)
-
   others_below : (xs : List X) → All (λ (x : X). class x < suc n) xs →
       All (λ (x : X). class x < n) (filter (λ (x : X). not (class x == n)) xs)
   others_below xs all k d less =
       let y : X = get_or (filter (λ (x : X). not (class x == n)) xs) k d in
-      let few : class y < suc n = All-filter (λ (x : X). not (class x == n)) (λ (x : X). class x < suc n) xs all k d less in
+      let few : class y < suc n =
+      All-filter (λ (x : X). not (class x == n)) (λ (x : X). class x < suc n) xs all k d less in
       let other : not (class y == n) ≡ true = filter_passes (λ (x : X). not (class x == n)) xs k d less in
       below (class y) few other
     where

@@ -10,7 +10,8 @@ use Rattle.packet_heads.specs.declared.packet.Protocol.TheVariants.{Tcp, Udp}
 use Rattle.packet_adders.specs.Classes.{HasClass, class_in}
 use Rattle.sim_steps.specs.declared.adds.Add.{Add}
 use Rattle.sim_steps.specs.Totals.{IsAdd}
-use Rattle.totals_runner.specs.PacketAdds.{MakeAdds, add_of, adds_by, no_add, seat_for}
+use Rattle.totals_runner.specs.PacketAdds.{MakeAdds, add_of, adds_by, seat_for}
+use Rattle.sim_totals.specs.Rule.{no_add}
 use Rattle.totals_runner.proofs.Lists.{filter-map, permuted_by_class, sum_by-map, sum_by_same}
 
 -- ---- what packets add

@@ -20,7 +20,8 @@ use Rattle.sim_steps.specs.World.{World, seat_in}
 use Rattle.sim_steps.specs.Order.{Entry, add_at, adds_in, numbers_of, order_of, read_word, up_to}
 use Rattle.sim_steps.specs.Laws.{IsAnswered, applied_in}
 use Rattle.sim_steps.proofs.LawProofs.{are_answered, are_totals, is_bounded, is_whole}
-use Rattle.totals_runner.specs.PacketAdds.{add_of, adds_by, no_add, seat_for}
+use Rattle.totals_runner.specs.PacketAdds.{add_of, adds_by, seat_for}
+use Rattle.sim_totals.specs.Rule.{no_add}
 use Rattle.totals_runner.specs.Counted.{Counted, IsCounted, settings_of, world_of}
 use Rattle.totals_runner.specs.Printed.{packet_of, packets_in}
 use Rattle.totals_runner.proofs.Lists.{filter-map, filter_same, map_same}

@@ -2,11 +2,12 @@
 use Rattle.std.proofs.Common.{◌≡◌, ◌==◌, ℕ, zero, suc, ◌+◌, ◌-◌, ◌<◌, ◌≤◌, Bool, true, false, cond, ltb, List, [], ◌∷◌, ◌++◌, map, length, take, drop, get_or, refl, sym, ap, subst, ◌∙◌, arith, length-append}
 use Rattle.std.specs.Prelude.{All, filter}
 use Rattle.std.proofs.lemmas.Bool.{cond_both, cond-true, eqb-true, eq-eqb}
-use Rattle.std.proofs.lemmas.List.{get_or_at, map_push, set-get_or, set_split, take_more}
+use Rattle.std.proofs.lemmas.List.{get_or_at, map_push, take_more}
 use Rattle.std.proofs.lemmas.List.Elements.{All-append, All-cons, All-nil, All-push, All-weaker}
 use Rattle.sim_steps.specs.declared.words.Address.TheVariants.{StateWord}
 use Rattle.sim_steps.specs.Order.{Entry, news, numbers_of, read_applied, read_order_to, read_word, up_to}
 use Rattle.sim_steps.proofs.OrderLemmas.{numbers_of-append}
+use Rattle.list_laws.proofs.Cuts.{cut_at}
 
 -- ---- its seats
 
@@ -30,7 +31,8 @@ order_seats seats rows words (suc more) row =
     let P : Entry → Type 0 = λ e. e.0 < seats in
     let base : ℕ = read_word seats rows words (StateWord row 0) in
     let earlier : List Entry = read_order_to seats rows words more (base - 1) in
-    let here : List Entry = news (read_applied seats rows words (base - 1)) (read_applied seats rows words row) 0 seats in
+    let here : List Entry =
+    news (read_applied seats rows words (base - 1)) (read_applied seats rows words row) 0 seats in
     cond_both (base == 0) [] (earlier ++ here) (All P) (λ _. All-nil P)
     (λ _. All-append P earlier here (order_seats seats rows words more (base - 1))
     (news_of (read_applied seats rows words (base - 1)) (read_applied seats rows words row) 0 seats seats
@@ -46,11 +48,6 @@ up_to_are (suc n) =
     (All-weaker (λ (i : ℕ). (0 < i) × (i ≤ n)) (λ (i : ℕ). (0 < i) × (i ≤ suc n))
     (λ i both. (both.0, omega (arith, both.1))) (up_to n) (up_to_are n))
     (omega arith, omega arith)
-
--- a list is cut at a place
-pub cut_at : {X : Type 0} (xs : List X) (k : ℕ) (d : X) → k < length xs →
-    xs ≡ take k xs ++ get_or xs k d ∷ drop (suc k) xs
-cut_at xs k d less = sym (set-get_or xs k d) ∙ set_split xs k (get_or xs k d) less
 
 -- the number of an entry is one of its seat's
 numbers_cut : (front back : List Entry) (e : Entry) →

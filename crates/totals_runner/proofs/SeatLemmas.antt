@@ -1,9 +1,8 @@
 -- The workers of a table, as they are made and taken apart.
-use Rattle.std.proofs.Common.{◌≡◌, ℕ, zero, suc, ◌<◌, ◌≤◌, ◌+◌, ◌^◌, List, [], ◌∷◌, ◌++◌, length, map, take, drop, get_or, reverse, refl, sym, ap, ◌∙◌, subst, vec_len, Vec, Global, arith, append_assoc, append-nil}
+use Rattle.std.proofs.Common.{◌≡◌, ℕ, zero, suc, ◌<◌, ◌≤◌, ◌+◌, ◌^◌, List, [], ◌∷◌, ◌++◌, length, map, get_or, reverse, refl, sym, ap, ◌∙◌, subst, vec_len, Vec, Global, arith, append_assoc, append-nil}
 use Rattle.std.specs.Prelude.{All, slice_index}
 use Rattle.std.specs.List.{AllZip}
-use Rattle.std.proofs.lemmas.List.{drop_all, length-map, map-append, reverse-append}
-use Rattle.std.proofs.Math.Seq.{take-length}
+use Rattle.std.proofs.lemmas.List.{length-map, map-append, reverse-append}
 use Rattle.std.proofs.lemmas.List.Elements.{All-cons, All-head, All-nil, All-tail}
 use Rattle.sim_steps.specs.declared.adds.Added.{Added}
 use Rattle.sim_steps.specs.Layout.{seats_of}
@@ -14,10 +13,6 @@ use Rattle.packet_adders.specs.Work.{IsAnswerTo, IsDone, IsReady}
 use Rattle.totals_runner.specs.Seats.{AreFresh, AreThrough, HasAdded, HaveAdded, HaveRoom, IsFresh}
 
 -- ---- new adders
-
-pub long_fresh : (t : TableValue) (n m : ℕ) → length (fresh_from t n m) ≡ m
-long_fresh t n zero = refl
-long_fresh t n (suc m) = ap suc (long_fresh t (suc n) m)
 
 -- the last of them
 pub fresh_end : (t : TableValue) (n : ℕ) (xs : List AdderValue) (x : AdderValue) (m : ℕ) →
@@ -37,10 +32,6 @@ fresh_end t n (y ∷ ys) x (suc m) e =
     ((λ i. head i ∷ r.0 i), r.1 ∙ ap (fresh t) z)
 
 -- ---- workers
-
--- a list's last is first when it is turned round
-pub reverse_end : {A : Type 0} (xs : List A) (x : A) → reverse (xs ++ x ∷ []) ≡ x ∷ reverse xs
-reverse_end xs x = reverse-append xs (x ∷ [])
 
 -- what is made of a list that is turned round
 pub map-reverse : {A B : Type 0} (f : A → B) (xs : List A) → map f (reverse xs) ≡ reverse (map f xs)
@@ -127,7 +118,8 @@ all_ready t n (share ∷ shares) (w ∷ ws) short room f =
       of = record {
         table = ap (λ (a : AdderValue). a.table_id) one.adder;
         settings = ap (λ (a : AdderValue). a.settings) one.adder;
-        inside = subst (λ (k : ℕ). k < seats_of t.settings) (sym (ap (λ (a : AdderValue). a.number) one.adder)) room.0.0;
+        inside =
+            subst (λ (k : ℕ). k < seats_of t.settings) (sym (ap (λ (a : AdderValue). a.number) one.adder)) room.0.0;
       };
       none = one.none;
       space = one.space;
@@ -183,7 +175,7 @@ fresh_more t n m all front more share ws now w m_is from more_is one now_is = re
   back = share ∷ from.back;
   cut = from.cut ∙ ap (λ (xs : List (List Frame)). xs ++ from.back) more_is
       ∙ append_assoc front (share ∷ []) from.back;
-  fresh = subst (AreFresh t n (share ∷ from.back)) (sym (ap reverse now_is ∙ reverse_end ws w))
+  fresh = subst (AreFresh t n (share ∷ from.back)) (sym (ap reverse now_is ∙ reverse-append ws (w ∷ [])))
       (one, subst (λ (k : ℕ). AreFresh t k from.back (reverse ws)) m_is from.fresh);
 }
 
@@ -261,9 +253,9 @@ added_more t n m all ws now w adders adders' logs logs' from ws_is n_is m_is add
           ∙ append_assoc r.front (r.share ∷ []) from.back;
       through = r.others;
       added = subst (λ (x : List AdderValue). HaveAdded t n (r.share ∷ from.back) x (reverse logs'))
-          (sym (ap reverse adders_are ∙ reverse_end adders w.adder))
+          (sym (ap reverse adders_are ∙ reverse-append adders (w.adder ∷ [])))
           (subst (λ (y : List (List Added)). HaveAdded t n (r.share ∷ from.back) (w.adder ∷ reverse adders) y)
-          (sym (ap reverse logs_are ∙ reverse_end logs w.log.items))
+          (sym (ap reverse logs_are ∙ reverse-append logs (w.log.items ∷ [])))
           (one, subst (λ (k : ℕ). HaveAdded t k from.back (reverse adders) (reverse logs)) m_is from.added));
     }
 
@@ -279,12 +271,3 @@ added_end t all [] adders logs none from =
     nothing : (front : List (List Frame)) → AreThrough t 0 front [] → front ≡ []
     nothing [] h = refl
     nothing (share ∷ front) h = absurd h
-
--- what a slice of a whole `Vec` leaves there
-pub whole_slice : {A : Type 0} (ws vs : List A) (n : ℕ) → n ≡ length ws → length vs ≡ length ws →
-    take n (vs ++ drop (length vs) ws) ≡ vs
-whole_slice ws vs n is long =
-    let none : drop (length vs) ws ≡ [] = drop_all (length vs) ws (omega arith) in
-    let n_is : n ≡ length vs = is ∙ sym long in
-    ap (λ t. take n (vs ++ t)) none ∙ ap (take n) (append-nil vs)
-    ∙ ap (λ (k : ℕ). take k vs) n_is ∙ take-length vs

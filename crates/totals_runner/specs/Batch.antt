@@ -9,7 +9,7 @@ use Rattle.sim_steps.specs.Order.{Entry}
 use Rattle.sim_totals.specs.declared.table.ClosedTotals.{ClosedTotals}
 use Rattle.packet_adders.specs.declared.frames.Frame.{Frame}
 use Rattle.packet_adders.specs.Work.{IsAnswerTo}
-use Rattle.totals_runner.specs.PacketAdds.{no_add}
+use Rattle.sim_totals.specs.Rule.{no_add}
 use Rattle.totals_runner.specs.Counted.{Counted, IsCounted}
 
 -- The batch of these frames was counted from the totals that were first on, and so it was closed; of each seat these
@@ -25,7 +25,8 @@ pub record IsOfRun (seats : ℕ) (first : Totals) (frames : List Frame) (logs : 
   pub order_is : closed.order.items ≡ batch.order
   pub left_is : closed.totals ≡ batch.left
 
--- The answers of seats that take turns, of which the first is that with this number; of each seat these are the answers.
+-- The answers of seats that take turns, of which the first is that with this
+-- number; of each seat these are the answers.
 pub record AreInTurn (seats first : ℕ) (logs : List (List Added)) (answers : List Added) : Type 0 where
   pub turns : (i : ℕ) (d : Added) → i < length answers → (slice_index_or answers i d).seat ≡ (first + i) % seats
   pub logs_are : (seat : ℕ) → seat < seats →

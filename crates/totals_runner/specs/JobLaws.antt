@@ -7,7 +7,8 @@ use Rattle.report_text.specs.declared.parts.Ending.{Ending}
 use Rattle.report_text.specs.Adds.{add_batch_lines, totals_head, totals_report, totals_tail}
 use Rattle.totals_runner.specs.declared.counting.Counting.{Counting}
 use Rattle.totals_runner.specs.Counted.{AreCounted}
-use Rattle.totals_runner.specs.Printed.{all_lines, answers_on, most_steps, no_counts}
+use Rattle.totals_runner.specs.Printed.{all_lines, answers_on, most_steps}
+use Rattle.batch_history.specs.Batches.{no_counts}
 use Rattle.totals_runner.specs.Right.{nothing}
 use Rattle.totals_runner.specs.Told.{AreCountedOf, IsCountedSo, IsTotalsLines, IsTotalsReport}
 

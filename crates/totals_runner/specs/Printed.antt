@@ -1,14 +1,15 @@
--- What is printed of batches that were counted: the numbers of a seat's adds go on from batch to batch, and so does what
--- was seen.
-use Rattle.std.specs.Prelude.{ℕ, ◌-◌, List, [], ◌∷◌, ◌++◌, length, map, max, fold, flat_map, slice_index_or, replicate}
+-- What is printed of batches that were counted: the numbers of a seat's adds go on from
+-- batch to batch, and so does what was seen.
+use Rattle.std.specs.Prelude.{ℕ, ◌-◌, List, [], ◌∷◌, ◌++◌, length, map, max, fold, flat_map, slice_index_or}
 use Rattle.std.specs.List.{range_with_len}
 use Rattle.plain_map.specs.declared.records.CallId.{CallId}
 use Rattle.sim_steps.specs.declared.adds.Add.{Add}
 use Rattle.sim_steps.specs.declared.adds.Added.{Added}
 use Rattle.sim_steps.specs.Order.{Entry}
-use Rattle.batch_orders.specs.Batches.{with_counts}
+use Rattle.batch_history.specs.Batches.{with_counts}
 use Rattle.report_text.specs.Adds.{AddBatch, added_on}
-use Rattle.totals_runner.specs.PacketAdds.{adds_by, no_add}
+use Rattle.totals_runner.specs.PacketAdds.{adds_by}
+use Rattle.sim_totals.specs.Rule.{no_add}
 use Rattle.totals_runner.specs.Counted.{Counted}
 
 -- the packet of an add, by its seat and its number in the batch
@@ -31,10 +32,6 @@ added_then seats before batch =
 abbrev pub added_in_all : (seats : ℕ) → (before : List ℕ) → List Counted → List ℕ
 added_in_all seats before [] = before
 added_in_all seats before (batch ∷ batches) = added_in_all seats (added_then seats before batch) batches
-
--- none yet
-abbrev pub no_counts : List ℕ
-no_counts = replicate 8 0
 
 -- the answers of all batches as they are printed, in packet order
 abbrev pub answers_on : (seats : ℕ) → (before : List ℕ) → List Counted → List Added

@@ -7,7 +7,8 @@ use Rattle.report_text.specs.Adds.{add_batch_lines, totals_head, totals_report}
 use Rattle.totals_runner.specs.declared.counting.Counting.{Counting}
 use Rattle.totals_runner.specs.PacketAdds.{MakeAdds}
 use Rattle.totals_runner.specs.Counted.{AreCounted, Counted, totals_left}
-use Rattle.totals_runner.specs.Printed.{added_in_all, adds_on, all_lines, answers_on, most_steps, no_counts, order_on}
+use Rattle.totals_runner.specs.Printed.{added_in_all, adds_on, all_lines, answers_on, most_steps, order_on}
+use Rattle.batch_history.specs.Batches.{no_counts}
 use Rattle.totals_runner.specs.Right.{AreRight, nothing}
 
 -- these batches of packets, counted on from this number, were counted so

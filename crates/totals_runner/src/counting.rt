@@ -1,7 +1,7 @@
 //! What the batches so far came to.
 
 ghost use Rattle.std.specs.Prelude.{◌≡◌, ◌+◌, ◌∷◌, ◌++◌, ◌≤◌, ◌<◌, [], ℕ, List, All, IfOk, OnOk, length, slice_index, vec_len};
-ghost use Rattle.batch_orders.specs.Batches.{with_counts};
+ghost use Rattle.batch_history.specs.Batches.{with_counts};
 
 use crate::batch::{Dealt, counts_of};
 use crate::dealing::deal;
@@ -73,7 +73,8 @@ impl Counting {
             × HasFrames frames.now self.now.packets packets × (self.now.packets + length packets ≤ 4000000) }
         ensures few { IfOk result (λ made. vec_len made.1 ≤ 8) }
         ensures ready { IfOk result (λ made. All (IsReady made.0) made.1.items) }
-        ensures opened { IfOk result (λ made. (packets : List (List ℕ)) → HasFrames frames.now self.now.packets packets →
+        ensures opened { IfOk result (λ made. (packets : List (List ℕ)) →
+            HasFrames frames.now self.now.packets packets →
             IsOpened self.now made.0 made.1.items made.2 self.now.packets packets) }
     {
         let shares = deal(alloc, self.seats, &frames.frames)?;
@@ -88,8 +89,8 @@ impl Counting {
         Ok((table, workers, dealt))
     }
 
-    /// Closes a table whose adders are through, and appends the lines of the adds and of their one order. The only error
-    /// is want of memory.
+    /// Closes a table whose adders are through, and appends the lines of the adds and of their one
+    /// order. The only error is want of memory.
     pub fn close_batch(
         &mut self,
         alloc: Global,

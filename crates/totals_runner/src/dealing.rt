@@ -6,8 +6,8 @@ ghost use Rattle.totals_runner.specs.Frames.{shares_in};
 use packet_adders::Frame;
 use std::alloc::{AllocError, Global};
 
-/// The frames of each seat, seat 0 first, each seat's in their order: a packet is its seat's by its number over the whole
-/// capture. Each list begins with room for an even part. The only error is want of memory.
+/// The frames of each seat, seat 0 first, each seat's in their order: a packet is its seat's by its number over the
+/// whole capture. Each list begins with room for an even part. The only error is want of memory.
 pub(crate) fn deal(
     alloc: Global,
     seats: u32,

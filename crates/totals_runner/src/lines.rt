@@ -11,9 +11,9 @@ use report_text::{Line, add_text};
 use sim_totals::Added;
 use std::alloc::{AllocError, Global};
 
-/// Appends the lines of so many adds in packet order, before which the seats had made so many: the answer of a packet is
-/// the next one of its seat, and the first packet is that of the seat `first` modulo the seats. Answers the most steps of
-/// one of them, or `most` where this is more. The only error is want of memory.
+/// Appends the lines of so many adds in packet order, before which the seats had made so many: the answer of a packet
+/// is the next one of its seat, and the first packet is that of the seat `first` modulo the seats. Answers the most
+/// steps of one of them, or `most` where this is more. The only error is want of memory.
 pub(crate) fn put_adds(
     text: &mut Vec<u8>,
     before: &[u32; MOST_SEATS],

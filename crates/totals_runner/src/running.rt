@@ -2,7 +2,7 @@
 
 ghost use Rattle.std.specs.Prelude.{◌≡◌, ◌≤◌, Ok};
 ghost use Rattle.edge_traits.specs.Edge.{Rose};
-ghost use Rattle.capture_loop.specs.Leaves.{LeavesAll, ReadsFailed, WritesFailed};
+ghost use Rattle.capture_loop.specs.Leaves.{LoopLeavesAll, RunReads, RunWrites};
 ghost use Rattle.capture_loop.specs.Looping.{OnNotPut};
 ghost use Rattle.totals_runner.specs.Told.{IsTotalsLines, IsTotalsReport};
 
@@ -23,14 +23,15 @@ pub fn count_input<R: Threads + Sync, S: Source, K: Sink, G: Gate + Sync>(
 ) -> Result<Ending, Stop>
     requires some { 1 ≤ seats }
     requires few { seats ≤ 8 }
-    ensures leaves { LeavesAll (IsTotalsLines seats) (IsTotalsReport seats) (Rose (S.faults source.old) (S.faults source.new))
-        (S.left source.old) (S.left source.new) (K.put sink.old) (K.put sink.new) result }
+    ensures leaves { LoopLeavesAll (IsTotalsLines seats) (IsTotalsReport seats)
+        (Rose (S.faults source.old) (S.faults source.new)) (S.left source.old) (S.left source.new)
+        (K.put sink.old) (K.put sink.new) result }
 
     // A device failed, and each that did is answered.
     ensures read_fault { result ≡ Ok Ending.ReadFault → Rose (S.faults source.old) (S.faults source.new) }
     ensures write_fault { OnNotPut result (Rose (K.faults sink.old) (K.faults sink.new)) }
-    ensures reads { ReadsFailed result (S.failed source.old) (S.failed source.new) }
-    ensures writes { WritesFailed result (K.failed sink.old) (K.failed sink.new) }
+    ensures reads { RunReads result (S.failed source.old) (S.failed source.new) }
+    ensures writes { RunWrites result (K.failed sink.old) (K.failed sink.new) }
     ensures counted { (S.faults source.old ≤ S.faults source.new) × (K.faults sink.old ≤ K.faults sink.new) }
 {
     let mut text = Vec::new(means.alloc);

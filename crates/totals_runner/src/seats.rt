@@ -10,8 +10,8 @@ use packet_adders::{AddWorker, Frame};
 use sim_totals::{Added, Adder, ClosedTotals, TotalsTable};
 use std::alloc::{AllocError, Global};
 
-/// Takes apart the workers of a table, which are through, and closes it. What each was answered comes back, in the order
-/// of the seats. The only error is want of memory.
+/// Takes apart the workers of a table, which are through, and closes it. What each was answered comes back, in the
+/// order of the seats. The only error is want of memory.
 pub(crate) fn end_table(
     alloc: Global,
     table: TotalsTable,

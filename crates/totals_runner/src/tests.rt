@@ -158,10 +158,10 @@ impl Gate for InOrder {
     }
 }
 
-// Two seats with two SYN frames each, of which the gate lets packet 2 pass first, then 1, 4 and 3. Each had seen the adds
-// that were told before it, the gate was told the counts in its order, and the printed order is the gate's. The first add
-// finds that the other seat has announced nothing, as above; each other one finds an op, whose row has three words more.
-// No clause says that the seats add on the shared words, or what the gate is told.
+// Two seats with two SYN frames each, of which the gate lets packet 2 pass first, then 1, 4 and 3. Each had seen the
+// adds that were told before it, the gate was told the counts in its order, and the printed order is the gate's. The
+// first add finds that the other seat has announced nothing, as above; each other one finds an op, whose row has three
+// words more. No clause says that the seats add on the shared words, or what the gate is told.
 #[test]
 fn adders_follow_gate(rt: HostRuntime) -> Result<(), Fail> {
     let mut counting = Counting::new(2);

@@ -11,21 +11,23 @@ use Rattle.plain_map.specs.declared.records.Record.{Record}
 use Rattle.trace_share.specs.declared.outcome.Outcome.{Outcome}
 use Rattle.trace_share.specs.declared.outcome.Outcome.TheVariants.{Refused}
 use Rattle.trace_share.specs.Outcomes.{record_in}
-use Rattle.core_placing.proofs.Lists.{flat_map_append}
-use Rattle.core_model.specs.declared.events.Event.{Event}
-use Rattle.core_model.specs.Setup.{Setup, seats_of}
-use Rattle.core_model.specs.Phases.{Phase, SeeDone, StoreDone}
-use Rattle.core_model.specs.SeatStates.{Account, Flight, Stand, Idle, InFlight, SeatState, begun, fresh_seat}
-use Rattle.core_model.specs.Asks.{ask_in}
-use Rattle.core_model.specs.Goes.{state_after}
-use Rattle.core_model.specs.Worlds.{World, act, begin_or_refuse, found_by, happens, opening_world, refusal_of, seat_in, step_of, words_after}
-use Rattle.core_model.specs.Closed.{records_of}
-use Rattle.core_bounds.proofs.WorldSteps.{step_same}
-use Rattle.core_world.specs.declared.values.Stepped.{Stepped}
-use Rattle.core_world.specs.declared.values.Stepped.TheVariants as T
-use Rattle.core_world.specs.Values.{new_record, refused_at, stepped_of, told_of}
+use Rattle.list_laws.proofs.Lists.{flat_map_append}
+use Rattle.table_model.specs.declared.events.Event.{Event}
+use Rattle.table_model.specs.Setup.{Setup, seats_of}
+use Rattle.table_model.specs.Phases.{Phase, SeeDone, StoreDone}
+use Rattle.table_model.specs.SeatStates.{Account, Flight, Stand, Idle, InFlight, SeatState, begun, fresh_seat}
+use Rattle.table_model.specs.Asks.{ask_in}
+use Rattle.table_model.specs.Goes.{state_after}
+use Rattle.table_model.specs.Worlds.{World, act, begin_or_refuse, found_by, happens, opening_world, refusal_of, seat_in, step_of, words_after}
+use Rattle.table_model.specs.Closed.{records_of}
+use Rattle.bound_laws.proofs.WorldSteps.{step_same}
+use Rattle.core_steps.specs.declared.values.Stepped.{Stepped}
+use Rattle.core_steps.specs.declared.values.Stepped.TheVariants as T
+use Rattle.core_steps.specs.Values.{new_record, refused_at, stepped_of, told_of}
 use Rattle.play_runner.specs.Played.{outcome_in, outcomes_from, outcomes_of, refused_with}
-use Rattle.trace_runner.specs.Answered.{answered_by, answered_on}
+use Rattle.play_runner.proofs.WeighedPlays.{first_past}
+use Rattle.report_promises.specs.Good.{answered_by, answered_on}
+use Rattle.report_promises.proofs.NumberLemmas.{answered_by-append}
 use Rattle.trace_runner.proofs.Permuted.{more_of_one}
 
 -- the records of a seat
@@ -58,11 +60,6 @@ told_none event full before after same = go full (new_record before after) no_mo
     go (Some f) made none = told_refused event.seat event.begin f
     go None None none = refl
     go None (Some r) none = absurd (cc)
-
--- the first one past the end
-first_past : (xs : List Record) (r : Record) → slice_get (xs ++ r ∷ []) (length xs) ≡ Some r
-first_past [] r = refl
-first_past (x ∷ xs) r = first_past xs r
 
 -- where a call is answered it is that call's
 told_one : (event : Event) (before after : Account) (r : Record) → after.records ≡ before.records ++ r ∷ [] →
@@ -202,10 +199,6 @@ by_other event (T.Refused full) other apart = go event.begin
     go None = refl
     go (Some begin) = ap (λ b. cond b (record_in (Refused begin.0 begin.1 full)) [] ++ []) apart
 
-by_both : (seat : ℕ) (xs ys : List (ℕ × Outcome)) →
-    answered_by seat (xs ++ ys) ≡ answered_by seat xs ++ answered_by seat ys
-by_both seat xs ys = flat_map_append (λ (line : ℕ × Outcome). cond (line.0 == seat) (record_in line.1) []) xs ys
-
 on_both : (xs ys : List (ℕ × Outcome)) → answered_on (xs ++ ys) ≡ answered_on xs ++ answered_on ys
 on_both xs ys = flat_map_append (λ (line : ℕ × Outcome). record_in line.1) xs ys
 
@@ -242,7 +235,7 @@ module _ (setup : Setup) where
       events_by events next seat ((event_answers setup w event long).long ∙ long)
       ∙ ap (λ rs. rs ++ answered_by seat later) (event_by w event seat long)
       ∙ append_assoc (records_at (seat_in w seat)) (answered_by seat here) (answered_by seat later)
-      ∙ ap (λ rs. records_at (seat_in w seat) ++ rs) (sym (by_both seat here later))
+      ∙ ap (λ rs. records_at (seat_in w seat) ++ rs) (sym (answered_by-append seat here later))
 
   -- the records of all seats after them
   pub events_on : (events : List Event) (w : World) → length w.seats ≡ seats_of setup →

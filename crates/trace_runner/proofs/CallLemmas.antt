@@ -51,10 +51,6 @@ wider : (first last further : ℕ) (call : ℕ × Call) → last ≤ further →
 wider first last further call more is =
     record { above = is.above; upto = omega (arith, is.upto); askable = is.askable; text = is.text; key = is.key }
 
--- none yet
-pub AreBetween-none : (first : ℕ) → AreBetween first first []
-AreBetween-none first = record { ascend = tt; each = All-nil _; few = omega arith }
-
 -- the next packet's call stands behind the others, where it makes one
 pub AreBetween-more :
     (first last number : ℕ) (calls : List (ℕ × Call)) (made : Option Call) → AreBetween first last calls →

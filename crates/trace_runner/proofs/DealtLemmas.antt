@@ -14,19 +14,19 @@ use Rattle.plain_map.specs.declared.records.Pending.{Pending}
 use Rattle.trace_share.specs.declared.outcome.Outcome.{Outcome}
 use Rattle.trace_share.specs.declared.outcome.Outcome.TheVariants.{Answered, Refused}
 use Rattle.trace_share.specs.Outcomes.{asked_in}
-use Rattle.core_model.specs.declared.events.Event.{Event}
-use Rattle.core_model.specs.Setup.{Setup, seats_of}
-use Rattle.core_model.specs.Phases.{Phase, SeeDone, StoreDone}
-use Rattle.core_model.specs.SeatStates.{Account, Flight, Stand, Idle, InFlight, SeatState, begun, fresh_seat, record_of}
-use Rattle.core_model.specs.Asks.{ask_in}
-use Rattle.core_model.specs.Goes.{state_after}
-use Rattle.core_model.specs.Worlds.{World, act, begin_or_refuse, found_by, happens, opening_world, refusal_of, seat_in, step_of}
-use Rattle.core_model.specs.Closed.{begun_by, begun_of, records_of}
-use Rattle.core_model.specs.Schedules.{Hand, Play, Segment, empty_hand, events_of_slot, first_play, hand_after_slot, hand_of, is_refused, is_stopped, one_begins, play_of, slot, tried_of, untried_of, with_events, with_step}
-use Rattle.core_bounds.specs.Moments.{asked_of}
-use Rattle.core_world.specs.Values.{new_record, refused_at, stepped_of, told_of}
+use Rattle.table_model.specs.declared.events.Event.{Event}
+use Rattle.table_model.specs.Setup.{Setup, seats_of}
+use Rattle.table_model.specs.Phases.{Phase, SeeDone, StoreDone}
+use Rattle.table_model.specs.SeatStates.{Account, Flight, Stand, Idle, InFlight, SeatState, begun, fresh_seat, record_of}
+use Rattle.table_model.specs.Asks.{ask_in}
+use Rattle.table_model.specs.Goes.{state_after}
+use Rattle.table_model.specs.Worlds.{World, act, begin_or_refuse, found_by, happens, opening_world, refusal_of, seat_in, step_of}
+use Rattle.table_model.specs.Closed.{begun_by, begun_of, records_of}
+use Rattle.table_model.specs.Schedules.{Hand, Play, Segment, empty_hand, events_of_slot, first_play, hand_after_slot, hand_of, is_refused, is_stopped, one_begins, play_of, slot, tried_of, untried_of, with_events, with_step}
+use Rattle.bound_laws.specs.Moments.{asked_of}
+use Rattle.core_steps.specs.Values.{new_record, refused_at, stepped_of, told_of}
 use Rattle.play_runner.specs.Played.{outcome_in, outcomes_from, outcomes_of, refused_with}
-use Rattle.core_schedules.proofs.PlayedBySlots.{play_keeps}
+use Rattle.play_laws.proofs.PlayedBySlots.{play_keeps}
 
 -- a list of one element that is right
 one_right : {A : Type 0} (Q : A → Type 0) (x : A) → Q x → All Q (x ∷ [])

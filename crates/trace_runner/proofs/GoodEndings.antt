@@ -1,6 +1,6 @@
 -- How the calls of a report of `serve` ended can be told: steps are below 2^64, there is a count of each seat, and a
 -- refusal tells that less is left of a range than an update needs.
-use Rattle.std.proofs.Common.{◌≡◌, ◌<◌, ◌≤◌, ℕ, ◌^◌, true, List, [], ◌∷◌, map, length, get_or, take, Option, Some, None, inl, inr, refl, sym, ◌∙◌, subst, arith}
+use Rattle.std.proofs.Common.{◌≡◌, ◌<◌, ◌≤◌, ℕ, ◌^◌, true, List, [], ◌∷◌, map, length, get_or, take, Option, Some, None, inl, refl, sym, ◌∙◌, subst, arith}
 use Rattle.std.specs.Prelude.{◌==◌, All, filter, nat_lt}
 use Rattle.std.proofs.lemmas.Bool.{eq-eqb, ltb-true}
 use Rattle.std.proofs.lemmas.List.Elements.{All-append, All-map, All-nil}
@@ -17,36 +17,26 @@ use Rattle.word_rows.specs.Shape.{sizes_of}
 use Rattle.trace_share.specs.declared.outcome.Outcome.{Outcome}
 use Rattle.trace_share.specs.declared.outcome.Outcome.TheVariants.{Answered, Refused}
 use Rattle.trace_share.specs.Outcomes.{RefusedByRoom, full_in, record_in, records_in}
-use Rattle.core_model.specs.SeatStates.{is_update}
-use Rattle.core_model.specs.Worlds.{seat_in}
-use Rattle.core_placing.proofs.Lists.{In, filter_in, find_in, flat_map_in, in_cut, map_in}
-use Rattle.batch_orders.specs.Batches.{answered_then, with_counts}
-use Rattle.batch_room.proofs.Logs.{all_in, in_all}
+use Rattle.plain_map.specs.Calls.{is_update}
+use Rattle.table_model.specs.Worlds.{seat_in}
+use Rattle.list_laws.proofs.Lists.{In, filter_in, find_in, flat_map_in, in_cut, map_in}
+use Rattle.batch_history.specs.Batches.{answered_then, with_counts}
+use Rattle.list_laws.proofs.Places.{all_in}
+use Rattle.list_laws.proofs.Places.{in_all}
 use Rattle.batch_rows.specs.Depths.{IsTableFor}
 use Rattle.report_text.specs.declared.parts.Head.{Head}
-use Rattle.report_told.specs.Rules.{IsSettingsOf, IsShort, is_update as updates, part_of}
+use Rattle.report_told.specs.Rules.{IsSettingsOf, IsShort, part_of}
 use Rattle.batch_runner.specs.declared.service.Service.{Service}
 use Rattle.batch_runner.specs.Served.{AreServed, IsServed, Served, history_in, shape_in, world_in}
 use Rattle.batch_runner.specs.Printed.{answers_in, outcome_on}
 use Rattle.batch_answers.proofs.Served.{few_logs, none_refused}
 use Rattle.report_promises.specs.Good.{HasEnded}
-use Rattle.report_promises.proofs.SettingsLemmas.{need_of_settings}
+use Rattle.report_told.proofs.SettingsLemmas.{need_of_settings}
 use Rattle.trace_runner.proofs.GoodLines.{lines_from, printed_on}
 use Rattle.trace_runner.proofs.GoodSteps.{IsBrief, brief_batch}
+use Rattle.trace_runner.proofs.PlayEnds.{need_told}
 
 -- ---- refusals
-
--- the part that is short is needed
-short_part : (left need : SeatRows) (full : Full) → In full (margins left need) → full.need ≡ part_of need full.what
-short_part left need full (inl is) =
-    subst (λ (f : Full). f.need ≡ part_of need f.what) (sym is) refl
-short_part left need full (inr (inl is)) =
-    subst (λ (f : Full). f.need ≡ part_of need f.what) (sym is) refl
-short_part left need full (inr (inr (inl is))) =
-    subst (λ (f : Full). f.need ≡ part_of need f.what) (sym is) refl
-short_part left need full (inr (inr (inr (inl is)))) =
-    subst (λ (f : Full). f.need ≡ part_of need f.what) (sym is) refl
-short_part left need full (inr (inr (inr (inr none)))) = elim none [ ]
 
 -- why a call was refused: it is an update, and of one range less is left than is needed
 record IsLess (need : SeatRows) (call : Call) (full : Full) : Type 0 where
@@ -61,7 +51,7 @@ less_first left need call full update is =
     let found = find_in (λ (margin : Full). nat_lt margin.left margin.need) (margins left need) full is in
     record {
       update = update;
-      needed = short_part left need full found.0;
+      needed = need_told left need full found.0;
       less = ltb-true full.left full.need found.1;
     }
 
@@ -81,20 +71,14 @@ less_in rows need spent log refused packet call full i =
     let left : SeatRows = left_of rows (published (take (length (records_in cut.0)) spent)) in
     less_refused left need call full (sym (refused cut.0 cut.1 (Refused packet call full) cut.2))
 
--- then the report can tell the refusal: its word for an update is the same
+-- then the report can tell the refusal
 is_short : (head : Head) (settings : Settings) (call : Call) (full : Full) → IsSettingsOf head settings →
     IsLess (need_of settings) call full → IsShort head call full
 is_short head settings call full made less = record {
-  update = go call less.update;
+  update = less.update;
   need = λ (s : Settings) is. less.needed ∙ need_of_settings head settings s full.what made is;
   short = less.less;
 }
-  where
-    go : (asked : Call) → is_update asked ≡ true → updates asked ≡ true
-    go (Insert key value) is = refl
-    go (Remove key) is = refl
-    go (Lookup key) is = is
-    go (Tally key amount) is = refl
 
 -- ---- a batch
 

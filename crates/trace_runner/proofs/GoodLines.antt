@@ -11,7 +11,7 @@ use Rattle.plain_map.specs.History.{Placed, answered, ids_of, packet_of, pending
 use Rattle.trace_share.specs.declared.outcome.Outcome.{Outcome}
 use Rattle.trace_share.specs.declared.outcome.Outcome.TheVariants.{Answered, Refused}
 use Rattle.trace_share.specs.Outcomes.{asked_in, record_in}
-use Rattle.batch_orders.specs.Batches.{all_calls, answered_then, placed_on}
+use Rattle.batch_history.specs.Batches.{all_calls, answered_then, placed_on}
 use Rattle.report_text.specs.Report.{Batch as Lines}
 use Rattle.batch_runner.specs.declared.service.Service.{Service}
 use Rattle.batch_runner.specs.Served.{AreServed, Served, history_in, order_in}

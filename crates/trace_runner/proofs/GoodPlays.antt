@@ -8,7 +8,6 @@ use Rattle.std.proofs.lemmas.List.Elements.{All-map, All-weaker}
 use Rattle.std.proofs.lemmas.List.Sorted.{All-permutation, IsNonDecreasingBy-from_sort}
 use Rattle.step_counts.specs.StepCounts.{step_bound}
 use Rattle.plain_map.specs.declared.calls.Call.{Call}
-use Rattle.plain_map.specs.declared.calls.Call.TheVariants.{Insert, Remove, Lookup, Tally}
 use Rattle.plain_map.specs.declared.keys.Pair.{Pair}
 use Rattle.plain_map.specs.declared.records.CallId.{CallId}
 use Rattle.plain_map.specs.declared.records.Pending.{Pending}
@@ -18,17 +17,17 @@ use Rattle.plain_map.specs.PlainObject.{pairs_of}
 use Rattle.plain_map.specs.History.{Legal, Placed, Whole, ids_of, packet_of, sessions_after}
 use Rattle.trace_share.specs.declared.outcome.Outcome.{Outcome}
 use Rattle.trace_share.specs.Outcomes.{asked_in}
-use Rattle.core_model.specs.Setup.{Setup, rules_of, settings_of}
-use Rattle.core_model.specs.SeatStates as C
-use Rattle.core_model.specs.Worlds.{World}
-use Rattle.core_model.specs.Order.{order_of, took_effect}
-use Rattle.core_model.specs.Closed.{begun_of, closed_pairs, closing_of, sessions_with}
-use Rattle.core_model.specs.Promises.{HasSteps}
-use Rattle.core_model.specs.Schedules.{Play, Segment, play_of}
-use Rattle.core_orders.proofs.Reopens.{sorted_pairs_are_held}
+use Rattle.table_model.specs.Setup.{Setup, rules_of, settings_of}
+use Rattle.table_model.specs.Worlds.{World}
+use Rattle.table_model.specs.Order.{order_of, took_effect}
+use Rattle.table_model.specs.Closed.{begun_of, closed_pairs, closing_of, sessions_with}
+use Rattle.table_model.specs.Promises.{HasSteps}
+use Rattle.table_model.specs.Schedules.{Play, Segment, play_of}
+use Rattle.order_laws.proofs.Reopens.{sorted_pairs_are_held}
 use Rattle.report_text.specs.Report.{Report}
 use Rattle.report_told.specs.Points.{IsShortEnough, rules_told}
-use Rattle.report_told.specs.Rules.{IsHead, IsSettingsOf, IsTail, Rise, is_update, times}
+use Rattle.report_told.specs.Rules.{IsHead, IsSettingsOf, IsTail, Rise, times}
+use Rattle.plain_map.specs.Calls.{is_update}
 use Rattle.report_promises.specs.Good.{AreCountedBySeat, HasBegun, HasEnded, IsFitting, IsGood, answered_on, begun_in, calls_begun, calls_ended, ended_in, packets_in}
 use Rattle.report_text.specs.declared.parts.Ending.{Ending}
 use Rattle.command_line.specs.declared.plan.Plan.{Plan}
@@ -42,15 +41,9 @@ use Rattle.play_runner.specs.declared.values.Played.{Played}
 use Rattle.play_runner.specs.Played.{IsPlayed, most_steps_in, outcomes_of, packet_in}
 use Rattle.trace_runner.specs.Playing.{HasRightLines, IsPlayOf, IsRightPlay, play_in, play_limit, play_report, play_setup, play_tail, schedule_in}
 use Rattle.trace_runner.proofs.DealtLemmas.{told-dealt}
+use Rattle.trace_runner.proofs.GoodCalls.{calls_few}
 use Rattle.trace_runner.proofs.PlayEnds.{lines_begun, lines_ended, lines_seats}
-use Rattle.trace_runner.proofs.PlayPackets.{few_lines, few_made, lines_apart, lines_rise}
-
--- both crates call the same calls updates
-same_update : (call : Call) → is_update call ≡ C.is_update call
-same_update (Insert key value) = refl
-same_update (Remove key) = refl
-same_update (Lookup key) = refl
-same_update (Tally key amount) = refl
+use Rattle.trace_runner.proofs.PlayPackets.{few_lines, lines_apart, lines_rise}
 
 -- the names of calls have their packets
 ids_packets : (order : List Placed) → map (λ (id : CallId). id.packet) (ids_of order) ≡ map packet_of order
@@ -119,11 +112,11 @@ module _ (setup : Setup) (shares : List (List (ℕ × Call))) (stops : List (Opt
     good_steps =
         All-weaker (HasSteps setup play.world.words) (IsShortEnough report.tail.bound)
         (λ (r : Record) has update. subst (λ (bound : ℕ). r.steps ≤ bound) (sym tells.bound)
-        (has.0 (sym (same_update r.call) ∙ update))) (answered_on lines) told.steps
+        (has.0 update)) (answered_on lines) told.steps
 
     -- what takes effect is an update
     took_updates : (u : Pending) → took_effect setup.shape play.world.words u ≡ true → is_update u.call ≡ true
-    took_updates u took = same_update u.call ∙ (and_parts (C.is_update u.call) _ took).0
+    took_updates u took = (and_parts (is_update u.call) _ took).0
 
     module _ (fit : All (All IsFitting) shares) (calls : List (ℕ × Call))
         (dealt : IsPermutation (flat_map (λ own. own) shares) calls) (packets : List (List ℕ))
@@ -132,7 +125,7 @@ module _ (setup : Setup) (shares : List (List (ℕ × Call))) (stops : List (Opt
       few_all = omega (
         arith,
         few,
-        few_made 1 packets calls makes,
+        calls_few 1 packets calls makes,
         few_lines setup shares stops schedule right.run right.comes calls dealt lines comes.outcomes
             played.pending.items comes.pending,
       )

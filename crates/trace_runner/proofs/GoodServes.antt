@@ -1,11 +1,10 @@
 -- The report of `serve` is good: the one order of all its calls is one right order of what its lines tell.
-use Rattle.std.proofs.Common.{◌≡◌, ◌≤◌, ◌<◌, ◌^◌, ℕ, true, false, List, [], map, length, refl, sym, ap, ◌∙◌, subst, arith}
+use Rattle.std.proofs.Common.{◌≡◌, ◌≤◌, ◌<◌, ◌^◌, ℕ, false, List, [], map, length, sym, ap, ◌∙◌, subst, arith}
 use Rattle.std.specs.Prelude.{All, filter}
 use Rattle.std.specs.FinMap.{empty}
 use Rattle.std.proofs.lemmas.List.{length-replicate}
 use Rattle.std.proofs.lemmas.List.Elements.{All-nil, All-weaker}
 use Rattle.plain_map.specs.declared.calls.Call.{Call}
-use Rattle.plain_map.specs.declared.calls.Call.TheVariants.{Insert, Remove, Lookup, Tally}
 use Rattle.plain_map.specs.declared.records.Pending.{Pending}
 use Rattle.plain_map.specs.declared.records.Record.{Record}
 use Rattle.plain_map.specs.declared.rules.Rules.{Rules}
@@ -13,8 +12,7 @@ use Rattle.plain_map.specs.PlainObject.{pairs_of}
 use Rattle.plain_map.specs.History.{Legal, Placed, Whole, sessions_after}
 use Rattle.step_counts.specs.StepCounts.{step_bound}
 use Rattle.trace_share.specs.declared.outcome.Outcome.{Outcome}
-use Rattle.core_model.specs.SeatStates.{is_update}
-use Rattle.batch_orders.specs.Batches.{all_calls}
+use Rattle.batch_history.specs.Batches.{all_calls, no_counts}
 use Rattle.batch_runner.specs.declared.service.Service.{Service}
 use Rattle.batch_runner.specs.Served.{Served, history_in, rules_of}
 use Rattle.batch_runner.specs.Promises.{AreRight}
@@ -23,27 +21,21 @@ use Rattle.capture_loop.specs.Input.{packet_limit}
 use Rattle.command_line.specs.declared.plan.Plan.{Plan}
 use Rattle.report_text.specs.declared.parts.Ending.{Ending}
 use Rattle.report_text.specs.Report.{Report, report_of}
-use Rattle.report_told.specs.Rules.{IsEndingTold, IsHead, IsTail, Rise, is_update as updates, seed_in, times}
+use Rattle.report_told.specs.Rules.{IsEndingTold, IsHead, IsTail, Rise, seed_in, times}
 use Rattle.report_told.specs.Points.{IsShortEnough, rules_told}
 use Rattle.report_told.specs.Verdicts.{Certified}
 use Rattle.report_promises.specs.Good.{GoodIsCertified, HasBegun, IsFitting, IsGood, begun_in, calls_begun, calls_ended}
 use Rattle.trace_runner.specs.PacketCalls.{MakeCalls}
-use Rattle.trace_runner.specs.Served.{AreDone, IsServiceOf, IsWithin, head_of, no_counts, run_report, tail_of}
+use Rattle.trace_runner.specs.Served.{AreDone, IsServiceOf, IsWithin, head_of, run_report, tail_of}
 use Rattle.trace_runner.proofs.GoodCalls.{calls_few, calls_rise}
 use Rattle.trace_runner.proofs.GoodEndings.{ended_all}
 use Rattle.trace_runner.proofs.GoodLines.{answered_printed, asked_all, lines_from, many_lines, none_begun, packets_all, seats_all}
 use Rattle.trace_runner.proofs.GoodSettings.{head_told}
 use Rattle.trace_runner.proofs.GoodTails.{tail_told}
 
--- what is an update of the report is one of the table
+-- an answer within the bound is short enough for the report
 within_bound : (bound : ℕ) (r : Record) → IsWithin bound r → IsShortEnough bound r
-within_bound bound r within is = within (go r.call is)
-  where
-    go : (call : Call) → updates call ≡ true → is_update call ≡ true
-    go (Insert key value) same = refl
-    go (Remove key) same = refl
-    go (Lookup key) same = same
-    go (Tally key amount) same = refl
+within_bound bound r within is = within is
 
 -- the rules of the service are those of the head line
 rules_same : (plan : Plan) (service : Service) → IsServiceOf plan service →

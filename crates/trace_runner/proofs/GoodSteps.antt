@@ -5,16 +5,16 @@ use Rattle.std.proofs.lemmas.List.Elements.{All-append, All-nil}
 use Rattle.std.proofs.lemmas.List.Sorted.{All-permutation}
 use Rattle.plain_map.specs.declared.keys.Pair.{Pair}
 use Rattle.plain_map.specs.declared.records.Record.{Record}
-use Rattle.core_model.specs.declared.events.Event.{Event}
-use Rattle.core_model.specs.Setup.{Setup, seats_of}
-use Rattle.core_model.specs.SeatStates.{SeatState, fresh_seat}
-use Rattle.core_model.specs.Worlds.{IsRun, seat_in, world_after}
-use Rattle.core_fits.proofs.Paced.{bound_small}
-use Rattle.core_bounds.proofs.Whole.{called}
-use Rattle.core_placing.proofs.Lists.{flat_map_append}
+use Rattle.table_model.specs.declared.events.Event.{Event}
+use Rattle.table_model.specs.Setup.{Setup, seats_of}
+use Rattle.table_model.specs.SeatStates.{SeatState, fresh_seat}
+use Rattle.table_model.specs.Worlds.{IsRun, seat_in, world_after}
+use Rattle.bound_laws.proofs.Paced.{bound_small}
+use Rattle.bound_laws.proofs.Whole.{called}
+use Rattle.list_laws.proofs.Lists.{flat_map_append}
 use Rattle.trace_share.specs.declared.outcome.Outcome.{Outcome}
 use Rattle.trace_share.specs.Outcomes.{record_in, records_in}
-use Rattle.batch_thread.proofs.Lines.{line_is_permuted}
+use Rattle.batch_laws.proofs.Lines.{line_is_permuted}
 use Rattle.batch_runner.specs.declared.service.Service.{Service}
 use Rattle.batch_runner.specs.Served.{AreServed, IsServed, Served, setup_of_batch}
 use Rattle.batch_runner.specs.Printed.{answers_in, outcomes_in}

@@ -11,11 +11,11 @@ use Rattle.plain_map.specs.declared.records.Record.{Record}
 use Rattle.word_rows.specs.declared.addresses.Address.TheVariants.{DirectoryWord}
 use Rattle.word_rows.specs.Places.{place}
 use Rattle.word_rows.specs.Shape.{Shape}
-use Rattle.core_model.specs.SeatStates.{is_update}
-use Rattle.core_model.specs.Reading.{each_once, is_among, root_of}
-use Rattle.core_model.specs.Closed.{closed_buckets, closed_depth, closed_leaves, leaf_at}
+use Rattle.plain_map.specs.Calls.{is_update}
+use Rattle.table_model.specs.Reading.{each_once, is_among, root_of}
+use Rattle.table_model.specs.Closed.{closed_buckets, closed_depth, closed_leaves, leaf_at}
 use Rattle.trace_share.specs.declared.outcome.Outcome.{Outcome}
-use Rattle.batch_orders.specs.Batches.{answered_then}
+use Rattle.batch_history.specs.Batches.{answered_then, no_counts}
 use Rattle.capture_loop.specs.Input.{packet_limit}
 use Rattle.command_line.specs.declared.plan.Plan.{Plan}
 use Rattle.report_text.specs.declared.parts.Ending.{Ending}
@@ -27,7 +27,7 @@ use Rattle.batch_runner.proofs.Shallow.{shallow}
 use Rattle.batch_runner.proofs.TotalLemmas.{refused_fit}
 use Rattle.report_promises.specs.Good.{calls_ended}
 use Rattle.trace_runner.specs.PacketCalls.{MakeCalls}
-use Rattle.trace_runner.specs.Served.{AreDone, depth_left, head_of, leaves_left, no_counts, tail_of}
+use Rattle.trace_runner.specs.Served.{AreDone, depth_left, head_of, leaves_left, tail_of}
 use Rattle.trace_runner.proofs.GoodCalls.{calls_few}
 use Rattle.trace_runner.proofs.GoodLines.{asked_all, lines_from, many_lines, printed_on}
 use Rattle.trace_runner.proofs.GoodSettings.{bound_told}

@@ -5,7 +5,7 @@ use Rattle.std.specs.Io.KnownBytes.{Keeps}
 use Rattle.std.specs.Result.{IfOk, IsErr, IsErrAnd}
 use Rattle.std.proofs.KnownBytes.{Consumes-nil}
 use Rattle.std.specs.List.{All, AllByRecursion, flat_map}
-use Rattle.std.proofs.lemmas.List.{length-map, length-take-le}
+use Rattle.std.proofs.lemmas.List.{length-map, length-take-le, nil_from_length}
 use Rattle.plain_map.specs.declared.calls.Call.{Call}
 use Rattle.report_text.specs.declared.parts.Ending.{Ending}
 use Rattle.report_text.specs.declared.parts.Ending.TheVariants.{Done, ReadFault, Limit, Fault}
@@ -14,20 +14,20 @@ use Rattle.batch_runner.specs.declared.service.Service.{Service}
 use Rattle.batch_runner.specs.Served.{Served}
 use Rattle.capture_loop.specs.declared.stop.Stop.{Stop}
 use Rattle.capture_loop.specs.declared.stop.Stop.TheVariants.{Memory, NotPut}
-use Rattle.capture_loop.specs.Batches.{AreBatches, IsWhole}
-use Rattle.capture_loop.specs.Leaves.{IsFront as IsLoopFront, IsReport as IsLoopReport, IsTold as IsLoopTold, Leaves as LoopLeaves, LeavesAll as LoopLeavesAll, PutsReport as PutsInput, ReportsInput, ReadsFailed as RunReads, WritesFailed as RunWrites}
+use Rattle.capture_loop.specs.Batches.{AreBatches, IsWhole, batch_length}
+use Rattle.capture_loop.specs.Leaves.{IsLoopFront, IsLoopReport, IsLoopTold, Leaves as LoopLeaves, LoopLeavesAll, PutsInput, ReportsInput, RunReads}
 use Rattle.capture_loop.specs.Input.{Serves, packet_limit}
 use Rattle.command_line.specs.declared.plan.Plan.{Plan}
 use Rattle.report_told.specs.Rules.{IsEndingTold, seed_in}
 use Rattle.report_told.specs.Verdicts.{Certified}
 use Rattle.report_promises.specs.Good.{GoodIsCertified}
 use Rattle.trace_runner.specs.declared.status.Status.TheVariants as status
-use Rattle.trace_runner.specs.Batches.{AreOfBatches, IsOfBatch, batch_count, batch_length}
+use Rattle.trace_runner.specs.Batches.{AreOfBatches, IsOfBatch, batch_count}
 use Rattle.trace_runner.specs.PacketCalls.{MakeCalls, numbered}
 use Rattle.trace_runner.specs.Reading.{AreBetween}
 use Rattle.trace_runner.specs.Served.{AreDone, ServedArePromised, run_report}
 use Rattle.trace_runner.specs.Serving.{AreServedOf, IsLines, IsServedSo, IsWholeReport, joined}
-use Rattle.trace_runner.specs.Headline.{IsFront, IsReport, IsTold, Leaves, LeavesAll, PutsReport, ReadsFailed, Reports, WritesFailed, status_by, status_of}
+use Rattle.trace_runner.specs.Headline.{IsFront, IsReport, IsTold, Leaves, LeavesAll, PutsReport, ReadsFailed, Reports, status_by, status_of}
 use Rattle.trace_runner.proofs.EndLemmas.{between_is_batch, last_count}
 use Rattle.trace_runner.proofs.FittingCalls.{calls_fit}
 use Rattle.trace_runner.proofs.GoodServes.{serve_is_certified}
@@ -160,15 +160,11 @@ all_count packets batches cut =
     ap length (sym cut.all) ∙ ap (λ (bs : List (List (List ℕ))). length (joined bs)) cut.parts
     ∙ joined-append cut.front cut.last in
     let none : length cut.last ≡ 0 → length (joined cut.front) ≡ 0 = λ empty.
-    omega (arith, whole_length cut.front cut.whole, ap length (cut.begun (no_packets cut.last empty))) in
+    omega (arith, whole_length cut.front cut.whole, ap length (cut.begun (nil_from_length cut.last empty))) in
     many
     ∙ last_count (length (joined cut.front)) (length cut.last) (length cut.front)
     (sym (whole_length cut.front cut.whole)) cut.few none
     ∙ ap batch_count (sym size)
-  where
-    no_packets : (last : List (List ℕ)) → length last ≡ 0 → last ≡ []
-    no_packets [] empty = refl
-    no_packets (p ∷ last) empty = absurd (omega (arith, empty))
 
 -- ---- texts
 
@@ -191,6 +187,19 @@ module _ (law : ServedArePromised) (plan : Plan) where
   cut_batches : (packets : List (List ℕ)) (batches : List (List (List ℕ))) → AreBatches packets batches →
       AreCut batches
   cut_batches packets batches cut = subst AreCut (sym cut.parts) (cut_last cut.front cut.last cut.whole cut.few)
+
+  -- the calls of these packets were served in as many batches as these are
+  pub served_at : (packets : List (List ℕ)) (batches : List (List (List ℕ))) (service : Service)
+      (served : List Served) →
+      AreBatches packets batches → IsServedSo plan service batches served →
+      (calls : List (ℕ × Call)) × MakeCalls 1 packets calls × AreDone plan service calls served
+      × (length served ≡ batch_count (length packets))
+  served_at packets batches service served cut is = (
+    all_in served,
+    made packets batches served cut.all is.of,
+    done service batches served is (cut_batches packets batches cut),
+    same_count batches 0 served is.of ∙ all_count packets batches cut,
+  )
 
   front_of : (packets : List (List ℕ)) (text : List ℕ) → IsLoopFront (IsLines plan) packets text →
       IsFront plan packets text
@@ -217,31 +226,23 @@ module _ (law : ServedArePromised) (plan : Plan) where
   told_of : (packets : List (List ℕ)) (text : List ℕ) → IsLoopTold (IsLines plan) packets text →
       IsTold plan packets text
   told_of packets text told =
-      let batches : List (List (List ℕ)) = told.0 in
-      let cut = told.1 in
-      let lines = told.2 in (
-        all_in lines.1,
-        made packets batches lines.1 cut.all lines.2.of,
-        lines.0,
-        lines.1,
-        done lines.0 batches lines.1 lines.2 (cut_batches packets batches cut),
-        same_count batches 0 lines.1 lines.2.of ∙ all_count packets batches cut,
-        lines.3,
-      )
+      let lines = told.2 in
+      let at = served_at packets told.0 lines.0 lines.1 told.1 lines.2 in
+      (at.0, at.1, lines.0, lines.1, at.2, at.3, lines.3)
 
   report_at : (packets : List (List ℕ)) (ending : Ending) (text : List ℕ) →
       IsLoopReport (IsWholeReport plan) packets ending text → IsReport plan packets ending text
   report_at packets ending text report =
-      let batches : List (List (List ℕ)) = report.0 in
       let cut = report.1 in
-      let lines = report.2 in (
-        all_in lines.1,
-        made packets batches lines.1 cut.all lines.2.of,
+      let lines = report.2 in
+      let at = served_at packets report.0 lines.0 lines.1 cut lines.2 in (
+        at.0,
+        at.1,
         (
           lines.0,
           lines.1,
-          done lines.0 batches lines.1 lines.2 (cut_batches packets batches cut),
-          same_count batches 0 lines.1 lines.2.of ∙ all_count packets batches cut,
+          at.2,
+          at.3,
           lines.3
               ∙ ap (λ (ps : List (List ℕ)). report_of (run_report plan lines.0 (length ps) lines.1 ending)) cut.all,
         ),
@@ -400,15 +401,6 @@ reads_by (Ok (Limit limit)) before after failed = failed
 reads_by (Ok (Fault found)) before after failed = failed
 reads_by (Err Memory) before after failed = failed
 reads_by (Err NotPut) before after failed = failed
-
-pub writes_by : (result : Result Ending Stop) (before after : ℕ) → RunWrites result before after →
-    WritesFailed (status_by result) before after
-writes_by (Ok (Done rest)) before after failed = failed
-writes_by (Ok ReadFault) before after failed = failed
-writes_by (Ok (Limit limit)) before after failed = failed
-writes_by (Ok (Fault found)) before after failed = failed
-writes_by (Err Memory) before after failed = failed
-writes_by (Err NotPut) before after failed = failed
 
 -- nothing was read, and nothing put
 pub leaves_nothing : (plan : Plan) (read_failed : Type 0) (first left before after : Option (List ℕ)) →

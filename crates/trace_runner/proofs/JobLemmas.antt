@@ -1,8 +1,8 @@
 -- Batches of packets that were served: one more, and what is printed of them.
-use Rattle.std.proofs.Common.{◌≡◌, ◌≤◌, ℕ, ◌+◌, List, [], ◌∷◌, ◌++◌, length, None, Result, Ok, Err, sym, ◌∙◌, ap, subst, refl, append_assoc, append-nil, length-append, arith}
+use Rattle.std.proofs.Common.{◌≡◌, ◌≤◌, ℕ, ◌+◌, List, [], ◌∷◌, ◌++◌, length, Option, Some, None, Result, Ok, Err, sym, ◌∙◌, ap, subst, refl, append_assoc, append-nil, length-append, arith}
 use Rattle.std.specs.List.{flat_map}
 use Rattle.std.specs.Prelude.{false}
-use Rattle.std.specs.Option.{ForSome}
+use Rattle.std.specs.Option.{ForSome, is_some}
 use Rattle.std.proofs.lemmas.List.Elements.{All-weaker}
 use Rattle.flow_keys.specs.FlowText.{HasText}
 use Rattle.plain_map.specs.Calls.{key_in}
@@ -11,6 +11,8 @@ use Rattle.trace_share.specs.declared.deals.Share.{Share}
 use Rattle.trace_share.specs.Deal.{dealt}
 use Rattle.batch_rows.specs.Demands.{IsDemandOf}
 use Rattle.shared_table.specs.Values.{TableValue}
+use Rattle.trace_share.specs.declared.outcome.Outcome.{Outcome}
+use Rattle.batch_runner.specs.declared.workers.SeatWorker.{SeatWorker}
 use Rattle.batch_runner.specs.declared.dealing.Dealt.{Dealt}
 use Rattle.batch_runner.specs.Dealt.{IsDealt}
 use Rattle.plain_map.specs.declared.calls.Call.{Call}
@@ -26,7 +28,7 @@ use Rattle.trace_runner.specs.PacketCalls.{MakeCalls}
 use Rattle.trace_runner.specs.Progress.{HasServed, HasTexts}
 use Rattle.trace_runner.specs.Reading.{AreBetween, IsBetween, TakesCall}
 use Rattle.trace_runner.specs.Served.{IsServiceOf, head_of, lines_so_far, run_report, tail_with}
-use Rattle.trace_runner.specs.Serving.{AreServedOf, CallWorker, HasDone, HasOpened, HoldsCalls, IsWholeReport, joined}
+use Rattle.trace_runner.specs.Serving.{AreServedOf, HasDone, HasOpenedFor, HoldsCalls, IsWholeReport, joined}
 use Rattle.trace_runner.proofs.CallLemmas.{MakeCalls-more}
 use Rattle.trace_runner.proofs.PrintLemmas.{last_text, no_lines, section_of}
 
@@ -36,7 +38,8 @@ pub joined-more : (batches : List (List (List ℕ))) (batch : List (List ℕ)) �
     joined (batches ++ batch ∷ []) ≡ joined batches ++ batch
 joined-more [] batch = append-nil batch
 joined-more (first ∷ batches) batch =
-    ap (λ (ps : List (List ℕ)). first ++ ps) (joined-more batches batch) ∙ sym (append_assoc first (joined batches) batch)
+    ap (λ (ps : List (List ℕ)). first ++ ps) (joined-more batches batch)
+    ∙ sym (append_assoc first (joined batches) batch)
 
 -- one more was served
 pub served_more : (batches : List (List (List ℕ))) (before : ℕ) (served : List Served) (batch : List (List ℕ))
@@ -71,10 +74,12 @@ texts_between first last calls between =
 -- ---- the job
 
 -- so does a job's record of them
-pub done_more : (plan : Plan) (old new : Serving) (batches : List (List (List ℕ))) (put : List ℕ) (before : ℕ)
-    (packets : List (List ℕ)) (t : TableValue) (workers : List CallWorker) (many : ℕ) (one : Served)
-    (text text_then : List ℕ) → (done : HasDone old plan batches put) → old.packets ≡ before →
-    HasOpened old t workers many before packets → one.calls ≡ old.calls.items → new.service ≡ old.service →
+pub done_more : {K : Type 0} {holds : K → List Outcome → Type 0} {room : K → ℕ} (plan : Plan) (old new : Serving)
+    (batches : List (List (List ℕ))) (put : List ℕ) (before : ℕ) (packets : List (List ℕ)) (t : TableValue)
+    (workers : List (SeatWorker K)) (many : ℕ) (one : Served) (text text_then : List ℕ) →
+    (done : HasDone old plan batches put) → old.packets ≡ before →
+    HasOpenedFor holds room old t workers many before packets → one.calls ≡ old.calls.items →
+    new.service ≡ old.service →
     new.packets ≡ old.packets + many → HasServed old.service new.progress (done.served ++ one ∷ []) →
     text_then ≡ text ++ batch_lines old.service.settings.seats (lines_of old.service old.progress.before one) →
     (lines : List ℕ) × (text_then ≡ text ++ lines) × HasDone new plan (batches ++ packets ∷ []) (put ++ lines)
@@ -82,7 +87,8 @@ done_more plan old new batches put before packets t workers many one text text_t
     service count has is =
     let lines : List ℕ = batch_lines old.service.settings.seats (lines_of old.service old.progress.before one) in
     let behind : before ≡ 0 + length (joined batches) = omega (arith, at, done.count) in
-    let same : (s : Service) → s ≡ old.service → put ++ lines ≡ lines_so_far plan s (done.served ++ one ∷ []) = λ s here.
+    let same : (s : Service) → s ≡ old.service →
+    put ++ lines ≡ lines_so_far plan s (done.served ++ one ∷ []) = λ s here.
     section_of plan old.service old.progress done.served one put [] lines done.asks done.has
     (append-nil put ∙ done.text) refl
     ∙ ap (λ (t : Service). lines_so_far plan t (done.served ++ one ∷ [])) (sym here) in (
@@ -152,7 +158,8 @@ pub holds_more : (old new : CallPile) (before : ℕ) (packets : List (List ℕ))
     TakesCall number packet old.calls.items new.calls.items →
     ((first last : ℕ) → AreBetween first last old.calls.items → number ≡ last + 1 →
     AreBetween first number new.calls.items) →
-    new.packets ≡ old.packets + 1 → ForSome new.dealt (IsDealt new.service new.calls.items) → HoldsCalls new before (packets ++ packet ∷ [])
+    new.packets ≡ old.packets + 1 → ForSome new.dealt (IsDealt new.service new.calls.items) →
+    HoldsCalls new before (packets ++ packet ∷ [])
 holds_more old new before packets packet number holds at few takes between count none =
     let size : length (packets ++ packet ∷ []) ≡ length packets + 1 = length-append packets (packet ∷ []) in
     let last : number ≡ before + length (packets ++ packet ∷ []) = omega (arith, at, size) in
@@ -172,9 +179,38 @@ pub OnOk-weaker : {T E : Type 0} {P Q : Type 0} (result : Result T E) → (P →
 OnOk-weaker (Ok x) make p = make p
 OnOk-weaker (Err e) make p = tt
 
--- nothing is dealt
-pub none_dealt : {X : Type 0} (P : X → Type 0) → ForSome None P
-none_dealt P = λ x is. absurd (cc)
+-- these packets are held, and not dealt
+abbrev pub HoldsUndealt : CallPile → ℕ → List (List ℕ) → Type 0
+HoldsUndealt pile before packets = HoldsCalls pile before packets × (pile.dealt ≡ None)
+
+-- what holds of a dealt batch holds where there is none
+pub none_dealt : {X : Type 0} (P : X → Type 0) (dealt : Option X) → dealt ≡ None → ForSome dealt P
+none_dealt P dealt none = λ x is. absurd (cc)
+
+-- a dealt batch was given up
+pub given_up : (pile : CallPile) (before : ℕ) (packets : List (List ℕ)) → HoldsCalls pile before packets →
+    HoldsUndealt (record {
+      alloc = pile.alloc;
+      service = pile.service;
+      packets = pile.packets;
+      calls = pile.calls;
+      dealt = None;
+    }) before packets
+given_up pile before packets holds = (
+  record {
+    count = holds.count;
+    few = holds.few;
+    make = holds.make;
+    between = holds.between;
+    dealt = none_dealt _ None refl;
+  },
+  refl,
+)
+
+-- there was none
+pub none_there : (dealt : Option Dealt) → is_some dealt ≡ false → dealt ≡ None
+none_there None without = refl
+none_there (Some deal) without = absurd (cc)
 
 -- who deals alike deals the same
 pub dealt_alike : (one other : Service) (calls : List (ℕ × Call)) (deal : Dealt) →

@@ -7,7 +7,6 @@ mod ShortLines
 pub mod PacketOrder
 pub mod CallLemmas
 pub mod MadeCalls
-pub mod ReadingLemmas
 pub mod ProgressLemmas
 pub mod TextLemmas
 pub mod PrintLemmas

@@ -131,7 +131,8 @@ pub made_calls : (number k : ℕ) (packets : List (List ℕ)) (calls : List (ℕ
 made_calls number k [] calls are makes = subst HasNoTally (sym makes) (All-nil _)
 made_calls number k (packet ∷ packets) calls are (made, others, here, rest, is) =
     subst HasNoTally (sym is)
-    (both (numbered k made) others (made_none number k packet made (All-head (IsMadeFrame number) packet packets are) here)
+    (both (numbered k made) others
+    (made_none number k packet made (All-head (IsMadeFrame number) packet packets are) here)
     (made_calls number (suc k) packets others (All-tail (IsMadeFrame number) packet packets are) rest))
   where
     both : (one two : List (ℕ × Call)) → HasNoTally one → HasNoTally two → HasNoTally (one ++ two)

@@ -5,9 +5,9 @@ use Rattle.std.specs.List.Sorted.{IsNonDecreasingBy}
 use Rattle.std.proofs.lemmas.Bool.{cases_eq, eq-eqb, ne_eqb}
 use Rattle.std.proofs.lemmas.List.Sorted.{IsPermutation-sym, sum_by-IsPermutation}
 use Rattle.std.proofs.lemmas.List.Sums.{sum_by-cons}
-use Rattle.core_placing.proofs.Lists.{In, in_left, middle_in}
-use Rattle.core_orders.proofs.Calls.{at_in}
-use Rattle.core_orders.proofs.Reopened.{was_in}
+use Rattle.list_laws.proofs.Lists.{In, in_left, middle_in}
+use Rattle.order_laws.proofs.Calls.{at_in}
+use Rattle.list_laws.proofs.Places.{in_other_order}
 
 module _ {A : Type 0} (packet : A → ℕ) where
   -- each is of a later packet than those before it
@@ -142,5 +142,5 @@ module _ {A : Type 0} (packet : A → ℕ) where
         sum_by-IsPermutation (λ (x : A). cond (packet x == p) 1 0) xs ys same,
         times-risen p xs rises,
       )))
-      (λ z i. was_in ys xs z (IsPermutation-sym xs ys same) i)
-      (λ z i. was_in xs ys z same i))
+      (λ z i. in_other_order ys xs z (IsPermutation-sym xs ys same) i)
+      (λ z i. in_other_order xs ys z same i))

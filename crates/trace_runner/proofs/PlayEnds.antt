@@ -1,6 +1,6 @@
--- What a play's report tells of each call. Of one that ended: its seat, its steps and what it had seen, or how much room
--- was left, and how much was needed. Of one under way: that it is its seat's next.
-use Rattle.std.proofs.Common.{◌≡◌, ◌≤◌, ◌<◌, ℕ, suc, ◌^◌, max, List, [], ◌∷◌, ◌++◌, Bool, true, false, cond, length, get_or, Some, fold, inl, inr, refl, sym, ap, ◌∙◌, subst, arith, ltb-true}
+-- What a play's report tells of each call. Of one that ended: its seat, its steps and what it had seen, or how much
+-- room was left, and how much was needed. Of one under way: that it is its seat's next.
+use Rattle.std.proofs.Common.{◌≡◌, ◌≤◌, ◌<◌, ℕ, ◌^◌, max, List, [], ◌∷◌, Bool, true, false, cond, length, get_or, Some, fold, inl, inr, refl, sym, ap, ◌∙◌, subst, arith, ltb-true}
 use Rattle.std.specs.Prelude.{◌==◌, nat_lt, IsPermutation}
 use Rattle.std.specs.List.{All}
 use Rattle.std.proofs.lemmas.List.{length-replicate}
@@ -17,20 +17,21 @@ use Rattle.word_rows.specs.Shape.{sizes_of}
 use Rattle.trace_share.specs.declared.outcome.Outcome.{Outcome}
 use Rattle.trace_share.specs.declared.outcome.Outcome.TheVariants.{Answered, Refused}
 use Rattle.trace_share.specs.Outcomes.{record_in}
-use Rattle.core_placing.proofs.Lists.{find_in, In}
-use Rattle.core_model.specs.declared.events.Event.{Event}
-use Rattle.core_model.specs.Setup.{Setup, seats_of, settings_of}
-use Rattle.core_model.specs.SeatStates.{Flight, InFlight, SeatState, fresh_seat, pending_of}
-use Rattle.core_model.specs.SeatStates as C
-use Rattle.core_model.specs.Worlds.{IsRun, opening_world, seat_in, world_after}
-use Rattle.core_model.specs.Closed.{begun_of}
-use Rattle.core_bounds.proofs.Ends.{flights_are_numbered}
+use Rattle.list_laws.proofs.Lists.{find_in, In}
+use Rattle.table_model.specs.declared.events.Event.{Event}
+use Rattle.table_model.specs.Setup.{Setup, seats_of, settings_of}
+use Rattle.table_model.specs.SeatStates.{fresh_seat}
+use Rattle.table_model.specs.Worlds.{IsRun, opening_world, seat_in, world_after}
+use Rattle.table_model.specs.Closed.{begun_of}
+use Rattle.bound_laws.proofs.Ends.{flights_are_numbered}
 use Rattle.report_text.specs.declared.parts.Head.{Head}
 use Rattle.report_text.specs.Report.{Report}
-use Rattle.report_told.specs.Rules.{IsSettingsOf, IsShort, is_update, part_of}
+use Rattle.report_told.specs.Rules.{IsSettingsOf, IsShort, part_of}
+use Rattle.plain_map.specs.Calls.{is_update}
 use Rattle.report_promises.specs.Good.{HasBegun, HasEnded, ended_in}
-use Rattle.report_promises.proofs.SettingsLemmas.{need_of_settings}
-use Rattle.trace_runner.specs.Answered.{answered_by}
+use Rattle.report_told.proofs.SettingsLemmas.{need_of_settings}
+use Rattle.report_promises.specs.Good.{answered_by}
+use Rattle.report_promises.proofs.SeenLemmas.{few_answered}
 use Rattle.play_runner.specs.Played.{most_steps_in, outcomes_of, steps_of}
 use Rattle.trace_runner.proofs.AnsweredLemmas.{answered_by_seats, seats_after}
 use Rattle.play_runner.proofs.BegunPlays.{all_begun, counts_fit, counts_long, seen_few}
@@ -40,7 +41,7 @@ use Rattle.trace_runner.proofs.Permuted.{flat_map-permuted}
 -- ---- refused calls
 
 -- what is short is told with what is needed of it
-need_told : (left need : SeatRows) (full : Full) → In full (margins left need) → full.need ≡ part_of need full.what
+pub need_told : (left need : SeatRows) (full : Full) → In full (margins left need) → full.need ≡ part_of need full.what
 need_told left need full (inl is) = subst (λ (m : Full). m.need ≡ part_of need m.what) (sym is) refl
 need_told left need full (inr (inl is)) = subst (λ (m : Full). m.need ≡ part_of need m.what) (sym is) refl
 need_told left need full (inr (inr (inl is))) = subst (λ (m : Full). m.need ≡ part_of need m.what) (sym is) refl
@@ -121,7 +122,7 @@ most_of update most (line ∷ lines) =
 -- the steps of an answer are among those of updates or of lookups
 steps_fit : (limit : ℕ) (r : Record) → steps_of true (Answered r) < limit → steps_of false (Answered r) < limit →
     r.steps < limit
-steps_fit limit r = go (C.is_update r.call)
+steps_fit limit r = go (is_update r.call)
   where
     go : (b : Bool) → cond b r.steps 0 < limit → cond b 0 r.steps < limit → r.steps < limit
     go true update lookup = update
@@ -170,22 +171,6 @@ module _ (setup : Setup) (events : List Event) (run : IsRun setup events) (head 
       (flat_map-permuted (λ (line : ℕ × Outcome). cond (line.0 == seat) (record_in line.1) [])
       (outcomes_of setup events) lines told))
 
-  -- and so are no more than the lines
-  few_records : (seat : ℕ) (xs : List (ℕ × Outcome)) → length (answered_by seat xs) ≤ length xs
-  few_records seat [] = omega arith
-  few_records seat ((at, Answered r) ∷ xs) = go (at == seat) (few_records seat xs)
-    where
-      go : (b : Bool) → length (answered_by seat xs) ≤ length xs →
-          length (cond b (r ∷ []) [] ++ answered_by seat xs) ≤ suc (length xs)
-      go true few = omega (arith, few)
-      go false few = omega (arith, few)
-  few_records seat ((at, Refused packet call full) ∷ xs) = go (at == seat) (few_records seat xs)
-    where
-      go : (b : Bool) → length (answered_by seat xs) ≤ length xs →
-          length (cond b [] [] ++ answered_by seat xs) ≤ suc (length xs)
-      go true few = omega (arith, few)
-      go false few = omega (arith, few)
-
   -- ---- those under way
 
   -- each is its seat's next
@@ -209,7 +194,7 @@ module _ (setup : Setup) (events : List Event) (run : IsRun setup events) (head 
           arith,
           seen_few setup events seat flight phase run inside is other,
           records_many other,
-          few_records other lines,
+          few_answered other lines,
           few,
         ));
       })

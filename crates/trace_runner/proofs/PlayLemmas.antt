@@ -10,7 +10,7 @@ use Rattle.std.proofs.Math.Nat.{mul-le-mul, pow-le-pow_right}
 use Rattle.std.proofs.lemmas.Simd.{map-map}
 use Rattle.edge_traits.specs.Edge.{AppendsFront}
 use Rattle.plain_map.specs.declared.calls.Call.{Call}
-use Rattle.pcapng_reader.specs.declared.fault.AnyFault.{AnyFault}
+use Rattle.capture_faults.specs.declared.any_fault.AnyFault.{AnyFault}
 use Rattle.pcapng_reader.specs.Input.{Input}
 use Rattle.pcapng_reader.specs.Laws.{HasOneInput}
 use Rattle.pcap_reader.specs.Reading.{Took}
@@ -19,8 +19,8 @@ use Rattle.report_text.specs.declared.parts.Ending.TheVariants.{Done, ReadFault,
 use Rattle.step_counts.specs.declared.rows.SeatRows.{SeatRows}
 use Rattle.step_counts.specs.declared.settings.Settings.{Settings}
 use Rattle.step_counts.specs.StepCounts.{automatic_rows_of}
-use Rattle.core_model.specs.Setup.{IsSetup, Setup}
-use Rattle.core_model.specs.Schedules.{CanPlay, IsPlayable}
+use Rattle.table_model.specs.Setup.{IsSetup, Setup}
+use Rattle.table_model.specs.Schedules.{CanPlay, IsPlayable}
 use Rattle.word_rows.specs.Shape.{AreBelow}
 use Rattle.batch_rows.specs.BatchRows.{updates_in_calls}
 use Rattle.batch_rows.specs.declared.rows.TheConstants.{CALL_LIMIT}
@@ -30,12 +30,12 @@ use Rattle.batch_runner.proofs.Deals.{dealt_few, dealt_hold}
 use Rattle.command_line.specs.declared.plan.Plan.{Plan}
 use Rattle.trace_runner.specs.declared.status.Status.{Status}
 use Rattle.trace_runner.specs.declared.status.Status.TheVariants as status
-use Rattle.trace_runner.specs.Reading.{AreBetween, EndsCalls, HaveEndedUpTo, IsBetween}
+use Rattle.trace_runner.specs.Reading.{AreBetween, EndsCalls, IsBetween}
 use Rattle.capture_loop.specs.Leaves.{IsMet}
 use Rattle.trace_runner.specs.Headline.{TookFor, status_of, status_up_to}
 use Rattle.trace_runner.specs.Playing.{IsPlayOf, LeavesPlay, LeavesPlayed, PlayReports, PutsPlay, play_in, play_limit, play_report, play_setup, ranges_for}
-use Rattle.core_model.specs.Order.{order_of}
-use Rattle.core_model.specs.Closed.{closing_of}
+use Rattle.table_model.specs.Order.{order_of}
+use Rattle.table_model.specs.Closed.{closing_of}
 use Rattle.capture_loop.specs.Input.{ServesUpTo}
 use Rattle.report_told.specs.Verdicts.{Certified}
 use Rattle.report_promises.specs.Good.{GoodIsCertified}
@@ -46,16 +46,16 @@ use Rattle.trace_runner.proofs.ExactLemmas.{few_packets, many_packets, same_stat
 
 -- what was played of a whole input is its report
 PlayReports-ended :
-    (plan : Plan) (bytes : List ℕ) (left : Option (List ℕ)) (many : ℕ) (calls : List (ℕ × Call)) (ending : Ending)
-    (text : List ℕ) →
-    EndsCalls play_limit bytes left many calls ending → IsPlayOf plan many calls ending text →
+    (plan : Plan) (bytes : List ℕ) (first now left : Option (List ℕ)) (many : ℕ) (calls : List (ℕ × Call))
+    (ending : Ending) (text : List ℕ) (ended : EndsCalls play_limit first now many calls ending) →
+    IsPlayOf plan many calls ending text → ServesUpTo play_limit bytes left ended.packets ending →
     PlayReports plan bytes left ending text
-PlayReports-ended plan bytes left many calls ending text ends is = (
-  ends.0,
+PlayReports-ended plan bytes first now left many calls ending text ended is serves = (
+  ended.packets,
   calls,
-  ends.1,
-  ends.2,
-  subst (λ (n : ℕ). IsPlayOf plan n calls ending text) (sym ends.3) is,
+  serves,
+  ended.make,
+  subst (λ (n : ℕ). IsPlayOf plan n calls ending text) (sym ended.count) is,
 )
 
 -- how many packets are played at most
@@ -102,21 +102,29 @@ took_whole (Limit limit) first left P took = took
 took_whole (Fault fault) first left P took = took
 
 module _ (plan : Plan) (read_failed : Type 0) (first left before after : Option (List ℕ)) (many : ℕ)
-    (calls : List (ℕ × Call)) (ending : Ending) (ended : HaveEndedUpTo play_limit first left many calls ending) (text : List ℕ)
-    (is : IsPlayOf plan many calls ending text) where
+    (calls : List (ℕ × Call)) (ending : Ending) (ended : EndsCalls play_limit first left many calls ending)
+    (text : List ℕ) (is : IsPlayOf plan many calls ending text) where
+  -- by the bytes that the source told
+  by_told : (bytes : List ℕ) → first ≡ Some bytes → PlayReports plan bytes left ending text
+  by_told bytes told =
+      PlayReports-ended plan bytes first left left many calls ending text ended is (ended.ended.told bytes told)
+
+  -- and by those that were taken of it
+  by_taken : PlayReports plan ended.ended.took.0 (Some []) ending text
+  by_taken =
+      PlayReports-ended plan ended.ended.took.0 first left (Some []) many calls ending text ended is ended.ended.took.2
+
   -- the report was put whole
   pub LeavesPlayed-whole : GoodIsCertified → Appends before after text →
       LeavesPlayed plan read_failed first left before after (status_of ending)
   LeavesPlayed-whole good put =
       record {
         told = λ bytes told.
-            LeavesPlay-whole good plan read_failed bytes left before after ending text
-            (PlayReports-ended plan bytes left many calls ending text (ended.told bytes told) is) put;
+            LeavesPlay-whole good plan read_failed bytes left before after ending text (by_told bytes told) put;
         took = took_whole ending first left _ (
-          ended.took.0,
-          ended.took.1,
-          LeavesPlay-whole good plan read_failed ended.took.0 (Some []) before after ending text
-              (PlayReports-ended plan ended.took.0 (Some []) many calls ending text ended.took.2 is) put,
+          ended.ended.took.0,
+          ended.ended.took.1,
+          LeavesPlay-whole good plan read_failed ended.ended.took.0 (Some []) before after ending text by_taken put,
         );
       }
 
@@ -125,20 +133,8 @@ module _ (plan : Plan) (read_failed : Type 0) (first left before after : Option 
       LeavesPlayed plan read_failed first left before after status.WriteFault
   LeavesPlayed-front met put =
       record {
-        told = λ bytes told. (
-          ending,
-          met,
-          (text, PlayReports-ended plan bytes left many calls ending text (ended.told bytes told) is, put),
-        );
-        took = (
-          ended.took.0,
-          ended.took.1,
-          (
-            ending,
-            met,
-            (text, PlayReports-ended plan ended.took.0 (Some []) many calls ending text ended.took.2 is, put),
-          ),
-        );
+        told = λ bytes told. (ending, met, (text, by_told bytes told, put));
+        took = (ended.ended.took.0, ended.ended.took.1, (ending, met, (text, by_taken, put)));
       }
 
 -- memory ran out, and nothing was put
@@ -249,19 +245,25 @@ LeavesPlay-exact plan read_failed bytes left before after status.Done packets en
     let held = leaves.1.1.2.holds.0 in
     inl (few_packets play_limit leaves.1.1.0 (Ok leaves.0) held.1
     ∙ same_status play_limit bytes leaves.1.1.0 packets (Ok leaves.0) ending one held.0 input)
-LeavesPlay-exact plan read_failed bytes left before after status.BadCapture packets ending one input no_read no_write leaves =
+LeavesPlay-exact plan read_failed bytes left before after status.BadCapture packets ending one input no_read
+    no_write leaves =
     let held = leaves.1.1.2.holds in
     inl (few_packets play_limit leaves.1.1.0 (Err leaves.0) held.1
     ∙ same_status play_limit bytes leaves.1.1.0 packets (Err leaves.0) ending one held.0 input)
-LeavesPlay-exact plan read_failed bytes left before after status.Limit packets ending one input no_read no_write leaves =
+LeavesPlay-exact plan read_failed bytes left before after status.Limit packets ending one input no_read
+    no_write leaves =
     let held = leaves.1.1.2.holds.0 in
     inl (many_packets play_limit held.0 held.1 held.3
     ∙ same_status play_limit bytes held.0 packets held.1 ending one held.2 input)
-LeavesPlay-exact plan read_failed bytes left before after status.ReadFault packets ending one input no_read no_write leaves =
+LeavesPlay-exact plan read_failed bytes left before after status.ReadFault packets ending one input no_read
+    no_write leaves =
     absurd (no_read refl)
-LeavesPlay-exact plan read_failed bytes left before after status.WriteFault packets ending one input no_read no_write leaves =
+LeavesPlay-exact plan read_failed bytes left before after status.WriteFault packets ending one input no_read
+    no_write leaves =
     absurd (no_write refl)
-LeavesPlay-exact plan read_failed bytes left before after status.Memory packets ending one input no_read no_write leaves =
+LeavesPlay-exact plan read_failed bytes left before after status.Memory packets ending one input no_read
+    no_write leaves =
     inr refl
-LeavesPlay-exact plan read_failed bytes left before after status.Usage packets ending one input no_read no_write leaves =
+LeavesPlay-exact plan read_failed bytes left before after status.Usage packets ending one input no_read
+    no_write leaves =
     absurd leaves

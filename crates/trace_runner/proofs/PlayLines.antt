@@ -11,18 +11,18 @@ use Rattle.plain_map.specs.History.{Placed, Whole, answered, pending}
 use Rattle.trace_share.specs.declared.outcome.Outcome.{Outcome}
 use Rattle.trace_share.specs.declared.outcome.Outcome.TheVariants.{Answered, Refused}
 use Rattle.trace_share.specs.Outcomes.{record_in}
-use Rattle.core_placing.proofs.Lists.{In, in_flat_map}
-use Rattle.core_model.specs.Setup.{Setup, seats_of}
-use Rattle.core_model.specs.SeatStates.{SeatState, fresh_seat}
-use Rattle.core_model.specs.Worlds.{World, seat_in}
-use Rattle.core_model.specs.Closed.{begun_of, closing_of, records_of}
-use Rattle.core_model.specs.Order.{order_of, took_effect}
-use Rattle.core_model.specs.Promises.{HasSteps}
-use Rattle.core_model.specs.Schedules.{Play}
-use Rattle.core_bounds.proofs.Ends.{records_are_numbered}
+use Rattle.list_laws.proofs.Lists.{In, in_flat_map}
+use Rattle.table_model.specs.Setup.{Setup, seats_of}
+use Rattle.table_model.specs.SeatStates.{SeatState, fresh_seat}
+use Rattle.table_model.specs.Worlds.{World, seat_in}
+use Rattle.table_model.specs.Closed.{begun_of, closing_of, records_of}
+use Rattle.table_model.specs.Order.{order_of, took_effect}
+use Rattle.table_model.specs.Promises.{HasSteps}
+use Rattle.table_model.specs.Schedules.{Play}
+use Rattle.bound_laws.proofs.Ends.{records_are_numbered}
 use Rattle.play_runner.specs.declared.values.Played.{Played}
 use Rattle.play_runner.specs.Played.{IsPlayed, outcomes_of, packet_in}
-use Rattle.trace_runner.specs.Answered.{AreCountedBySeat, answered_by, answered_on}
+use Rattle.report_promises.specs.Good.{AreCountedBySeat, answered_by, answered_on}
 use Rattle.trace_runner.specs.Playing.{HasRightLines, IsRightPlay}
 use Rattle.trace_runner.proofs.AnsweredLemmas.{answered_by_all, answered_by_seats, seats_after}
 use Rattle.trace_runner.proofs.PacketOrder.{Climbs, Rises, climbs-sorted, one_order}

@@ -1,10 +1,9 @@
 -- The packets of a play's lines: each call of a capture has a packet of its own, so no packet stands on two lines, and
 -- the calls that ended rise by packet.
-use Rattle.std.proofs.Common.{◌≡◌, ◌≤◌, ◌<◌, ℕ, suc, ◌+◌, List, [], ◌∷◌, ◌++◌, Bool, cond, length, map, get_or, Option, Some, None, inl, inr, refl, sym, ap, ◌∙◌, subst, arith}
+use Rattle.std.proofs.Common.{◌≡◌, ◌≤◌, ◌<◌, ℕ, ◌+◌, List, [], ◌∷◌, cond, length, map, get_or, Option, refl, ap, ◌∙◌, arith}
 use Rattle.std.specs.Prelude.{◌==◌, IsPermutation}
 use Rattle.std.specs.List.{flat_map, sum_by}
 use Rattle.std.specs.List.Sorted.{IsNonDecreasing, IsNonDecreasingBy}
-use Rattle.std.proofs.lemmas.Bool.{cases_eq, eq-eqb, ne_eqb}
 use Rattle.std.proofs.lemmas.List.{get_or-map, length-map}
 use Rattle.std.proofs.lemmas.List.Sums.{sum_by-append, sum_by-cons}
 use Rattle.std.proofs.lemmas.List.Sorted.{sum_by-IsPermutation}
@@ -12,16 +11,18 @@ use Rattle.plain_map.specs.declared.calls.Call.{Call}
 use Rattle.plain_map.specs.declared.records.Pending.{Pending}
 use Rattle.trace_share.specs.declared.outcome.Outcome.{Outcome}
 use Rattle.trace_share.specs.Outcomes.{asked_in}
-use Rattle.core_model.specs.Setup.{Setup}
-use Rattle.core_model.specs.Worlds.{IsRun, world_after}
-use Rattle.core_model.specs.Closed.{begun_of}
-use Rattle.core_model.specs.Schedules.{Play, Segment, play_of}
+use Rattle.table_model.specs.Setup.{Setup}
+use Rattle.table_model.specs.Worlds.{IsRun, world_after}
+use Rattle.table_model.specs.Closed.{begun_of}
+use Rattle.table_model.specs.Schedules.{Play, Segment, play_of}
 use Rattle.report_told.specs.Rules.{Rise, times}
+use Rattle.report_told.proofs.TimesLemmas.{times-cons}
 use Rattle.report_promises.specs.Good.{calls_ended}
-use Rattle.report_promises.proofs.PacketLemmas.{rises, times-cons}
-use Rattle.trace_runner.specs.PacketCalls.{MakeCalls, numbered}
+use Rattle.report_promises.proofs.PacketLemmas.{rise_once, rises}
+use Rattle.trace_runner.specs.PacketCalls.{MakeCalls}
 use Rattle.play_runner.specs.Played.{outcomes_of, packet_in}
 use Rattle.play_runner.proofs.WeighedPlays.{of_outcome, play_weighs}
+use Rattle.trace_runner.proofs.GoodCalls.{calls_rise}
 use Rattle.play_runner.proofs.BegunPlays.{begun_weigh, of_pending}
 
 -- ---- sums
@@ -57,14 +58,15 @@ times_calls {A} call_of packet (x ∷ xs) = omega (
   sum_by-cons (λ (y : A). is_of packet (call_of y)) x xs,
 )
 
-times_begun : (packet : ℕ) (waiting : List Pending) →
-    times packet (map (λ u. u.packet) waiting) ≡ sum_by (of_pending (is_of packet)) waiting
-times_begun packet [] = refl
-times_begun packet (u ∷ waiting) = omega (
+-- so it is among packets of anything
+times_by : {A : Type 0} (packet_of : A → ℕ) (packet : ℕ) (xs : List A) →
+    times packet (map packet_of xs) ≡ sum_by (λ x. cond (packet_of x == packet) 1 0) xs
+times_by packet_of packet [] = refl
+times_by {A} packet_of packet (x ∷ xs) = omega (
   arith,
-  times-cons packet u.packet (map (λ u. u.packet) waiting),
-  times_begun packet waiting,
-  sum_by-cons (of_pending (is_of packet)) u waiting,
+  times-cons packet (packet_of x) (map packet_of xs),
+  times_by packet_of packet xs,
+  sum_by-cons (λ (y : A). cond {A = ℕ} (packet_of y == packet) 1 0) x xs,
 )
 
 -- lines that are sorted by packet have packets that do not fall
@@ -76,6 +78,7 @@ packet_at xs i d x inside =
     ∙ ap (λ (asked : ℕ × Call). asked.0)
     (get_or-map (λ (line : ℕ × Outcome). asked_in line.1) xs i x (asked_in x.1) inside)
 
+-- so these do not fall
 packets_sorted : (xs : List (ℕ × Outcome)) → IsNonDecreasingBy packet_in xs →
     IsNonDecreasing (map (λ asked. asked.0) (calls_ended xs))
 packets_sorted [] by = λ i j d less inside. absurd (omega (arith, inside))
@@ -92,54 +95,6 @@ packets_sorted (x ∷ xs) by = λ i j d less inside.
       packet_at (x ∷ xs) j d x within,
       by i j x less within,
     )
-
--- ---- the calls of a capture
-
--- counted on from a number, none is of an earlier packet, and no two are of one
-record Once (k packet : ℕ) (calls : List (ℕ × Call)) : Type 0 where
-  later : packet < k → sum_by (is_of packet) calls ≡ 0
-  once : sum_by (is_of packet) calls ≤ 1
-
-once_from : (k packet : ℕ) (packets : List (List ℕ)) (calls : List (ℕ × Call)) → MakeCalls k packets calls →
-    Once k packet calls
-once_from k packet [] calls none =
-    subst (Once k packet) (sym none) (record { later = λ less. refl; once = omega arith })
-once_from k packet (bytes ∷ packets) calls (made, others, here, rest, is) =
-    subst (Once k packet) (sym is) (go made (once_from (suc k) packet packets others rest))
-  where
-    go : (m : Option Call) → Once (suc k) packet others → Once k packet (numbered k m ++ others)
-    go None after = record { later = λ less. after.later (omega (arith, less)); once = after.once }
-    go (Some call) after = elim (cases_eq k packet) [
-      | inl same ↦
-          let one : is_of packet (k, call) ≡ 1 = ap (λ (b : Bool). cond b 1 0) (eq-eqb k packet same) in
-          record {
-            later = λ less. absurd (omega (arith, less, same));
-            once = omega (arith, sum_by-cons (is_of packet) (k, call) others, one, after.later (omega (arith, same)));
-          }
-      | inr apart ↦
-          let none : is_of packet (k, call) ≡ 0 = ap (λ (b : Bool). cond b 1 0) (ne_eqb k packet apart) in
-          record {
-            later = λ less. omega (
-              arith,
-              sum_by-cons (is_of packet) (k, call) others,
-              none,
-              after.later (omega (arith, less)),
-            );
-            once = omega (arith, sum_by-cons (is_of packet) (k, call) others, none, after.once);
-          }
-    ]
-
--- they are no more than the packets
-pub few_made : (k : ℕ) (packets : List (List ℕ)) (calls : List (ℕ × Call)) → MakeCalls k packets calls →
-    length calls ≤ length packets
-few_made k [] calls none = omega (arith, ap length none)
-few_made k (bytes ∷ packets) calls (made, others, here, rest, is) =
-    go made (few_made (suc k) packets others rest) (ap length is)
-  where
-    go : (m : Option Call) → length others ≤ length packets → length calls ≡ length (numbered k m ++ others) →
-        length calls ≤ suc (length packets)
-    go None few long = omega (arith, few, long)
-    go (Some call) few long = omega (arith, few, long)
 
 -- ---- the lines of a play
 
@@ -169,12 +124,7 @@ module _ (setup : Setup) (shares : List (List (ℕ × Call))) (stops : List (Opt
 
     -- they are no more than these
     pub few_lines : length lines ≤ length calls
-    few_lines = omega (
-      arith,
-      lines_weigh (λ call. 1),
-      sum_ones lines,
-      sum_ones calls,
-    )
+    few_lines = omega (arith, lines_weigh (λ call. 1), sum_ones lines, sum_ones calls)
 
     module _ (packets : List (List ℕ)) (makes : MakeCalls 1 packets calls) where
       -- each packet stands on one line at most
@@ -183,11 +133,13 @@ module _ (setup : Setup) (shares : List (List (ℕ × Call))) (stops : List (Opt
       packet_once packet = omega (
         arith,
         lines_weigh (is_of packet),
-        (once_from 1 packet packets calls makes).once,
+        rise_once (map (λ call. call.0) calls) packet (calls_rise 1 packets calls makes),
+        times_by (λ (call : ℕ × Call). call.0) packet calls,
         times_calls (λ (line : ℕ × Outcome). asked_in line.1) packet lines,
-        times_begun packet waiting,
+        times_by (λ (u : Pending). u.packet) packet waiting,
       )
 
+      -- so a call under way has a packet of its own
       pub lines_apart : (packet : ℕ) → 1 ≤ times packet (map (λ u. u.packet) waiting) →
           times packet (map (λ asked. asked.0) (calls_ended lines)) + times packet (map (λ u. u.packet) waiting) ≤ 1
       lines_apart packet some = packet_once packet

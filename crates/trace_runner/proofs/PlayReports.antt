@@ -15,10 +15,10 @@ use Rattle.trace_share.specs.declared.outcome.Outcome.{Outcome}
 use Rattle.report_text.specs.declared.parts.Ending.{Ending}
 use Rattle.report_text.specs.Report.{batch_lines, call_in as call_of, head_line, order_lines, outcome_line, pending_line, report_of, session_line, tail_lines}
 use Rattle.report_told.specs.Rules.{IsHead, IsTail}
-use Rattle.core_model.specs.Setup.{Setup}
-use Rattle.core_model.specs.Worlds.{World}
-use Rattle.core_model.specs.Closed.{closed_depth}
-use Rattle.core_model.specs.Schedules.{CanPlay, Play}
+use Rattle.table_model.specs.Setup.{Setup}
+use Rattle.table_model.specs.Worlds.{World}
+use Rattle.table_model.specs.Closed.{closed_depth}
+use Rattle.table_model.specs.Schedules.{CanPlay, Play}
 use Rattle.play_runner.specs.declared.values.Played.{Played}
 use Rattle.play_runner.specs.Played.{IsPlayed}
 use Rattle.batch_runner.specs.declared.service.Service.{Service}

@@ -15,10 +15,10 @@ use Rattle.trace_share.specs.declared.outcome.Outcome.{Outcome}
 use Rattle.trace_share.specs.declared.outcome.Outcome.TheVariants.{Answered, Refused}
 use Rattle.trace_share.specs.Outcomes.{asked_in}
 use Rattle.report_text.specs.Report.{call_in as call_of}
-use Rattle.core_model.specs.Setup.{Setup, rules_of}
-use Rattle.core_model.specs.Order.{effects_of, order_of, took_effect}
-use Rattle.core_model.specs.Closed.{begun_of, closed_pairs, closing_of, records_of, sessions_with}
-use Rattle.core_model.specs.Schedules.{Play}
+use Rattle.table_model.specs.Setup.{Setup, rules_of}
+use Rattle.table_model.specs.Order.{effects_of, order_of, took_effect}
+use Rattle.table_model.specs.Closed.{begun_of, closed_pairs, closing_of, records_of, sessions_with}
+use Rattle.table_model.specs.Schedules.{Play}
 use Rattle.play_runner.specs.declared.values.Played.{Played}
 use Rattle.play_runner.specs.Played.{IsPlayed}
 use Rattle.trace_runner.specs.Playing.{IsRightPlay}

@@ -11,23 +11,23 @@ use Rattle.plain_map.specs.declared.full.Full.{Full}
 use Rattle.plain_map.specs.declared.records.Record.{Record}
 use Rattle.trace_share.specs.declared.deals.Share.{Share}
 use Rattle.trace_share.specs.Deal.{calls_of, dealt, makes}
-use Rattle.core_placing.proofs.Lists.{In, map_in}
-use Rattle.core_model.specs.Setup.{Setup, seats_of}
-use Rattle.core_model.specs.Phases.{Phase, SeeDone}
-use Rattle.core_model.specs.SeatStates.{Account, Flight, Stand, Idle, InFlight, SeatState, begun, fresh_seat}
-use Rattle.core_model.specs.Asks.{ask_in}
-use Rattle.core_model.specs.Worlds.{World, act, begin_or_refuse, found_by, happens, refusal_of, seat_in, step_of}
-use Rattle.core_model.specs.Schedules.{CanPlay, Hand, Play, Segment, empty_hand, events_of_slot, first_play, hand_after_slot, hand_of, is_refused, is_stopped, one_begins, play_of, slot, tried_of, untried_of, with_events, with_step}
-use Rattle.core_bounds.specs.Moments.{asked_by, asked_now, asked_of}
-use Rattle.core_bounds.proofs.WorldSteps.{step_same}
-use Rattle.core_schedules.proofs.Ends.{first_good}
-use Rattle.core_schedules.proofs.Slots.{slot_keeps}
-use Rattle.core_schedules.specs.Good.{IsGood}
-use Rattle.core_orders.proofs.Calls.{at_in}
+use Rattle.list_laws.proofs.Lists.{In, map_in}
+use Rattle.table_model.specs.Setup.{Setup, seats_of}
+use Rattle.table_model.specs.Phases.{Phase, SeeDone}
+use Rattle.table_model.specs.SeatStates.{Account, Flight, Stand, Idle, InFlight, SeatState, begun, fresh_seat}
+use Rattle.table_model.specs.Asks.{ask_in}
+use Rattle.table_model.specs.Worlds.{World, act, begin_or_refuse, found_by, happens, refusal_of, seat_in, step_of}
+use Rattle.table_model.specs.Schedules.{CanPlay, Hand, Play, Segment, empty_hand, events_of_slot, first_play, hand_after_slot, hand_of, is_refused, is_stopped, one_begins, play_of, slot, tried_of, untried_of, with_events, with_step}
+use Rattle.bound_laws.specs.Moments.{asked_calls, asked_now, asked_of}
+use Rattle.bound_laws.proofs.WorldSteps.{step_same}
+use Rattle.bound_laws.proofs.Moments.{asked_step}
+use Rattle.play_laws.proofs.Ends.{first_good}
+use Rattle.play_laws.proofs.Slots.{slot_keeps}
+use Rattle.play_laws.specs.Good.{IsGoodPlay}
+use Rattle.order_laws.proofs.Calls.{at_in}
 use Rattle.trace_runner.specs.Reading.{Ascending}
 use Rattle.trace_runner.proofs.PacketOrder.{Rises, rises-front, rises-without}
-use Rattle.core_schedules.proofs.PlayedBySlots.{play_keeps}
-use Rattle.trace_runner.proofs.UnrefusedPlays.{asked_step}
+use Rattle.play_laws.proofs.PlayedBySlots.{play_keeps}
 
 -- calls in the order of their packets
 abbrev pub InTurn : List (ℕ × Call) → Type 0
@@ -35,7 +35,7 @@ InTurn calls = Rises (λ call. call.0) calls
 
 -- what a seat has begun, and has still to begin
 abbrev TakesTurns : SeatState → Hand → Type 0
-TakesTurns state hand = InTurn (asked_by state ++ hand.calls)
+TakesTurns state hand = InTurn (asked_calls state ++ hand.calls)
 
 -- its records then
 record-turns : (records : List Record) → InTurn (map asked_of records) → Rises (λ r. r.packet) records
@@ -48,11 +48,11 @@ pub records-rise : (state : SeatState) (hand : Hand) → TakesTurns state hand �
 records-rise state hand rises =
     record-turns state.account.records
     (rises-front (λ call. call.0) (map asked_of state.account.records) (asked_now state.stand)
-    (rises-front (λ call. call.0) (asked_by state) hand.calls rises))
+    (rises-front (λ call. call.0) (asked_calls state) hand.calls rises))
 
 module _ (setup : Setup) (seat : ℕ) (h : seat < seats_of setup) (w : World) (within : seat < length w.seats) where
   -- an event of the seat is its act
-  acts : (account : Account) (stand : Stand) (begin : Option (ℕ × Call)) →
+  pub acts : (account : Account) (stand : Stand) (begin : Option (ℕ × Call)) →
       seat_in w seat ≡ record { account = account; stand = stand } →
       happens setup w (record { seat = seat; begin = begin }) ≡ act setup w seat account stand begin
   acts account stand begin is =
@@ -62,10 +62,10 @@ module _ (setup : Setup) (seat : ℕ) (h : seat < seats_of setup) (w : World) (w
 
   -- after a step the seat has begun the same
   step_asked : (account : Account) (flight : Flight) (phase : Phase) →
-      asked_by (seat_in (step_of setup w seat account flight phase) seat)
+      asked_calls (seat_in (step_of setup w seat account flight phase) seat)
       ≡ map asked_of account.records ++ (flight.packet, flight.call) ∷ []
   step_asked account flight phase =
-      ap asked_by (step_same setup w seat account flight phase within)
+      ap asked_calls (step_same setup w seat account flight phase within)
       ∙ asked_step setup seat account flight phase
       (found_by setup (ask_in setup seat account.used flight phase) w.words)
 
@@ -76,7 +76,7 @@ module _ (setup : Setup) (seat : ℕ) (h : seat < seats_of setup) (w : World) (w
       TakesTurns (seat_in (happens setup w (record { seat = seat; begin = None })) seat) hand
   flying account flight phase hand is rises =
       subst (λ asked. InTurn (asked ++ hand.calls))
-      (sym (ap (λ (x : World). asked_by (seat_in x seat)) (acts account (InFlight flight phase) None is)
+      (sym (ap (λ (x : World). asked_calls (seat_in x seat)) (acts account (InFlight flight phase) None is)
       ∙ step_asked account flight phase)) rises
 
   module _ (account : Account) (is : seat_in w seat ≡ record { account = account; stand = Idle }) where
@@ -85,13 +85,13 @@ module _ (setup : Setup) (seat : ℕ) (h : seat < seats_of setup) (w : World) (w
     after tried = fold (happens setup) w (map (λ begin. record { seat = seat; begin = Some begin }) tried)
 
     abbrev Left : (tried left : List (ℕ × Call)) → Type 0
-    Left tried left = InTurn (asked_by (seat_in (after tried) seat) ++ left)
+    Left tried left = InTurn (asked_calls (seat_in (after tried) seat) ++ left)
 
     -- of those that it tries, all but the last are refused
     trying : (calls : List (ℕ × Call)) → InTurn (map asked_of account.records ++ calls) →
         Left (tried_of (is_refused setup seat account) calls) (untried_of (is_refused setup seat account) calls)
     trying [] rises =
-        subst (λ (state : SeatState). InTurn (asked_by state ++ [])) (sym is)
+        subst (λ (state : SeatState). InTurn (asked_calls state ++ [])) (sym is)
         (subst InTurn (sym (append-nil (map asked_of account.records ++ []))) rises)
     trying (begin ∷ calls) rises =
         go (refusal_of setup seat account begin.1) refl
@@ -111,12 +111,12 @@ module _ (setup : Setup) (seat : ℕ) (h : seat < seats_of setup) (w : World) (w
         go : (full : Option Full) → refusal_of setup seat account begin.1 ≡ full → Left tried left →
             Left (cond (is_some full) (begin ∷ tried) (begin ∷ [])) (cond (is_some full) left calls)
         go (Some full) e rest =
-            subst (λ (x : World). InTurn (asked_by (seat_in (fold (happens setup) x
+            subst (λ (x : World). InTurn (asked_calls (seat_in (fold (happens setup) x
             (map (λ one. record { seat = seat; begin = Some one }) tried)) seat) ++ left))
             (sym (now (Some full) e)) rest
         go None e rest =
             subst (λ asked. InTurn (asked ++ calls))
-            (sym (ap (λ (x : World). asked_by (seat_in x seat)) (now None e)
+            (sym (ap (λ (x : World). asked_calls (seat_in x seat)) (now None e)
             ∙ step_asked account (begun account begin.0 begin.1) SeeDone))
             (subst InTurn (sym (append_assoc (map asked_of account.records) (begin ∷ []) calls)) rises)
 
@@ -144,7 +144,7 @@ module _ (setup : Setup) (seat : ℕ) (h : seat < seats_of setup) (w : World) (w
 module _ (setup : Setup) where
   -- so far each seat takes turns
   record AllTurn (play : Play) : Type 0 where
-    good : IsGood setup play
+    good : IsGoodPlay setup play
     turns : (seat : ℕ) → seat < seats_of setup → TakesTurns (seat_in play.world seat) (hand_of play seat)
 
   -- one slot more

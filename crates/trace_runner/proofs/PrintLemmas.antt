@@ -12,7 +12,8 @@ use Rattle.batch_runner.specs.Printed.{answered_in_all, lines_of, outcomes_in}
 use Rattle.batch_runner.specs.Totals.{totals_of}
 use Rattle.command_line.specs.declared.plan.Plan.{Plan}
 use Rattle.trace_runner.specs.declared.progress.Progress.{Progress}
-use Rattle.trace_runner.specs.Served.{IsServiceOf, head_of, leaves_left, lines_so_far, no_counts, run_report, tail_of, tail_with}
+use Rattle.trace_runner.specs.Served.{IsServiceOf, head_of, leaves_left, lines_so_far, run_report, tail_of, tail_with}
+use Rattle.batch_history.specs.Batches.{no_counts}
 use Rattle.trace_runner.specs.Progress.{HasServed}
 use Rattle.trace_runner.specs.ServingLaws.{report_of-run}
 use Rattle.trace_runner.proofs.ProgressLemmas.{lines_so_far-more}

@@ -11,7 +11,7 @@ use Rattle.plain_map.specs.declared.records.Record.{Record}
 use Rattle.bucket_states.specs.Parts.{HasDistinctKeys}
 use Rattle.trace_share.specs.Outcomes.{records_in}
 use Rattle.report_text.specs.Report.{Batch as Lines, batch_lines, head_line}
-use Rattle.batch_orders.specs.Batches.{answered_then, with_counts}
+use Rattle.batch_history.specs.Batches.{answered_then, with_counts, no_counts}
 use Rattle.batch_runner.specs.declared.batch.Batch.{Batch}
 use Rattle.batch_runner.specs.declared.service.Service.{Service}
 use Rattle.batch_runner.specs.declared.totals.Totals.{Totals}
@@ -22,7 +22,7 @@ use Rattle.batch_runner.specs.Totals.{totals_of}
 use Rattle.batch_runner.proofs.Telling.{told_many}
 use Rattle.command_line.specs.declared.plan.Plan.{Plan}
 use Rattle.trace_runner.specs.declared.progress.Progress.{Progress}
-use Rattle.trace_runner.specs.Served.{depth_left, head_of, leaves_left, lines_so_far, no_counts}
+use Rattle.trace_runner.specs.Served.{depth_left, head_of, leaves_left, lines_so_far}
 use Rattle.trace_runner.specs.Progress.{HasServed, HasTexts}
 
 -- ---- lists of batches, one longer

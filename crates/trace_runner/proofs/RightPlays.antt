@@ -1,8 +1,8 @@
 -- Every play is right, since it is a run, and what holds of every run holds of it.
 use Rattle.std.proofs.Common.{sym, subst}
-use Rattle.core_model.specs.Histories.{DepthIsOfLeaves, LeavesAreWarranted, LeavesCover, OrderIsAfter, OrderIsLegal, OrderIsWhole, PairsAreOfOrder}
-use Rattle.core_model.specs.Promises.{StepsAreBounded}
-use Rattle.core_model.specs.Schedules.{Play, PlaysAreRuns, PlaysEnd, play_of}
+use Rattle.table_model.specs.Histories.{DepthIsOfLeaves, LeavesAreWarranted, LeavesCover, OrderIsAfter, OrderIsLegal, OrderIsWhole, PairsAreOfOrder}
+use Rattle.table_model.specs.Promises.{StepsAreBounded}
+use Rattle.table_model.specs.Schedules.{Play, PlaysAreRuns, PlaysEnd, play_of}
 use Rattle.trace_runner.specs.Playing.{IsRightWorld, PlaysAreRight}
 
 module _ (runs : PlaysAreRuns) (end : PlaysEnd) (legal : OrderIsLegal) (after : OrderIsAfter) (whole : OrderIsWhole)

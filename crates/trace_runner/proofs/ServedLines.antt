@@ -8,9 +8,9 @@ use Rattle.plain_map.specs.declared.keys.Pair.{Pair}
 use Rattle.trace_share.specs.declared.outcome.Outcome.{Outcome}
 use Rattle.trace_share.specs.declared.outcome.Outcome.TheVariants.{Answered, Refused}
 use Rattle.trace_share.specs.Outcomes.{record_in, records_in}
-use Rattle.core_placing.proofs.Lists.{flat_map_append}
-use Rattle.core_model.specs.Closed.{sessions_with}
-use Rattle.batch_orders.specs.Batches.{CallsAreNumberedOn, answered_then, gone_on, records_of}
+use Rattle.list_laws.proofs.Lists.{flat_map_append}
+use Rattle.table_model.specs.Closed.{sessions_with}
+use Rattle.batch_history.specs.Batches.{CallsAreNumberedOn, answered_then, gone_on, records_of, no_counts}
 use Rattle.batch_answers.specs.Answers.{AreNone}
 use Rattle.batch_answers.proofs.SeenCounts.{none_alike_lines}
 use Rattle.report_text.specs.Report.{Batch as Lines}
@@ -19,8 +19,8 @@ use Rattle.batch_runner.specs.Served.{AreInPacketOrder, AreServed, Served, histo
 use Rattle.batch_runner.specs.Printed.{all_lines, outcome_on}
 use Rattle.batch_runner.proofs.Closings.{map_at, past}
 use Rattle.batch_runner.proofs.Rights.{all_in_order}
-use Rattle.trace_runner.specs.Answered.{AreCountedBySeat, answered_by}
-use Rattle.trace_runner.specs.Served.{lines_in, no_counts}
+use Rattle.report_promises.specs.Good.{AreCountedBySeat, answered_by}
+use Rattle.trace_runner.specs.Served.{lines_in}
 
 -- the answered calls of a seat are those of its outcomes
 by_filter : (seat : ℕ) (outcomes : List (ℕ × Outcome)) →

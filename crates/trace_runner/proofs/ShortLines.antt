@@ -7,14 +7,14 @@ use Rattle.std.proofs.lemmas.List.Sorted.{All-permutation}
 use Rattle.step_counts.specs.StepCounts.{step_bound}
 use Rattle.plain_map.specs.declared.records.Record.{Record}
 use Rattle.trace_share.specs.Outcomes.{records_in}
-use Rattle.core_model.specs.Promises.{HasSteps}
-use Rattle.batch_orders.specs.Batches.{all_records, answered_then, gone_on}
+use Rattle.table_model.specs.Promises.{HasSteps}
+use Rattle.batch_history.specs.Batches.{all_records, answered_then, gone_on, no_counts}
 use Rattle.batch_answers.specs.Answers.{printed_in}
 use Rattle.batch_answers.proofs.Printed.{printed_are}
 use Rattle.batch_runner.specs.declared.service.Service.{Service}
 use Rattle.batch_runner.specs.Served.{AreServed, Served, history_in, setup_of_batch}
 use Rattle.batch_runner.specs.Promises.{IsSound}
-use Rattle.trace_runner.specs.Served.{IsWithin, no_counts}
+use Rattle.trace_runner.specs.Served.{IsWithin}
 
 -- no update of a sound batch took more steps than the bound, in whatever order its calls are told
 sound_within : (service : Service) (batch : Served) → IsSound service batch →

@@ -1,6 +1,6 @@
 -- The keys of the pairs that are left have texts, since those of all calls have.
 use Rattle.std.proofs.Common.{◌≡◌, ℕ, List, [], ◌∷◌, ◌++◌, map, sym, subst}
-use Rattle.std.specs.Prelude.{slice_index_or, ◌==◌}
+use Rattle.std.specs.Prelude.{◌==◌}
 use Rattle.std.specs.List.{All, filter, flat_map}
 use Rattle.std.specs.FinMap.{empty}
 use Rattle.std.proofs.lemmas.List.Elements.{All-append, All-cons, All-contains, All-filter, All-from_get_or, All-head, All-map, All-nil, All-tail}
@@ -18,7 +18,7 @@ use Rattle.trace_share.specs.declared.outcome.Outcome.{Outcome}
 use Rattle.trace_share.specs.declared.outcome.Outcome.TheVariants.{Answered, Refused}
 use Rattle.trace_share.specs.Outcomes.{asked_in, records_in}
 use Rattle.report_text.specs.Report.{call_in as asked_of}
-use Rattle.batch_orders.specs.Batches.{Batch, all_calls, all_records, answered_then, gone_on}
+use Rattle.batch_history.specs.Batches.{Batch, all_calls, all_records, answered_then, gone_on}
 use Rattle.batch_runner.specs.declared.service.Service.{Service}
 use Rattle.batch_runner.specs.Served.{IsServed, Served, AreServed, history_in, pairs_left, rules_of}
 use Rattle.batch_runner.specs.Promises.{AreRight, ServedAreRight}
@@ -42,12 +42,6 @@ texts_of outcomes calls asked texts =
 same_call : (o : ℕ × Outcome) → OfText o.1 → HasText (key_in (asked_of o.1))
 same_call (seat, Answered made) text = text
 same_call (seat, Refused packet call full) text = text
-
-pub texts-outcomes : (outcomes : List (ℕ × Outcome)) (calls : List (ℕ × Call)) →
-    map (λ o. asked_in o.1) outcomes ≡ calls → HasTexts calls →
-    All (λ (o : ℕ × Outcome). HasText (key_in (asked_of o.1))) outcomes
-texts-outcomes outcomes calls asked texts = λ k d within.
-    same_call (slice_index_or outcomes k d) (texts_of outcomes calls asked texts k d within)
 
 -- the records of a seat
 texts-log : (log : List Outcome) → All OfText log → All RecordOfText (records_in log)

@@ -1,7 +1,7 @@
 -- Which answer `totals` gives where nothing fails, and what it leaves where it does nothing.
 use Rattle.std.proofs.Common.{◌≡◌, ℕ, List, Option, Result, Ok, Err, ◌∙◌, refl, inl, inr, ◌⊎◌}
 use Rattle.std.specs.Io.KnownBytes.{Keeps}
-use Rattle.pcapng_reader.specs.declared.fault.AnyFault.{AnyFault}
+use Rattle.capture_faults.specs.declared.any_fault.AnyFault.{AnyFault}
 use Rattle.pcapng_reader.specs.Input.{Input}
 use Rattle.pcapng_reader.specs.Laws.{HasOneInput}
 use Rattle.report_text.specs.declared.parts.Ending.{Ending}

@@ -22,10 +22,10 @@ use Rattle.plain_map.proofs.KeyLemmas.{keys_total}
 use Rattle.trace_share.specs.declared.outcome.Outcome.{Outcome}
 use Rattle.trace_share.specs.declared.outcome.Outcome.TheVariants.{Answered, Refused}
 use Rattle.trace_share.specs.Outcomes.{asked_in, full_in, record_in}
-use Rattle.core_placing.proofs.Lists.{flat_map_append}
-use Rattle.core_bounds.specs.Moments.{asked_of}
+use Rattle.list_laws.proofs.Lists.{flat_map_append}
+use Rattle.bound_laws.specs.Moments.{asked_of}
 use Rattle.report_text.specs.Report.{Batch as Lines}
-use Rattle.batch_orders.specs.Batches.{all_calls, answered_then, gone_on}
+use Rattle.batch_history.specs.Batches.{all_calls, answered_then, gone_on, no_counts}
 use Rattle.batch_answers.specs.Answers.{all_answers, calls_in, printed_in}
 use Rattle.batch_runner.specs.declared.service.Service.{Service}
 use Rattle.batch_runner.specs.Served.{AreServed, Served, history_in, pairs_left, rules_of}
@@ -33,7 +33,7 @@ use Rattle.batch_runner.specs.Printed.{all_lines, answers_in, outcome_on, outcom
 use Rattle.batch_runner.specs.Totals.{is_absent, is_found, is_gone, is_new, is_noroom, is_old, replies_in}
 use Rattle.command_line.specs.declared.plan.Plan.{Plan}
 use Rattle.trace_runner.specs.Batches.{AreOfBatches}
-use Rattle.trace_runner.specs.Served.{IsPromised, no_counts}
+use Rattle.trace_runner.specs.Served.{IsPromised}
 use Rattle.trace_runner.specs.Headline.{AddsUp, tried_of}
 
 -- ---- the replies
@@ -300,7 +300,8 @@ printed_replies test service before (batch ∷ batches) =
       printed_on test before batch.outcomes,
       printed_replies test service then batches,
       ap (count test) (flat_map_append record_in own (outcomes_in batches)),
-      sum_by-append (λ (r : Record). cond (test r.call r.reply) 1 0) (answers_in own) (answers_in (outcomes_in batches)),
+      sum_by-append (λ (r : Record). cond (test r.call r.reply) 1 0) (answers_in own)
+          (answers_in (outcomes_in batches)),
     )
 
 -- a list of pairs is as long as the sessions are many

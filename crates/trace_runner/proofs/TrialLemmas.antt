@@ -1,30 +1,24 @@
 -- The text of a trial is that of the made capture.
-use Rattle.std.proofs.Common.{◌≡◌, ◌≤◌, ℕ, List, length, map, Option, Some, None, Result, Ok, Err, sym, ◌∙◌, ap, subst, refl, arith, inl, inr}
+use Rattle.std.proofs.Common.{◌≡◌, ◌≤◌, ℕ, List, [], length, map, Option, Some, None, Result, Ok, Err, sym, ◌∙◌, ap, subst, refl, arith, inl, inr}
 use Rattle.std.specs.List.{All, range_with_len}
 use Rattle.std.proofs.lemmas.List.{length-map}
 use Rattle.std.proofs.lemmas.List.FromFn.{length-range_with_len}
 use Rattle.edge_traits.specs.Edge.{Rose}
-use Rattle.plain_map.specs.declared.keys.Pair.{Pair}
 use Rattle.pcap_reader.specs.Capture.{Capture, Saved}
 use Rattle.pcap_reader.specs.Made.{HoldsMade, made_capture, made_saved}
-use Rattle.pcapng_reader.specs.declared.fault.AnyFault.{AnyFault}
+use Rattle.capture_faults.specs.declared.any_fault.AnyFault.{AnyFault}
 use Rattle.pcapng_reader.specs.Input.{Input, IsPcapng, packets_in}
 use Rattle.pcapng_reader.specs.Laws.{HasOneInput}
 use Rattle.pcapng_reader.proofs.InputFacts.{no_pcapng}
 use Rattle.report_text.specs.declared.parts.Ending.{Ending}
 use Rattle.report_text.specs.declared.parts.Ending.TheVariants.{Done, ReadFault, Limit, Fault}
-use Rattle.report_text.specs.Trials.{trial_lines}
-use Rattle.batch_runner.specs.declared.service.Service.{Service}
-use Rattle.batch_runner.specs.declared.totals.Totals.{Totals}
-use Rattle.batch_runner.specs.Totals.{totals_of}
-use Rattle.batch_runner.specs.Printed.{outcomes_in}
 use Rattle.command_line.specs.declared.plan.Plan.{Plan}
-use Rattle.trace_runner.specs.declared.progress.Progress.{Progress}
-use Rattle.trace_runner.specs.Batches.{batch_count}
+use Rattle.capture_loop.specs.Leaves.{IsLoopReport, Leaves, PutsInput, ReportsInput}
 use Rattle.capture_loop.specs.Input.{HoldsPackets, Serves, packet_limit}
-use Rattle.trace_runner.specs.Served.{IsServiceOf, ServedArePromised}
-use Rattle.trace_runner.specs.Headline.{IsTrial, trial_of}
-use Rattle.trace_runner.specs.Progress.{HasTried}
+use Rattle.trace_runner.specs.Served.{ServedArePromised}
+use Rattle.trace_runner.specs.Headline.{IsTrial}
+use Rattle.trace_runner.specs.Trying.{IsNoText, IsTrialOf}
+use Rattle.trace_runner.proofs.HeadlineLemmas.{served_at}
 use Rattle.trace_runner.proofs.MadeCalls.{IsMadeFrame, made_calls, made_frames}
 use Rattle.trace_runner.proofs.TrialCounts.{trial-adds_up}
 
@@ -103,36 +97,34 @@ frames_made number made packets one law held =
     (one packets (made_in number made) (Ok 0) (Ok 0) held.0 (made_input number made law)).0 in
     subst (All (IsMadeFrame number)) (sym same) (made_frames number made records refl)
 
-pub IsTrial-tried :
-    (plan : Plan) (service : Service) (progress : Progress) (left : Option (List ℕ)) (ending : Ending)
-    (text : List ℕ) →
+-- what the loop over its batches puts is its trial
+pub IsTrial-put :
+    (plan : Plan) (read_failed : Type 0) (left : Option (List ℕ)) (ending : Ending) (put : List ℕ) →
     HasOneInput (made_capture plan.number plan.packets) → HoldsMade plan.number plan.packets →
-    plan.packets ≤ packet_limit → (ending ≡ ReadFault → ⊥) → ServedArePromised → IsServiceOf plan service →
-    HasTried service progress (Some (made_capture plan.number plan.packets)) left ending →
-    text ≡ trial_lines (trial_of plan progress.totals (length progress.pairs.items)) → plan.rows ≡ None →
-    IsTrial plan text
-IsTrial-tried plan service progress left ending text one law few no_fault promised asks tried is none =
-    let ended = tried.ended.told (made_capture plan.number plan.packets) refl in
-    let holds = made_packets plan.number plan.packets left ended.0 ending one law few no_fault ended.1 in
-    let frames = frames_made plan.number plan.packets ended.0 one law holds in (
-      ended.0,
-      tried.calls,
-      service,
-      tried.batches,
+    plan.packets ≤ packet_limit → (read_failed → ⊥) → ServedArePromised → plan.rows ≡ None →
+    Leaves (IsNoText plan) (IsTrialOf plan) read_failed (made_capture plan.number plan.packets) left (Some [])
+    (Some put) (Ok ending) →
+    IsTrial plan put
+IsTrial-put plan read_failed left ending put one law few none_failed promised none leaves =
+    let bytes : List ℕ = made_capture plan.number plan.packets in
+    let puts : PutsInput (IsTrialOf plan) bytes left (Some []) (Some put) ending = leaves.1 in
+    let input : ReportsInput (IsTrialOf plan) bytes left ending puts.0 = puts.1 in
+    let packets : List (List ℕ) = input.0 in
+    let report : IsLoopReport (IsTrialOf plan) packets ending puts.0 = input.2 in
+    let trial : IsTrialOf plan report.0 ending puts.0 = report.2 in
+    let holds =
+    made_packets plan.number plan.packets left packets ending one law few (λ is. none_failed (leaves.0 is)) input.1 in
+    let at = served_at promised plan packets report.0 trial.0 trial.1 report.1 trial.2 in
+    let frames = frames_made plan.number plan.packets packets one law holds in (
+      packets,
+      at.0,
+      trial.0,
+      trial.1,
       holds,
-      ended.2,
-      record {
-        asks = asks;
-        cut = tried.cut;
-        served = tried.served.served;
-        promised = promised service tried.batches tried.served.served;
-      },
-      tried.count ∙ ap batch_count (sym ended.3),
-      trial-adds_up service tried.batches tried.served.served (promised service tried.batches tried.served.served) plan
-          tried.calls tried.cut (made_calls plan.number 1 ended.0 tried.calls frames ended.2) (asks.rows ∙ none),
-      is
-          ∙ ap (λ (t : Totals). trial_lines (trial_of plan t (length progress.pairs.items))) tried.served.totals
-          ∙ ap (λ (pairs : List Pair).
-          trial_lines (trial_of plan (totals_of (outcomes_in tried.batches)) (length pairs)))
-          tried.served.pairs,
+      at.1,
+      at.2,
+      at.3,
+      trial-adds_up trial.0 trial.1 trial.2.each (promised trial.0 trial.1 trial.2.each) plan at.0 at.2.cut
+          (made_calls plan.number 1 packets at.0 frames at.1) (trial.2.asks.rows ∙ none),
+      puts.2 ∙ trial.3,
     )

@@ -1,5 +1,5 @@
 -- The words of a trial give it no rows.
-use Rattle.std.proofs.Common.{◌≡◌, ℕ, List, [], Bool, true, false, cond, Option, Some, None, refl, sym, ap, ◌∙◌}
+use Rattle.std.proofs.Common.{◌≡◌, ℕ, List, [], Bool, true, false, cond, Option, Some, None, sym, ap, ◌∙◌}
 use Rattle.std.specs.Prelude.{codes}
 use Rattle.clap.specs.Walk.{first_of, is_empty}
 use Rattle.clap.specs.Simple.{matches_of}
@@ -10,14 +10,8 @@ use Rattle.command_line.specs.declared.plan.Mode.TheVariants.{Trial}
 use Rattle.command_line.specs.declared.plan.Plan.{Plan}
 use Rattle.command_line.specs.declared.plays.Segment.{Segment}
 use Rattle.command_line.specs.Command.{flowdir_app}
-use Rattle.command_line.specs.Texts.{◌>>=◌}
+use Rattle.line_fields.proofs.BindLemmas.{bind_some}
 use Rattle.command_line.specs.Words.{mode_of, plan_of, plan_with, reads, rows_for, schedule_for, seats_in, share_in, start_in, hashing_in, stops_in, text_in}
-
--- what comes of a value that there may be comes of one that there is
-of_some : {A B : Type 0} (o : Option A) (f : A → Option B) (b : B) → (o >>= f) ≡ Some b →
-    (a : A) × (o ≡ Some a) × (f a ≡ Some b)
-of_some (Some a) f b is = (a, refl, is)
-of_some None f b is = absurd (cc)
 
 of_true : {A : Type 0} (b : Bool) (o : Option A) (a : A) → cond b o None ≡ Some a → o ≡ Some a
 of_true true o a is = is
@@ -28,18 +22,18 @@ module _ (given : List ℕ → Option (List ℕ)) (plan : Plan) where
   with_rows : (mode : Mode) (rows : Option SeatRows) (schedule : List Segment) (stops : List (Option ℕ)) →
       plan_with mode rows schedule stops given ≡ Some plan → (plan.mode ≡ mode) × (plan.rows ≡ rows)
   with_rows mode rows schedule stops is =
-      let start = of_some (start_in mode given) _ plan is in
-      let hashing = of_some (hashing_in mode given) _ plan start.2 in
-      let share = of_some (share_in mode given) _ plan hashing.2 in
+      let start = bind_some (start_in mode given) _ plan is in
+      let hashing = bind_some (hashing_in mode given) _ plan start.2 in
+      let share = bind_some (share_in mode given) _ plan hashing.2 in
       let made = share.2 in
       (let same : plan.mode ≡ mode = cc in same, let same : plan.rows ≡ rows = cc in same)
 
   plan_rows : plan_of given ≡ Some plan → plan.mode ≡ Trial → plan.rows ≡ None
   plan_rows is tries =
-      let mode = of_some (mode_of (text_in given (codes "mode") [])) _ plan is in
-      let rows = of_some (rows_for mode.0 given) _ plan mode.2 in
-      let schedule = of_some (schedule_for mode.0 (seats_in mode.0 given) given) _ plan rows.2 in
-      let stops = of_some (stops_in mode.0 (seats_in mode.0 given) given) _ plan schedule.2 in
+      let mode = bind_some (mode_of (text_in given (codes "mode") [])) _ plan is in
+      let rows = bind_some (rows_for mode.0 given) _ plan mode.2 in
+      let schedule = bind_some (schedule_for mode.0 (seats_in mode.0 given) given) _ plan rows.2 in
+      let stops = bind_some (stops_in mode.0 (seats_in mode.0 given) given) _ plan schedule.2 in
       let has = with_rows mode.0 rows.0 schedule.0 stops.0 stops.2 in
       let none : Some None ≡ Some rows.0 = ap (λ (m : Mode). rows_for m given) (sym tries ∙ has.0) ∙ rows.1 in
       has.1 ∙ (let same : rows.0 ≡ None = cc in same)

@@ -1,7 +1,7 @@
 -- Where each seat has the automatic rows for the calls that it is dealt, no call of a play is refused.
-use Rattle.std.proofs.Common.{◌≡◌, ◌<◌, ◌≤◌, ℕ, ◌+◌, ◌⊎◌, List, [], ◌∷◌, ◌++◌, Bool, true, false, cond, map, length, get_or, Option, Some, None, is_some, fold, inl, inr, refl, sym, ap, ◌∙◌, subst, arith, append-nil, append_assoc, lt-ltb, All}
+use Rattle.std.proofs.Common.{◌≡◌, ◌<◌, ◌≤◌, ℕ, ◌+◌, ◌⊎◌, List, [], ◌∷◌, ◌++◌, Bool, true, false, cond, map, length, get_or, Option, Some, None, is_some, fold, inl, inr, refl, sym, ap, ◌∙◌, subst, arith, append-nil, append_assoc, All}
 use Rattle.std.specs.Prelude.{count_by, slice_index}
-use Rattle.std.proofs.lemmas.List.{get_or_past, get_or-map, get_or-replicate, get_or-set_same, map-append}
+use Rattle.std.proofs.lemmas.List.{get_or_past, get_or-map, get_or-replicate, get_or-set_same}
 use Rattle.std.proofs.lemmas.List.FromFn.{get_or-map-range_with_len}
 use Rattle.std.proofs.lemmas.Simd.{map-map}
 use Rattle.std.proofs.lemmas.List.Elements.{All-append, All-cons, All-nil}
@@ -13,25 +13,27 @@ use Rattle.plain_map.specs.declared.full.Full.{Full}
 use Rattle.plain_map.specs.declared.records.Record.{Record}
 use Rattle.trace_share.specs.declared.outcome.Outcome.{Outcome}
 use Rattle.trace_share.specs.Outcomes.{full_in}
-use Rattle.core_model.specs.declared.events.Event.{Event}
-use Rattle.core_model.specs.Setup.{Setup, seats_of, settings_of}
-use Rattle.core_model.specs.Phases.{Phase, SeeDone, StoreDone}
-use Rattle.core_model.specs.SeatStates.{Account, Flight, Stand, Idle, InFlight, SeatState, begun, fresh_seat, is_update, record_of}
-use Rattle.core_model.specs.Asks.{ask_in}
-use Rattle.core_model.specs.Goes.{state_after}
-use Rattle.core_model.specs.Worlds.{World, act, begin_or_refuse, found_by, happens, opening_world, refusal_of, seat_in, step_of, world_after}
-use Rattle.core_model.specs.Promises.{RowsSuffice, updates_in}
+use Rattle.table_model.specs.declared.events.Event.{Event}
+use Rattle.table_model.specs.Setup.{Setup, seats_of, settings_of}
+use Rattle.table_model.specs.Phases.{Phase, SeeDone}
+use Rattle.table_model.specs.SeatStates.{Account, Flight, Stand, Idle, InFlight, SeatState, begun, fresh_seat}
+use Rattle.plain_map.specs.Calls.{is_update}
+use Rattle.table_model.specs.Asks.{ask_in}
+use Rattle.table_model.specs.Worlds.{World, begin_or_refuse, found_by, happens, opening_world, refusal_of, seat_in, step_of, world_after}
+use Rattle.table_model.specs.Promises.{RowsSuffice, updates_in}
 use Rattle.step_counts.specs.StepCounts.{automatic_rows_of}
-use Rattle.core_model.specs.Schedules.{CanPlay, Hand, Play, Segment, empty_hand, events_of_slot, first_play, hand_after_slot, hand_of, is_refused, is_stopped, one_begins, play_of, slot, tried_of, untried_of, with_events, with_step}
-use Rattle.core_bounds.specs.Moments.{asked_by, asked_of}
-use Rattle.core_bounds.proofs.WorldSteps.{step_same}
-use Rattle.core_schedules.proofs.Ends.{first_good}
-use Rattle.core_schedules.proofs.Slots.{no_seat, slot_keeps}
-use Rattle.core_schedules.specs.Good.{IsGood}
-use Rattle.core_world.specs.Values.{new_record, refused_at, stepped_of, told_of}
+use Rattle.table_model.specs.Schedules.{CanPlay, Hand, Play, Segment, empty_hand, events_of_slot, first_play, hand_after_slot, hand_of, is_refused, is_stopped, one_begins, play_of, slot, tried_of, untried_of, with_events, with_step}
+use Rattle.bound_laws.specs.Moments.{asked_calls, asked_of}
+use Rattle.bound_laws.proofs.WorldSteps.{step_same}
+use Rattle.bound_laws.proofs.Moments.{asked_step}
+use Rattle.play_laws.proofs.Ends.{first_good}
+use Rattle.play_laws.proofs.Slots.{no_seat, slot_keeps}
+use Rattle.play_laws.specs.Good.{IsGoodPlay}
+use Rattle.core_steps.specs.Values.{new_record, refused_at, stepped_of, told_of}
 use Rattle.batch_rows.specs.BatchRows.{updates_in_calls}
 use Rattle.play_runner.specs.Played.{outcome_in, outcomes_from, outcomes_of}
-use Rattle.core_schedules.proofs.PlayedBySlots.{play_keeps}
+use Rattle.play_laws.proofs.PlayedBySlots.{play_keeps}
+use Rattle.trace_runner.proofs.PlayTurns.{acts}
 
 -- the call was not refused
 abbrev pub NotRefused : ℕ × Outcome → Type 0
@@ -76,18 +78,10 @@ told_unrefused event (Some full) made none = absurd (cc)
 told_unrefused event None (Some r) none = All-cons NotRefused _ [] refl (All-nil NotRefused)
 told_unrefused event None None none = All-nil NotRefused
 
--- a step answers a call that was begun
-pub asked_step : (setup : Setup) (me : ℕ) (account : Account) (flight : Flight) (phase : Phase) (word : ℕ) →
-    asked_by (state_after setup me account flight phase word)
-    ≡ map asked_of account.records ++ (flight.packet, flight.call) ∷ []
-asked_step setup me account flight (StoreDone reply place) word =
-    append-nil _ ∙ map-append asked_of account.records (record_of me flight reply place ∷ [])
-asked_step setup me account flight phase word = refl
-
 module _ (setup : Setup) (seat : ℕ) (h : seat < seats_of setup) (room : ℕ) where
   -- what a seat has begun and has still to begin has no more updates than its rows were made for
   abbrev HasRoom : SeatState → Hand → Type 0
-  HasRoom state hand = updates_in_calls (asked_by state) + updates_in_calls hand.calls ≤ room
+  HasRoom state hand = updates_in_calls (asked_calls state) + updates_in_calls hand.calls ≤ room
 
   -- events of the seat refuse nothing and keep that
   record Kept (w : World) (events : List Event) (hand : Hand) : Type 0 where
@@ -95,19 +89,10 @@ module _ (setup : Setup) (seat : ℕ) (h : seat < seats_of setup) (room : ℕ) w
     room_left : HasRoom (seat_in (fold (happens setup) w events) seat) hand
 
   module _ (w : World) (within : seat < length w.seats) where
-    -- an event of the seat is its act
-    acts : (account : Account) (stand : Stand) (begin : Option (ℕ × Call)) →
-        seat_in w seat ≡ record { account = account; stand = stand } →
-        happens setup w (record { seat = seat; begin = begin }) ≡ act setup w seat account stand begin
-    acts account stand begin is =
-        ap (λ (b : Bool). cond b (act setup w seat (seat_in w seat).account (seat_in w seat).stand begin) w)
-        (lt-ltb seat (seats_of setup) h)
-        ∙ ap (λ (s : SeatState). act setup w seat s.account s.stand begin) is
-
     -- one event, after which the seat has begun these calls
     one_event : (begin : Option (ℕ × Call)) (asked : List (ℕ × Call)) (hand : Hand) →
         refused_at setup seat (seat_in w seat).account (seat_in w seat).stand begin ≡ None →
-        asked_by (seat_in (happens setup w (record { seat = seat; begin = begin })) seat) ≡ asked →
+        asked_calls (seat_in (happens setup w (record { seat = seat; begin = begin })) seat) ≡ asked →
         updates_in_calls asked + updates_in_calls hand.calls ≤ room →
         Kept w (record { seat = seat; begin = begin } ∷ []) hand
     one_event begin asked hand none now few =
@@ -128,8 +113,9 @@ module _ (setup : Setup) (seat : ℕ) (h : seat < seats_of setup) (room : ℕ) w
     flying account flight phase hand is few =
         one_event None (map asked_of account.records ++ (flight.packet, flight.call) ∷ []) hand
         (ap (λ (s : SeatState). refused_at setup seat s.account s.stand None) is)
-        (ap (λ (x : World). asked_by (seat_in x seat)) (acts account (InFlight flight phase) None is)
-        ∙ ap asked_by (step_same setup w seat account flight phase within)
+        (ap (λ (x : World). asked_calls (seat_in x seat))
+        (acts setup seat h w within account (InFlight flight phase) None is)
+        ∙ ap asked_calls (step_same setup w seat account flight phase within)
         ∙ asked_step setup seat account flight phase
         (found_by setup (ask_in setup seat account.used flight phase) w.words))
         few
@@ -174,7 +160,7 @@ module _ (setup : Setup) (seat : ℕ) (h : seat < seats_of setup) (room : ℕ) w
 
           now : happens setup w (record { seat = seat; begin = Some begin })
               ≡ step_of setup w seat account (begun account begin.0 begin.1) SeeDone
-          now = acts account Idle (Some begin) is
+          now = acts setup seat h w within account Idle (Some begin) is
               ∙ ap (λ (r : Option Full). begin_or_refuse setup w seat account begin.0 begin.1 r) none
 
           kept : (hand : Hand) → hand.calls ≡ calls →
@@ -182,8 +168,8 @@ module _ (setup : Setup) (seat : ℕ) (h : seat < seats_of setup) (room : ℕ) w
           kept hand same =
               one_event (Some begin) (map asked_of account.records ++ begin ∷ []) hand
               (ap (λ (s : SeatState). refused_at setup seat s.account s.stand (Some begin)) is ∙ none)
-              (ap (λ (x : World). asked_by (seat_in x seat)) now
-              ∙ ap asked_by (step_same setup w seat account (begun account begin.0 begin.1) SeeDone within)
+              (ap (λ (x : World). asked_calls (seat_in x seat)) now
+              ∙ ap asked_calls (step_same setup w seat account (begun account begin.0 begin.1) SeeDone within)
               ∙ asked_step setup seat account (begun account begin.0 begin.1) SeeDone
               (found_by setup (ask_in setup seat account.used (begun account begin.0 begin.1) SeeDone) w.words))
               (omega (
@@ -210,13 +196,13 @@ module _ (setup : Setup) (updates : List ℕ)
     (ranges : setup.shape.ranges ≡ map (automatic_rows_of (settings_of setup)) updates) (law : RowsSuffice) where
   -- so far no call was refused, and each seat has room for what it has still to do
   pub record AllGo (play : Play) : Type 0 where
-    pub good : IsGood setup play
+    pub good : IsGoodPlay setup play
     pub room : (seat : ℕ) → (h : seat < seats_of setup) →
         HasRoom setup seat h (slice_index updates seat) (seat_in play.world seat) (hand_of play seat)
     pub none : All NotRefused (outcomes_of setup play.events)
 
   -- the law at a moment of a play
-  lets_in : (play : Play) → IsGood setup play → (seat : ℕ) → seat < seats_of setup → (account : Account) →
+  lets_in : (play : Play) → IsGoodPlay setup play → (seat : ℕ) → seat < seats_of setup → (account : Account) →
       seat_in play.world seat ≡ record { account = account; stand = Idle } → (call : Call) →
       updates_in account < slice_index updates seat → refusal_of setup seat account call ≡ None
   lets_in play good seat h account is call few =
@@ -255,7 +241,7 @@ module _ (setup : Setup) (updates : List ℕ)
         (seat_in play.world seat).stand
 
     -- the other seats are as they were
-    slot_room : (after : Play) → slot setup seat play ≡ after → IsGood setup after →
+    slot_room : (after : Play) → slot setup seat play ≡ after → IsGoodPlay setup after →
         ((h : seat < seats_of setup) →
         HasRoom setup seat h (slice_index updates seat) (seat_in after.world seat) (hand_of after seat)) →
         All NotRefused (outcomes_of setup after.events) → AllGo (slot setup seat play)
@@ -300,7 +286,8 @@ module _ (setup : Setup) (updates : List ℕ)
             let after : Play = with_events setup play seat events hand in
             let is : slot setup seat play ≡ after =
             ap (λ (b : Bool). cond b play (with_events setup play seat events hand)) e in
-            let good : IsGood setup after = subst (IsGood setup) is (slot_keeps setup seat play goes.good).good in
+            let good : IsGoodPlay setup after =
+            subst (IsGoodPlay setup) is (slot_keeps setup seat play goes.good).good in
             slot_room after is good
             (λ within. subst (λ (one : Hand). HasRoom setup seat within (slice_index updates seat)
             (seat_in after.world seat) one)

@@ -2,10 +2,7 @@
 -- Source: this project's own. A call is its packet's number, from 1, and what is asked.
 use Rattle.std.specs.Prelude.{◌≡◌, ◌<◌, ◌≤◌, ℕ, suc, ◌+◌, ◌*◌, ◌/◌, max, List, [], length, flat_map, slice_index_or, All}
 use Rattle.plain_map.specs.declared.calls.Call.{Call}
-
--- how many packets a batch has; the last one may have fewer
-abbrev pub batch_length : ℕ
-batch_length = 2048
+use Rattle.capture_loop.specs.Batches.{batch_length}
 
 -- in how many batches so many packets are served: one is begun where a packet of it was read, or where there is none
 abbrev pub batch_count : ℕ → ℕ

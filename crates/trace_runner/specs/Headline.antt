@@ -5,7 +5,7 @@ use Rattle.edge_traits.specs.Edge.{AppendsFront, count_after}
 use Rattle.hash_bits.specs.declared.hashing.Hashing.{Hashing}
 use Rattle.hash_bits.specs.declared.hashing.Hashing.TheVariants.{Mix, Ports}
 use Rattle.plain_map.specs.declared.calls.Call.{Call}
-use Rattle.pcapng_reader.specs.declared.fault.AnyFault.{AnyFault}
+use Rattle.capture_faults.specs.declared.any_fault.AnyFault.{AnyFault}
 use Rattle.pcap_reader.specs.Made.{made_capture}
 use Rattle.pcap_reader.specs.Reading.{Took}
 use Rattle.report_text.specs.declared.parts.Ending.{Ending}
@@ -22,7 +22,8 @@ use Rattle.batch_runner.specs.Totals.{totals_of}
 use Rattle.command_line.specs.declared.plan.Plan.{Plan}
 use Rattle.trace_runner.specs.declared.status.Status.{Status}
 use Rattle.trace_runner.specs.declared.status.Status.TheVariants as status
-use Rattle.trace_runner.specs.Batches.{batch_count, batch_length}
+use Rattle.trace_runner.specs.Batches.{batch_count}
+use Rattle.capture_loop.specs.Batches.{batch_length}
 use Rattle.trace_runner.specs.PacketCalls.{MakeCalls}
 use Rattle.capture_loop.specs.declared.stop.Stop.{Stop}
 use Rattle.capture_loop.specs.declared.stop.Stop.TheVariants.{Memory, NotPut}
@@ -110,13 +111,13 @@ status_for packets ending = status_up_to packet_limit packets ending
 
 -- ---- what a run leaves
 
--- The whole report was put, with this ending. It is certified: `check` says yes of it.
+-- The whole report was put, with this ending. It is certified, so that `check` says yes of it if it is not too long.
 abbrev pub PutsReport : Plan → List ℕ → Option (List ℕ) → Option (List ℕ) → Option (List ℕ) → Ending → Type 0
 PutsReport plan bytes left before after ending =
     PutsWhole before after (λ text. Reports plan bytes left ending text × Certified text)
 
--- A front of the report was put, where the ending is known, and otherwise of the lines of the batches so far. That a read
--- failed is told only where one did.
+-- A front of the report was put, where the ending is known, and otherwise of the lines of the batches so far. That
+-- a read failed is told only where one did.
 abbrev pub PutsSome : Plan → Type 0 → List ℕ → Option (List ℕ) → Option (List ℕ) → Option (List ℕ) → Type 0
 PutsSome plan read_failed bytes left before after =
     ((ending : Ending) × IsMet read_failed ending × PutsFront before after (Reports plan bytes left ending))
@@ -157,8 +158,8 @@ TookFor status.Usage first left P = Took first left P
 -- So it is for the bytes of a source, where they are told, and for those that were taken of it, as of a source that
 -- told just these: so these decide which answer it is. Of a source that tells nothing the second fact says only that
 -- there are some such bytes.
-pub record LeavesAll (plan : Plan) (read_failed : Type 0) (first left before after : Option (List ℕ)) (answer : Status) :
-    Type 0 where
+pub record LeavesAll (plan : Plan) (read_failed : Type 0) (first left before after : Option (List ℕ))
+    (answer : Status) : Type 0 where
   pub told : (bytes : List ℕ) → first ≡ Some bytes → Leaves plan read_failed bytes left before after answer
   pub took : TookFor answer first left (λ taken. Leaves plan read_failed taken (Some []) before after answer)
 
@@ -226,8 +227,8 @@ trial_of plan totals sessions =
 abbrev pub tried_of : Plan → List Served → Trial
 tried_of plan batches = trial_of plan (totals_of (outcomes_in batches)) (length (pairs_left [] batches))
 
--- The counts add up: each call had one of the six replies, since none was refused and none is a tally, and of the sessions
--- that were begun those are left that were not ended.
+-- The counts add up: each call had one of the six replies, since none was refused and none is a tally, and of the
+-- sessions that were begun those are left that were not ended.
 pub record AddsUp (trial : Trial) : Type 0 where
   pub replies :
       trial.calls

@@ -1,7 +1,6 @@
 pub mod PacketCalls
 pub mod Batches
 pub mod Reading
-pub mod Answered
 pub mod Served
 pub mod Headline
 pub mod Judged
@@ -9,4 +8,6 @@ pub mod Playing
 pub mod Progress
 pub mod Serving
 pub mod ServingLaws
+pub mod Trying
+pub mod TryingLaws
 pub mod Totalled

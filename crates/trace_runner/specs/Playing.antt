@@ -8,7 +8,7 @@ use Rattle.step_counts.specs.StepCounts.{automatic_rows_of, step_bound}
 use Rattle.plain_map.specs.declared.calls.Call.{Call}
 use Rattle.plain_map.specs.PlainObject.{pairs_of}
 use Rattle.plain_map.specs.History.{Legal, After, Whole, sessions_after}
-use Rattle.pcapng_reader.specs.declared.fault.AnyFault.{AnyFault}
+use Rattle.capture_faults.specs.declared.any_fault.AnyFault.{AnyFault}
 use Rattle.trace_share.specs.declared.outcome.Outcome.{Outcome}
 use Rattle.report_text.specs.declared.parts.Ending.{Ending}
 use Rattle.report_text.specs.declared.parts.Ending.TheVariants.{Done, ReadFault, Limit, Fault}
@@ -16,14 +16,14 @@ use Rattle.report_text.specs.declared.parts.Tail.{Tail}
 use Rattle.report_text.specs.Report.{Batch, Report, report_of}
 use Rattle.report_told.specs.Rules.{IsHead, IsTail}
 use Rattle.report_told.specs.Verdicts.{Certified}
-use Rattle.core_model.specs.Setup.{Setup, rules_of, seats_of, settings_of}
-use Rattle.core_model.specs.Worlds.{World, IsRun, world_after, seat_in}
-use Rattle.core_model.specs.Order.{effects_of, order_of, took_effect}
-use Rattle.core_model.specs.Closed.{Cover, Warranted, closed_depth, closed_leaves, closed_pairs, closing_of, greatest_depth, sessions_with}
-use Rattle.core_model.specs.Promises.{HasSteps}
-use Rattle.core_model.specs.Schedules as S
-use Rattle.core_model.specs.Schedules.{Play, CanPlay, hand_of, has_ended, is_stopped, play_of}
-use Rattle.core_world.specs.Values.{setup_of}
+use Rattle.table_model.specs.Setup.{Setup, rules_of, seats_of, settings_of}
+use Rattle.table_model.specs.Worlds.{World, IsRun, world_after, seat_in}
+use Rattle.table_model.specs.Order.{effects_of, order_of, took_effect}
+use Rattle.table_model.specs.Closed.{Cover, Warranted, closed_depth, closed_leaves, closed_pairs, closing_of, greatest_depth, sessions_with}
+use Rattle.table_model.specs.Promises.{HasSteps}
+use Rattle.table_model.specs.Schedules as S
+use Rattle.table_model.specs.Schedules.{Play, CanPlay, hand_of, has_ended, is_stopped, play_of}
+use Rattle.core_steps.specs.Values.{setup_of}
 use Rattle.play_runner.specs.declared.values.Played.{Played}
 use Rattle.play_runner.specs.Played.{IsPlayed, most_steps_in, outcomes_of}
 use Rattle.batch_rows.specs.BatchRows.{updates_in_calls}
@@ -34,7 +34,7 @@ use Rattle.command_line.specs.declared.plan.Plan.{Plan}
 use Rattle.command_line.specs.declared.plays.Segment.{Segment}
 use Rattle.trace_runner.specs.declared.status.Status.{Status}
 use Rattle.trace_runner.specs.declared.status.Status.TheVariants as status
-use Rattle.trace_runner.specs.Answered.{AreCountedBySeat, answered_on}
+use Rattle.report_promises.specs.Good.{AreCountedBySeat, answered_on}
 use Rattle.capture_loop.specs.Input.{ServesUpTo}
 use Rattle.trace_runner.specs.PacketCalls.{MakeCalls}
 use Rattle.trace_runner.specs.Served.{IsServiceOf, head_of}
@@ -194,7 +194,7 @@ PlayReports plan bytes left ending text =
 
 -- ---- what a run leaves
 
--- The whole report was put, with this ending. It is certified: `check` says yes of it.
+-- The whole report was put, with this ending. It is certified, so that `check` says yes of it if it is not too long.
 abbrev pub PutsPlay : Plan → List ℕ → Option (List ℕ) → Option (List ℕ) → Option (List ℕ) → Ending → Type 0
 PutsPlay plan bytes left before after ending =
     (text : List ℕ) × PlayReports plan bytes left ending text × Certified text × Appends before after text

@@ -1,5 +1,5 @@
 -- What is promised of packets that were served in batches, and what is printed of them.
-use Rattle.std.specs.Prelude.{◌≡◌, ◌≤◌, ℕ, ◌-◌, All, Bool, false, true, List, [], ◌∷◌, ◌++◌, length, map, flat_map, replicate}
+use Rattle.std.specs.Prelude.{◌≡◌, ◌≤◌, ℕ, ◌-◌, All, Bool, false, true, List, [], ◌∷◌, ◌++◌, length, map, flat_map}
 use Rattle.plain_map.specs.declared.calls.Call.{Call}
 use Rattle.step_counts.specs.Made.{IsMadeOf}
 use Rattle.step_counts.specs.StepCounts.{step_bound}
@@ -10,18 +10,18 @@ use Rattle.report_text.specs.declared.parts.Ending.{Ending}
 use Rattle.report_text.specs.Report.{Report, batch_lines, head_line}
 use Rattle.batch_runner.specs.declared.service.Service.{Service}
 use Rattle.batch_runner.specs.declared.totals.Totals.{Totals}
-use Rattle.batch_orders.specs.Batches.{all_calls}
-use Rattle.core_bounds.specs.Moments.{asked_of}
+use Rattle.batch_history.specs.Batches.{all_calls, no_counts}
+use Rattle.bound_laws.specs.Moments.{asked_of}
 use Rattle.plain_map.specs.declared.records.Record.{Record}
 use Rattle.plain_map.specs.History.{Whole}
-use Rattle.core_model.specs.SeatStates.{is_update}
+use Rattle.plain_map.specs.Calls.{is_update}
 use Rattle.batch_answers.specs.Answers.{AreAsOneThread, HasOwnRows, IsLikeOneThread, all_answers, calls_in, printed_in}
 use Rattle.batch_runner.specs.Served.{Served, AreServed, history_in, depth_in, leaves_in, pairs_left}
 use Rattle.batch_runner.specs.Printed.{all_lines, outcomes_in}
 use Rattle.batch_runner.specs.Promises.{AreRight}
 use Rattle.batch_runner.specs.Totals.{totals_of}
 use Rattle.command_line.specs.declared.plan.Plan.{Plan}
-use Rattle.trace_runner.specs.Answered.{AreCountedBySeat}
+use Rattle.report_promises.specs.Good.{AreCountedBySeat}
 use Rattle.trace_runner.specs.Batches.{AreOfBatches}
 
 -- the plan is served so
@@ -30,10 +30,6 @@ pub record IsServiceOf (plan : Plan) (service : Service) : Type 0 where
   pub hashing : service.hashing ≡ plan.hashing
   pub share : service.share ≡ plan.share
   pub rows : service.rows ≡ plan.rows
-
--- what the counts that are printed begin with: no seat has answered a call
-abbrev pub no_counts : List ℕ
-no_counts = replicate 8 0
 
 -- the lines of the calls of all batches, each with its seat
 abbrev pub lines_in : Service → List Served → List (ℕ × Outcome)

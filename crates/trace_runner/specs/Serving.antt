@@ -85,10 +85,14 @@ abbrev pub CallWorker : Type 0
 CallWorker = SeatWorker (Vec Outcome Global)
 
 -- a table is open for the batch of these packets, so many, which stand behind so many others: their calls are the job's
-pub record HasOpened (job : Serving) (t : TableValue) (workers : List CallWorker) (many before : ℕ)
-    (packets : List (List ℕ)) : Type 0 where
+pub record HasOpenedFor {K : Type 0} (holds : K → List Outcome → Type 0) (room : K → ℕ) (job : Serving)
+    (t : TableValue) (workers : List (SeatWorker K)) (many before : ℕ) (packets : List (List ℕ)) : Type 0 where
   pub count : many ≡ length packets
   pub few : length packets ≤ 2048
   pub make : MakeCalls (before + 1) packets job.calls.items
   pub between : AreBetween before (before + length packets) job.calls.items
-  pub opens : IsOpened IsLogOf room_in job.service job.progress.pairs.items job.calls.items t workers
+  pub opens : IsOpened holds room job.service job.progress.pairs.items job.calls.items t workers
+
+-- for workers that keep logs
+abbrev pub HasOpened : Serving → TableValue → List CallWorker → (many before : ℕ) → List (List ℕ) → Type 0
+HasOpened job t workers many before packets = HasOpenedFor IsLogOf room_in job t workers many before packets

@@ -10,7 +10,8 @@ use Rattle.batch_runner.specs.Served.{Served, pairs_left}
 use Rattle.batch_runner.specs.Printed.{all_lines}
 use Rattle.command_line.specs.declared.plan.Plan.{Plan}
 use Rattle.trace_runner.specs.declared.serving.Serving.{Serving}
-use Rattle.trace_runner.specs.Served.{head_of, lines_so_far, no_counts, run_report, tail_of}
+use Rattle.trace_runner.specs.Served.{head_of, lines_so_far, run_report, tail_of}
+use Rattle.batch_history.specs.Batches.{no_counts}
 use Rattle.trace_runner.specs.Serving.{HasDone, IsLines, IsWholeReport, joined}
 
 -- what stands behind the lines of the batches

@@ -2,7 +2,7 @@
 use Rattle.std.specs.Prelude.{◌≡◌, List, ℕ, Option, Result}
 use Rattle.report_text.specs.declared.parts.Ending.{Ending}
 use Rattle.capture_loop.specs.declared.stop.Stop.{Stop}
-use Rattle.capture_loop.specs.Leaves.{LeavesAll}
+use Rattle.capture_loop.specs.Leaves.{LoopLeavesAll}
 use Rattle.command_line.specs.declared.plan.Plan.{Plan}
 use Rattle.totals_runner.specs.Told.{IsTotalsLines, IsTotalsReport}
 use Rattle.trace_runner.specs.declared.status.Status.{Status}
@@ -13,4 +13,4 @@ use Rattle.trace_runner.specs.Headline.{status_by}
 abbrev pub LeavesTotals : Plan → Type 0 → (first left before after : Option (List ℕ)) → Status → Type 0
 LeavesTotals plan read_failed first left before after answer =
     (end : Result Ending Stop) × (answer ≡ status_by end)
-    × LeavesAll (IsTotalsLines plan.seats) (IsTotalsReport plan.seats) read_failed first left before after end
+    × LoopLeavesAll (IsTotalsLines plan.seats) (IsTotalsReport plan.seats) read_failed first left before after end

@@ -4,12 +4,12 @@ ghost use Rattle.trace_runner.specs.Playing.{PlaysAreAnswered, PlaysAreRight};
 ghost use Rattle.trace_runner.specs.Served.{ServedArePromised};
 
 use batch_answers::answer_laws;
-use batch_orders::batches_laws;
+use batch_history::batches_laws;
 use batch_runner::served_laws;
-use core_book::cover_laws;
-use core_bounds::{row_laws, step_laws};
-use core_orders::{end_laws, order_laws, warrant_laws};
-use core_schedules::schedule_laws;
+use bound_laws::{row_laws, step_laws};
+use closed_laws::cover_laws;
+use order_laws::{end_laws, one_order_laws, warrant_laws};
+use play_laws::schedule_laws;
 
 /// Whatever the interleaving, batches that were served keep all that is promised of them.
 pub fn serving_laws()
@@ -27,7 +27,7 @@ pub fn playing_laws()
     ensures answered { PlaysAreAnswered }
 {
     schedule_laws();
-    order_laws();
+    one_order_laws();
     end_laws();
     warrant_laws();
     cover_laws();

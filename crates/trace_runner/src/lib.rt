@@ -2,7 +2,6 @@
 #![tactic(auto)]
 
 mod checking;
-mod intake;
 mod laws;
 mod making;
 mod pile;
@@ -16,8 +15,9 @@ mod steps;
 mod totals;
 mod trying;
 
-pub use intake::{BATCH, PACKET_LIMIT, PLAY_LIMIT};
+pub use capture_loop::{BATCH, PACKET_LIMIT};
 pub use laws::{playing_laws, serving_laws};
+pub use playing::PLAY_LIMIT;
 pub use running::run;
 pub use status::Status;
 

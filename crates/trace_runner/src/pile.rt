@@ -41,7 +41,10 @@ impl Pile for CallPile {
     ghost holds = { HoldsCalls };
 
     fn take(&mut self, number: u32, packet: &[u8]) -> Result<(), AllocError> {
-        self.dealt = None;
+        // Most often there is none, and it costs to give one up.
+        if self.dealt.is_some() {
+            self.dealt = None;
+        }
         keep_call(packet, number, &mut self.calls)?;
         self.packets += 1;
         Ok(())

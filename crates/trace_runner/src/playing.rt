@@ -7,29 +7,28 @@ ghost use Rattle.flow_keys.specs.FlowText.{HasText};
 ghost use Rattle.plain_map.specs.Calls.{key_in};
 ghost use Rattle.word_rows.specs.Shape.{AreBelow};
 ghost use Rattle.report_text.specs.Report.{IsEnding, batch_lines, call_in, outcome_line, pending_line};
-ghost use Rattle.core_model.specs.Schedules.{CanPlay, IsPlayable};
+ghost use Rattle.table_model.specs.Schedules.{CanPlay, IsPlayable};
 ghost use Rattle.play_runner.specs.Played.{IsPlayed, as_segment};
 ghost use Rattle.batch_rows.specs.declared.rows.TheConstants.{CALL_LIMIT};
 ghost use Rattle.batch_runner.specs.Served.{shares_of};
 ghost use Rattle.capture_loop.specs.Endings.{HasFailed};
 ghost use Rattle.command_line.specs.Words.{IsInRange};
 ghost use Rattle.trace_runner.specs.Headline.{ReadsFailed, WritesFailed};
-ghost use Rattle.trace_runner.specs.declared.intake.TheConstants.{PLAY_LIMIT};
-ghost use Rattle.trace_runner.specs.Reading.{AreBetween, HaveEndedUpTo};
+ghost use Rattle.trace_runner.specs.Reading.{AreBetween, EndsCalls};
 ghost use Rattle.trace_runner.specs.Served.{IsServiceOf};
 ghost use Rattle.trace_runner.specs.Playing.{IsPlayOf, LeavesPlayed, play_in, play_setup, play_tail};
 ghost use Rattle.trace_runner.specs.Playing.{played_lines, ranges_for, refusals_in, schedule_in};
 
-use crate::intake::{PLAY_LIMIT, read_batch};
 use crate::laws::playing_laws;
+use crate::pile::CallPile;
 use crate::printing::{head_of, put_sessions};
 use crate::serving::service_of;
 use crate::status::Status;
 use batch_rows::updates_of;
 use batch_runner::Service;
-use capture_loop::{Unopened, open};
+use capture_loop::{Unopened, open, read_rest};
 use command_line::Plan;
-use core_world::CoreWorld;
+use core_steps::CoreWorld;
 use edge_traits::{Failed, Sink, Source, write_all};
 use plain_map::{Call, OpenFault, Pending, session_laws};
 use play_runner::{Played, Segment, most_steps};
@@ -40,6 +39,9 @@ use report_text::{
 use std::alloc::{AllocError, Global};
 use step_counts::{SeatRows, Settings, automatic_rows, bound};
 use trace_share::{Outcome, deal};
+
+/// How many packets `play` takes at most.
+pub const PLAY_LIMIT: u32 = 200;
 
 /// Plays the source's packets as the plan says, and puts the report into the sink.
 pub(crate) fn play<S: Source, K: Sink>(
@@ -59,7 +61,7 @@ pub(crate) fn play<S: Source, K: Sink>(
     ensures counted { (S.faults source.old ≤ S.faults source.new) × (K.faults sink.old ≤ K.faults sink.new) }
 {
     promise_laws();
-    let Ok(input) = read_input(alloc, source) else {
+    let Ok(input) = read_input(alloc, service_of(plan), source) else {
         return Status::Memory;
     };
     match report_of(alloc, plan, &input) {
@@ -82,8 +84,12 @@ struct Input {
 }
 
 /// Reads an input, up to its end or to one packet more than are taken.
-fn read_input<S: Source>(alloc: Global, source: &mut S) -> Result<Input, AllocError>
-    ensures ended { IfOk result (λ input. HaveEndedUpTo PLAY_LIMIT (S.left source.old) (S.left source.new)
+fn read_input<S: Source>(
+    alloc: Global,
+    service: Service,
+    source: &mut S,
+) -> Result<Input, AllocError>
+    ensures ended { IfOk result (λ input. EndsCalls PLAY_LIMIT (S.left source.old) (S.left source.new)
         input.packets input.calls.items input.ending) }
     ensures between { IfOk result (λ input. AreBetween 0 input.packets input.calls.items) }
     ensures few { IfOk result (λ input. input.packets ≤ PLAY_LIMIT) }
@@ -94,14 +100,14 @@ fn read_input<S: Source>(alloc: Global, source: &mut S) -> Result<Input, AllocEr
     ensures failed { IfOk result (λ input. HasFailed (Some input.ending) (S.failed source.old) (S.failed source.new)) }
     ensures none_failed { OnErr result (S.failed source.new ≡ S.failed source.old) }
 {
-    let mut calls = Vec::new(alloc);
     match open(alloc, source) {
         Ok(mut reader) => {
-            let part = read_batch(&mut reader, source, 0, PLAY_LIMIT, &mut calls)?;
+            let mut pile = CallPile::new(alloc, service)?;
+            let part = read_rest(&mut reader, source, 0, 0, PLAY_LIMIT, &mut pile)?;
             match part.ending {
                 Some(ending) => Ok(Input {
                     packets: part.packets,
-                    calls,
+                    calls: pile.calls,
                     ending,
                 }),
                 None => unreachable!(),
@@ -109,7 +115,7 @@ fn read_input<S: Source>(alloc: Global, source: &mut S) -> Result<Input, AllocEr
         }
         Err(Unopened::Ends(ending)) => Ok(Input {
             packets: 0,
-            calls,
+            calls: Vec::new(alloc),
             ending,
         }),
         Err(Unopened::Memory) => Err(AllocError),

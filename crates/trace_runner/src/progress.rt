@@ -4,7 +4,7 @@ ghost use Rattle.std.specs.Prelude.{◌≡◌, ◌≤◌, ◌+◌, List, [], ◌
 ghost use Rattle.batch_runner.specs.declared.service.Service.{Service};
 ghost use Rattle.batch_runner.specs.Served.{IsServed, Served};
 ghost use Rattle.batch_runner.specs.Told.{CanGoOn, IsToldBy};
-ghost use Rattle.trace_runner.specs.declared.intake.TheConstants.{BATCH, PACKET_LIMIT};
+ghost use Rattle.capture_loop.specs.declared.job.TheConstants.{BATCH, PACKET_LIMIT};
 
 use batch_runner::{Batch, Service, Totals, go_on};
 use plain_map::{Call, MOST_SEATS, Pair};

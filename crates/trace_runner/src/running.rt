@@ -3,7 +3,7 @@
 ghost use Rattle.std.specs.Prelude.{◌≡◌, ◌≤◌, ◌⊎◌, ℕ, List, map, string_bytes, Some, None, Result};
 ghost use Rattle.edge_traits.specs.Edge.{Rose};
 ghost use Rattle.pcapng_reader.specs.Input.{Input};
-ghost use Rattle.pcapng_reader.specs.declared.fault.AnyFault.{AnyFault};
+ghost use Rattle.capture_faults.specs.declared.any_fault.AnyFault.{AnyFault};
 ghost use Rattle.command_line.specs.declared.plan.Plan.{Plan as APlan};
 ghost use Rattle.command_line.specs.declared.plan.Mode.TheVariants.{Check, Make, Play, Serve, Totals, Trial};
 ghost use Rattle.command_line.specs.Words.{IsInRange, reads};
@@ -28,13 +28,13 @@ use std::thread::Threads;
 
 /// Does what the words ask for. `words` are those after the program's name; they are judged before anything is read.
 ///
-/// `serve` reads a capture from the source, up to its fault or to one packet more than `PACKET_LIMIT`, 2,048 packets at
-/// a time. The calls of these are served by seats in threads of their own, and their lines are put into the sink before
-/// more is read of the source. `play` reads a capture of up to `PLAY_LIMIT` packets, whose calls are made step by step,
-/// by one schedule, and puts the report at once. `make` puts a made capture, and `trial` serves it and puts how many
-/// calls had each reply. `totals` goes through a capture as `serve` does, and counts its packets by adders in threads.
-/// `check` reads a report, and puts the line of its verdict. The gate is passed before each call that is served and each
-/// add, and told of each answer.
+/// `serve` reads a capture from the source, up to its fault or to one packet more than `PACKET_LIMIT`, 2,048 packets
+/// at a time. The calls of these are served by seats in threads of their own, and their lines are put into the sink
+/// before more is read of the source. `play` reads a capture of up to `PLAY_LIMIT` packets, whose calls are made step
+/// by step, by one schedule, and puts the report at once. `make` puts a made capture, and `trial` serves it and puts
+/// how many calls had each reply. `totals` goes through a capture as `serve` does, and counts its packets by adders in
+/// threads. `check` reads a report, and puts the line of its verdict. The gate is passed before each call that is
+/// served and each add, and told of each answer.
 pub fn run<R: Threads + Sync, S: Source, K: Sink, G: Gate + Sync>(
     rt: &R,
     alloc: Global,

@@ -11,7 +11,7 @@ ghost use Rattle.trace_share.specs.Work.{IsLogOf};
 ghost use Rattle.batch_runner.specs.Dealt.{IsDealt};
 ghost use Rattle.batch_runner.specs.Seats.{HasWorked};
 ghost use Rattle.capture_loop.specs.declared.job.TheConstants.{BATCH, PACKET_LIMIT};
-ghost use Rattle.capture_loop.specs.Leaves.{ReadsFailed as RunReads, WritesFailed as RunWrites};
+ghost use Rattle.capture_loop.specs.Leaves.{RunReads, RunWrites};
 ghost use Rattle.capture_loop.specs.Looping.{OnNotPut};
 ghost use Rattle.command_line.specs.declared.plan.Plan.{Plan as APlan};
 ghost use Rattle.command_line.specs.Words.{IsInRange};
@@ -40,7 +40,7 @@ use std::alloc::{AllocError, Global};
 use std::mem;
 use std::thread::Threads;
 use step_counts::Settings;
-use trace_share::{Outcome, Share};
+use trace_share::Outcome;
 
 /// Room for the lines of a batch: 2,048 of calls, of up to about 200 bytes each, and those of its order.
 const TEXT_ROOM: usize = 450_000;
@@ -66,7 +66,6 @@ impl Serving {
             text ≡ head_line (head_of false plan) → HasDone serving plan [] text) }
         ensures served { IfOk result (λ serving. HasServed service serving.progress []) }
         ensures service { IfOk result (λ serving. serving.service ≡ service) }
-        ensures none { IfOk result (λ serving. serving.calls.items ≡ []) }
     {
         let calls = Vec::with_capacity(alloc, BATCH as usize)?;
         Ok(Serving {
@@ -79,7 +78,7 @@ impl Serving {
     }
 
     /// The pile's calls as they were dealt before, or else dealt now. The only error is want of memory.
-    fn dealt_of(&self, pile: &mut CallPile) -> Result<Dealt, AllocError>
+    pub fn dealt_of(&self, pile: &mut CallPile) -> Result<Dealt, AllocError>
         requires few { length pile.old.calls.items ≤ BATCH }
         requires dealt { ForSome pile.old.dealt (IsDealt pile.old.service pile.old.calls.items) }
         ensures dealt { IfOk result (IsDealt self.now.service pile.old.calls.items) }
@@ -201,18 +200,7 @@ fn deal_alike(one: &Service, other: &Service) -> bool
     ensures { result ≡ true → (one.now.share ≡ other.now.share)
         × (one.now.settings.seats ≡ other.now.settings.seats) }
 {
-    is_same_share(one.share, other.share) && one.settings.seats == other.settings.seats
-}
-
-/// Whether both are the same.
-fn is_same_share(one: Share, other: Share) -> bool
-    ensures { result ≡ true → one ≡ other }
-{
-    match one {
-        Share::Round => matches!(other, Share::Round),
-        Share::Block => matches!(other, Share::Block),
-        Share::Flow => matches!(other, Share::Flow),
-    }
+    one.share == other.share && one.settings.seats == other.settings.seats
 }
 
 /// Serves the source's packets as the plan says, and puts the report into the sink.
@@ -239,7 +227,8 @@ pub(crate) fn serve<R: Threads + Sync, S: Source, K: Sink, G: Gate + Sync>(
     }
 }
 
-/// The same, up to the ending of the input. The text and the piles, which all batches use, are made before it is opened.
+/// The same, up to the ending of the input. The text and the piles, which all
+/// batches use, are made before it is opened.
 fn serve_input<R: Threads + Sync, S: Source, K: Sink, G: Gate + Sync>(
     means: &Means<R, G>,
     plan: &Plan,

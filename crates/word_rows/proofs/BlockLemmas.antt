@@ -82,16 +82,6 @@ blocks_from_parts width part (suc n) words long each =
     ∙ each n (omega arith) in
     sym whole ∙ ap (λ xs. xs ++ back) fronts ∙ ap (λ xs. blocks part n ++ xs) last ∙ sym (blocks_more part n)
 
--- parts that are the same make the same blocks
-pub blocks_same : (part part' : ℕ → List ℕ) (n : ℕ) → ((i : ℕ) → i < n → part i ≡ part' i) →
-    blocks part n ≡ blocks part' n
-blocks_same part part' zero each = blocks_zero part ∙ sym (blocks_zero part')
-blocks_same part part' (suc n) each =
-    let fronts : blocks part n ≡ blocks part' n = blocks_same part part' n (λ i h. each i (omega arith)) in
-    let last : part n ≡ part' n = each n (omega arith) in
-    blocks_more part n ∙ ap (λ xs. xs ++ part n) fronts ∙ ap (λ xs. blocks part' n ++ xs) last
-    ∙ sym (blocks_more part' n)
-
 -- a word of a block
 pub get_or-block : (width i j : ℕ) (words : List ℕ) → j < width →
     get_or (block width i words) j 0 ≡ get_or words (i * width + j) 0

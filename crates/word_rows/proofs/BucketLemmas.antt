@@ -90,10 +90,6 @@ pair_spelled (a ∷ b ∷ c ∷ d ∷ e ∷ f ∷ []) h = absurd (omega arith)
 pair_spelled (a ∷ b ∷ c ∷ d ∷ e ∷ f ∷ g ∷ []) h = refl
 pair_spelled (a ∷ b ∷ c ∷ d ∷ e ∷ f ∷ g ∷ x ∷ words) h = absurd (omega arith)
 
--- an item that is spelled is read
-pub pair_read : (pair : Pair) → pair_of_words (words_of_pair pair) ≡ pair
-pair_read pair = refl
-
 -- the head by its words
 five_words : (words : List ℕ) → 5 ≤ length words →
     words ≡ get_or words 0 0 ∷ get_or words 1 0 ∷ get_or words 2 0 ∷ get_or words 3 0 ∷ get_or words 4 0 ∷ drop 5 words

@@ -6,3 +6,4 @@ pub mod BlockLemmas
 pub mod PartLemmas
 pub mod BucketLemmas
 pub mod OpLemmas
+pub mod OpeningNumbers

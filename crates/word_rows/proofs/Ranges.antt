@@ -43,12 +43,6 @@ pub range_after_opening : (shape : Shape) (kind : FullKind) (s : ℕ) →
 unfolding number_after
 range_after_opening shape kind s = omega arith
 
--- the opening's numbers are among those that there are
-pub opening_within : (shape : Shape) (kind : FullKind) →
-    of_kind kind (opening_rows shape.settings) ≤ count_of shape kind
-unfolding number_after
-opening_within shape kind = omega arith
-
 -- a number belongs to one seat
 pub one_owner : (shape : Shape) (kind : FullKind) (number s t : ℕ) → s < shape.settings.seats →
     t < shape.settings.seats → IsShape shape → Owns shape s kind number → Owns shape t kind number → s ≡ t

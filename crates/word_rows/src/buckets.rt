@@ -37,8 +37,7 @@ impl Layout {
     ///
     /// They spell none where the prefix does not fit the depth, the depth is above the greatest, the mark is above 1,
     /// the count is above the room, a value is `VALUE_LIMIT` or more, a word after the last item is not 0, an applied
-    /// number
-    /// does not fit, a reply word spells no reply, or one of a number and its reply is there without the other.
+    /// number does not fit, a reply word spells no reply, or one of a number and its reply is there without the other.
     pub fn read_bucket(&self, words: &[u64], into: &mut BucketRow) -> bool
         requires whole { length words.now ≡ bucket_row_words (shape_of self.now).settings }
         requires room { HasBucketRoom (shape_of self.now).settings.seats (shape_of self.now).settings.items into.old }

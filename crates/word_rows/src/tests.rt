@@ -88,7 +88,8 @@ fn is_directory(layout: &Layout, words: &[u64], row: &mut DirectoryRow) -> bool
     layout.read_directory(words, row)
 }
 
-// Which word is what, in a table of 149 words that was laid out by hand. No clause says that the order is the meant one.
+// Which word is what, in a table of 149 words that was laid out by hand. No
+// clause says that the order is the meant one.
 #[test]
 fn words_of_a_small_table(rt: HostRuntime) -> Result<(), Fail> {
     let settings = Settings::new(1, 2, 1, 1)?;

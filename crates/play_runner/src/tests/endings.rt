@@ -2,12 +2,12 @@
 
 ghost use Rattle.std.specs.Prelude.{IfOk, map};
 ghost use Rattle.word_rows.specs.LayoutView.{shape_of};
-ghost use Rattle.history_order.specs.Closing.{IsOfARun};
+ghost use Rattle.table_model.specs.Closing.{IsOfARun};
 
 use super::tables::{all_can_play, core_of, rows_for};
 use crate::Segment;
 use crate::turns::Playing;
-use core_world::CoreEnd;
+use core_steps::CoreEnd;
 use plain_map::Call;
 use std::alloc::Global;
 use std::test::Fail;

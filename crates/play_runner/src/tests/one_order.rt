@@ -3,7 +3,7 @@
 
 ghost use Rattle.std.specs.Prelude.{map};
 ghost use Rattle.word_rows.specs.LayoutView.{shape_of};
-ghost use Rattle.history_order.specs.Closing.{IsOfARun};
+ghost use Rattle.table_model.specs.Closing.{IsOfARun};
 
 use super::endings::left_by;
 use super::rare_paths::RARE;
@@ -13,7 +13,7 @@ use super::tables::{Asked, Worked, calls_of, schedule_of};
 use super::two_seats::HELPED;
 use crate::ending::order_left;
 use closed_words::{Starts, effects};
-use core_world::CoreEnd;
+use core_steps::CoreEnd;
 use hash_bits::spread;
 use std::alloc::{AllocError, Global};
 use std::process::Abort;

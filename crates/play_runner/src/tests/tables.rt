@@ -2,12 +2,12 @@
 
 ghost use Rattle.std.specs.Prelude.{◌≡◌, ◌-◌, ◌^◌, ◌≤◌, ◌↔◌, All, IfOk, IsTrue, length};
 ghost use Rattle.word_rows.specs.Shape.{AreBelow};
-ghost use Rattle.core_model.specs.Setup.{IsSetup};
-ghost use Rattle.core_model.specs.Schedules.{IsPlayable};
-ghost use Rattle.core_world.specs.Values.{opened};
+ghost use Rattle.table_model.specs.Setup.{IsSetup};
+ghost use Rattle.table_model.specs.Schedules.{IsPlayable};
+ghost use Rattle.core_steps.specs.Values.{opened};
 
 use crate::{Played, Segment, play};
-use core_world::CoreWorld;
+use core_steps::CoreWorld;
 use hash_bits::Hashing;
 use plain_map::{Call, Key, Reply};
 use std::alloc::{AllocError, Global};

@@ -3,10 +3,10 @@
 ghost use Rattle.std.specs.Prelude.{◌≡◌, ◌+◌, ◌^◌, ◌<◌, ◌≤◌, ◌-◌, All, IfOk, length, vec_len, vec_capacity};
 ghost use Rattle.word_rows.specs.Shape.{AreBelow};
 ghost use Rattle.bucket_states.specs.Parts.{HasDistinctKeys};
-ghost use Rattle.core_model.specs.Setup.{IsPair, seats_of};
+ghost use Rattle.table_model.specs.Setup.{IsPair, seats_of};
 ghost use Rattle.plain_map.specs.Serving.{IsAskable};
 ghost use Rattle.shared_table.specs.SeatValues.{account_of};
-ghost use Rattle.shared_table.specs.Values.{IsNew, IsOf, new_seats};
+ghost use Rattle.shared_table.specs.Values.{IsNew, IsOf};
 
 use super::replay::Replay;
 use super::{key, no_pairs, opened};

@@ -1,5 +1,5 @@
 use Rattle.std.proofs.Common.{ap}
-use Rattle.core_model.specs.Setup.{seats_of}
+use Rattle.table_model.specs.Setup.{seats_of}
 use Rattle.table_uses.proofs.opened.Goals as goal
 
 pub returns-in-Ok-clause-seats : goal.returns-in-Ok-clause-seats

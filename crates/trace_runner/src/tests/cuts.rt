@@ -57,9 +57,9 @@ fn failed_behind(alloc: Global, packets: u32) -> Result<String, AllocError> {
     Ok(text)
 }
 
-/// 730 bytes by reads of 7: read number j begins at byte 7 * (j - 1), 105 of them give bytes, and the next one meets the
-/// end. Whichever fails, the packets that are whole before it are served; a 107th is never asked for. No clause compares
-/// a read's number with what is served.
+/// 730 bytes by reads of 7: read number j begins at byte 7 * (j - 1), 105 of them give bytes, and the next one meets
+/// the end. Whichever fails, the packets that are whole before it are served; a 107th is never asked for. No clause
+/// compares a read's number with what is served.
 #[test]
 fn each_read_fails_in_turn(rt: HostRuntime) -> Result<(), Fail> {
     let alloc = rt.alloc();

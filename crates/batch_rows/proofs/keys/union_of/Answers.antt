@@ -2,7 +2,7 @@ use Rattle.std.proofs.Common.{◌++◌, ◌+◌, ◌<◌, ◌∙◌, [], ◌∷�
 use Rattle.std.proofs.lemmas.Bool.{not-false, not-true}
 use Rattle.std.proofs.lemmas.List.{drop_more, take_more}
 use Rattle.plain_map.specs.declared.keys.Key.{Key}
-use Rattle.core_bounds.proofs.KeyCounts.{has}
+use Rattle.bound_laws.proofs.KeyCounts.{has}
 use Rattle.batch_rows.proofs.KeyLemmas.{same_left_out, same_lists, same_taken}
 use Rattle.batch_rows.proofs.OrderLemmas.{greater, left_less, lesser, order_left_out, order_taken}
 use Rattle.batch_rows.proofs.keys.union_of.Goals as goal

@@ -1,7 +1,7 @@
 use Rattle.std.proofs.Common.{◌∙◌, ◌^◌, length, ap, arith}
 use Rattle.std.proofs.lemmas.List.Elements.{All-push}
 use Rattle.word_rows.specs.Shape.{AreBelow}
-use Rattle.core_bounds.proofs.KeyCounts.{has}
+use Rattle.bound_laws.proofs.KeyCounts.{has}
 use Rattle.batch_rows.proofs.RowLemmas.{all_seats, made_splits, made_table, one_more}
 use Rattle.batch_rows.proofs.rows.sizes_for.Goals as goal
 

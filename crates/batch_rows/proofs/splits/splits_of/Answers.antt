@@ -1,7 +1,7 @@
 use Rattle.std.proofs.Common.{◌++◌, List, ap, ◌∙◌}
 use Rattle.plain_map.specs.declared.keys.Key.{Key}
 use Rattle.bucket_states.specs.Parts.{keys_of}
-use Rattle.core_bounds.proofs.KeyCounts.{has}
+use Rattle.bound_laws.proofs.KeyCounts.{has}
 use Rattle.batch_rows.specs.Counts.{AreInOrder}
 use Rattle.batch_rows.proofs.DepthLemmas.{depth_alike, lesser_splits}
 use Rattle.batch_rows.proofs.KeyLemmas.{all_keys}

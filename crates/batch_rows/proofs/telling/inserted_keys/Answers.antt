@@ -1,8 +1,8 @@
 use Rattle.std.proofs.Common.{◌∙◌, ◌++◌, [], ◌∷◌, List, take, Vec, Global, ap, sym, rules}
 use Rattle.std.proofs.lemmas.List.{append-nil}
 use Rattle.plain_map.specs.declared.keys.Key.{Key}
-use Rattle.core_model.specs.Needs.{inserted_by}
-use Rattle.core_bounds.proofs.KeyCounts.{has}
+use Rattle.table_model.specs.Needs.{inserted_by}
+use Rattle.bound_laws.proofs.KeyCounts.{has}
 use Rattle.batch_rows.specs.BatchRows.{inserted_in_calls}
 use Rattle.batch_rows.proofs.KeyLemmas.{inserted_more, none_inserted, same_lists, same_told, same_with}
 use Rattle.batch_rows.proofs.telling.inserted_keys.Goals as goal

@@ -7,8 +7,8 @@ use Rattle.plain_map.specs.declared.records.Record.{Record}
 use Rattle.plain_map.specs.Calls.{key_in}
 use Rattle.plain_map.specs.History.{ids_of}
 use Rattle.flow_keys.specs.FlowText.{HasText}
-use Rattle.core_model.specs.Order.{order_of}
-use Rattle.history_order.specs.Closing.{IsOfARun, closing_with}
+use Rattle.table_model.specs.Order.{order_of}
+use Rattle.table_model.specs.Closing.{IsOfARun, closing_with}
 use Rattle.trace_share.specs.declared.outcome.Outcome.{Outcome}
 use Rattle.trace_share.specs.Outcomes.{asked_in, records_in}
 use Rattle.report_text.specs.Report.{call_in}

@@ -9,14 +9,14 @@ told-requires-clause-closed c =
       items_of logs,
       kept_totals c.deref.result.now logs c.deref-2.result.now c.in_ok-totals.totals.items c.deref.ensures.value
           c.deref-2.ensures.value c.in_ok-totals.ensures,
-      kept_closed c.args.asked.now.service.now c.args.asked.now.first.now c.args.asked.now.calls.now c.in_ok-closed.closed logs
-          c.in_ok-closed.ensures,
+      kept_closed c.args.asked.now.service.now c.args.asked.now.first.now c.args.asked.now.calls.now
+          c.in_ok-closed.closed logs c.in_ok-closed.ensures,
     )
 
 pub returns-clause-closed : goal.returns-clause-closed
 returns-clause-closed c =
-    kept_closed c.args.asked.now.service.now c.args.asked.now.first.now c.args.asked.now.calls.now c.in_ok-closed.closed c.in_ok-closed.logs.items
-    c.in_ok-closed.ensures
+    kept_closed c.args.asked.now.service.now c.args.asked.now.first.now c.args.asked.now.calls.now c.in_ok-closed.closed
+    c.in_ok-closed.logs.items c.in_ok-closed.ensures
 
 pub returns-clause-told : goal.returns-clause-told
 returns-clause-told c =
@@ -24,5 +24,5 @@ returns-clause-told c =
     c.in_ok-batch.ensures.told (items_of logs)
     (kept_totals c.deref.result.now logs c.deref-2.result.now c.in_ok-totals.totals.items c.deref.ensures.value
     c.deref-2.ensures.value c.in_ok-totals.ensures)
-    (kept_closed c.args.asked.now.service.now c.args.asked.now.first.now c.args.asked.now.calls.now c.in_ok-closed.closed logs
-    c.in_ok-closed.ensures)
+    (kept_closed c.args.asked.now.service.now c.args.asked.now.first.now c.args.asked.now.calls.now
+    c.in_ok-closed.closed logs c.in_ok-closed.ensures)

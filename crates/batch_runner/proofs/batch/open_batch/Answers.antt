@@ -5,11 +5,12 @@ use Rattle.std.proofs.lemmas.List.{length-map}
 use Rattle.plain_map.specs.declared.calls.Call.{Call}
 use Rattle.plain_map.specs.Serving.{IsAskable}
 use Rattle.shared_table.specs.Values.{TableValue, new_seats}
+use Rattle.shared_table.proofs.NewSeats.{length-new_seats}
 use Rattle.batch_runner.specs.declared.service.Service.{Service}
 use Rattle.batch_runner.specs.declared.workers.SeatWorker.{SeatWorker}
 use Rattle.batch_runner.specs.Seats.{AreFresh}
 use Rattle.batch_runner.proofs.Deals.{dealt_hold, few_items, long_dealt, of_items}
-use Rattle.batch_runner.proofs.Working.{all_ready, all_short, long_new, many_fresh}
+use Rattle.batch_runner.proofs.Working.{all_ready, all_short, many_fresh}
 use Rattle.batch_runner.proofs.batch.open_batch.Goals as goal
 
 pub workers_of-requires-clause-new : goal.workers_of-requires-clause-new
@@ -17,7 +18,7 @@ workers_of-requires-clause-new g c =
     let n : ℕ = c.args.asked.now.service.now.settings.seats in
     let d : TableValue = c.in_ok-directory.directory in
     let long : vec_len c.in_ok-directory.seats ≡ n =
-    c.in_ok-directory.seats.ok.0 ∙ ap length c.in_ok-directory.ensures.seats ∙ long_new d 0 n in
+    c.in_ok-directory.seats.ok.0 ∙ ap length c.in_ok-directory.ensures.seats ∙ length-new_seats d 0 n in
     c.in_ok-directory.ensures.seats ∙ ap (new_seats d 0) (sym long)
 
 pub workers_of-requires-clause-as_many : goal.workers_of-requires-clause-as_many
@@ -29,7 +30,7 @@ workers_of-requires-clause-as_many g c =
       arith,
       c.in_ok-directory.seats.ok.0,
       ap length c.in_ok-directory.ensures.seats,
-      long_new c.in_ok-directory.directory 0 n,
+      length-new_seats c.in_ok-directory.directory 0 n,
       c.args.shares.ok.0,
       length-map c.args.shares.items item,
       ap length c.requires.shares,

@@ -2,7 +2,7 @@ use Rattle.std.proofs.Common.{ℕ, List, length, sym, ap, ◌∙◌, Err}
 use Rattle.step_counts.specs.declared.settings.Settings.{Settings}
 use Rattle.plain_map.specs.declared.calls.Call.{Call}
 use Rattle.plain_map.specs.declared.keys.Pair.{Pair}
-use Rattle.core_orders.proofs.Reopens.{no_pair_lacks_room}
+use Rattle.order_laws.proofs.Reopens.{no_pair_lacks_room}
 use Rattle.shared_table.specs.Values.{new_seats}
 use Rattle.batch_rows.specs.BatchRows.{rules_in}
 use Rattle.batch_rows.specs.declared.rows.TheConstants.{CALL_LIMIT}

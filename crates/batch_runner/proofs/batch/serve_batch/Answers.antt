@@ -2,8 +2,8 @@ use Rattle.std.proofs.Common.{◌≡◌, List, [], Vec, Global, length, map, ref
 use Rattle.std.specs.Prelude.{All}
 use Rattle.plain_map.specs.declared.records.Record.{Record}
 use Rattle.plain_map.specs.History.{ids_of}
-use Rattle.core_model.specs.Order.{order_of}
-use Rattle.history_order.specs.Closing.{IsOfARun, closing_with}
+use Rattle.table_model.specs.Order.{order_of}
+use Rattle.table_model.specs.Closing.{IsOfARun, closing_with}
 use Rattle.trace_share.specs.declared.outcome.Outcome.{Outcome}
 use Rattle.trace_share.specs.Outcomes.{records_in}
 use Rattle.trace_share.specs.Work.{IsLogOf, room_in}

@@ -3,7 +3,7 @@ use Rattle.std.specs.Prelude.{IsPermutation}
 use Rattle.std.proofs.lemmas.List.{length-map}
 use Rattle.word_rows.specs.Shape.{Shape}
 use Rattle.closed_words.specs.Views.{as_leaf}
-use Rattle.core_model.specs.Closed.{closed_depth, closed_leaves, closed_pairs}
+use Rattle.table_model.specs.Closed.{closed_depth, closed_leaves, closed_pairs}
 use Rattle.trace_share.specs.declared.outcome.Outcome.{Outcome}
 use Rattle.trace_share.specs.Outcomes.{asked_in}
 use Rattle.batch_runner.specs.declared.totals.Totals.{Totals}

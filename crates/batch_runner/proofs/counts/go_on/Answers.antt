@@ -1,6 +1,6 @@
 use Rattle.std.proofs.Common.{◌≡◌, ◌+◌, ◌≤◌, sym, ap, ◌∙◌, subst}
 use Rattle.std.specs.Prelude.{All}
-use Rattle.batch_orders.specs.Batches.{with_counts}
+use Rattle.batch_history.specs.Batches.{with_counts}
 use Rattle.batch_runner.proofs.Sums.{most_with}
 use Rattle.batch_runner.proofs.counts.go_on.Goals as goal
 

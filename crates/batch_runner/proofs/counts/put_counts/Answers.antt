@@ -1,5 +1,6 @@
 use Rattle.std.proofs.Common.{◌<◌, length, arith}
-use Rattle.batch_runner.proofs.Sums.{next_fits, with_next}
+use Rattle.batch_history.proofs.AddedCounts.{with_next}
+use Rattle.batch_runner.proofs.Sums.{next_fits}
 use Rattle.batch_runner.proofs.counts.put_counts.Goals as goal
 
 pub overflow_add-sums : goal.overflow_add-sums

@@ -5,8 +5,8 @@ use Rattle.plain_map.specs.declared.records.Record.{Record}
 use Rattle.plain_map.specs.History.{ids_of}
 use Rattle.word_rows.specs.Shape.{Shape}
 use Rattle.word_rows.specs.LayoutView.{shape_of}
-use Rattle.core_model.specs.Order.{order_of}
-use Rattle.history_order.specs.Closing.{IsOfARun, closing_with, read_in}
+use Rattle.table_model.specs.Order.{order_of}
+use Rattle.table_model.specs.Closing.{IsOfARun, closing_with, read_in}
 use Rattle.batch_runner.proofs.ordering.order_in.Goals as goal
 
 pub order-requires : goal.order-requires

@@ -1,5 +1,5 @@
 use Rattle.std.proofs.Common.{◌≡◌, take}
-use Rattle.history_order.specs.Closing.{records_there}
+use Rattle.table_model.specs.Closing.{records_there}
 use Rattle.trace_share.specs.Outcomes.{records_in}
 use Rattle.batch_runner.proofs.outcomes.answered_in.Given as goal
 

@@ -2,8 +2,9 @@ use Rattle.std.proofs.Common.{◌≡◌, ℕ, ◌<◌, ◌+◌, List, [], ◌∷
 use Rattle.std.proofs.lemmas.List.{get_or_default, length-map, length-set, map-append}
 use Rattle.std.specs.Borrow.{Bor}
 use Rattle.trace_share.specs.declared.outcome.Outcome.{Outcome}
+use Rattle.list_laws.proofs.Cuts.{zero_at}
 use Rattle.batch_runner.specs.Told.{read_there}
-use Rattle.batch_runner.proofs.Merges.{Until, held_log, many, one_left, until_end, until_next, until_start, zero_at, zeros}
+use Rattle.batch_runner.proofs.Merges.{Until, held_log, many, one_left, until_end, until_next, until_start, zeros}
 use Rattle.batch_runner.proofs.outcomes.outcomes_of.Goals as goal
 
 pub loop-place-init : goal.loop-place-init

@@ -1,5 +1,5 @@
 use Rattle.std.proofs.Common.{◌≡◌, map, take}
-use Rattle.history_order.specs.Closing.{read_in}
+use Rattle.table_model.specs.Closing.{read_in}
 use Rattle.trace_share.specs.Outcomes.{records_in}
 use Rattle.batch_runner.proofs.outcomes.records_of.Given as goal
 

@@ -1,5 +1,5 @@
 use Rattle.std.proofs.Common.{◌∙◌}
-use Rattle.batch_runner.proofs.Lines.{on_err}
+use Rattle.edge_traits.proofs.EdgeLemmas.{on_err}
 use Rattle.batch_runner.proofs.text.outcomes_text.Goals as goal
 
 pub returns-in_err-outcome_text-clause-begun : goal.returns-in_err-outcome_text-clause-begun

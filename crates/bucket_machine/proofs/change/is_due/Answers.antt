@@ -3,7 +3,8 @@ use Rattle.std.specs.Prelude.{nat_lt}
 use Rattle.std.proofs.lemmas.Bool.{lt-ltb}
 use Rattle.plain_map.specs.Calls.{key_in}
 use Rattle.bucket_states.specs.Items.{prefix_of}
-use Rattle.bucket_machine.proofs.WordLemmas.{number_in, not_below, both_true, both_false}
+use Rattle.bucket_machine.proofs.WordLemmas.{number_in, both_true, both_false}
+use Rattle.bucket_states.proofs.AnswerLemmas.{lt_false}
 use Rattle.bucket_machine.proofs.change.is_due.Goals as goal
 
 pub returns-then-row-at : goal.returns-then-row-at
@@ -25,5 +26,5 @@ returns-else-row-at c = record {
   due = λ b spells.
       let number = number_in c.args.settings.now b c.args.row.now c.args.seat _ spells.words c.requires.seat refl in
       ap (λ (n : ℕ). nat_lt n c.args.op.now.number) number
-      ∙ both_false _ _ (ap (λ (n : ℕ). nat_lt n c.args.op.now.number) (sym number) ∙ not_below _ _ c.if-row-at.false);
+      ∙ both_false _ _ (ap (λ (n : ℕ). nat_lt n c.args.op.now.number) (sym number) ∙ lt_false _ _ c.if-row-at.false);
 }

@@ -4,7 +4,7 @@ use Rattle.plain_map.specs.declared.calls.Call.TheVariants.{Tally}
 use Rattle.plain_map.specs.declared.calls.Reply.TheVariants.{Sum}
 use Rattle.plain_map.specs.Keys.{held_in, no_pair}
 use Rattle.plain_map.specs.Updates.{summed}
-use Rattle.bucket_states.specs.Items.{tallied_in, value_at, with_more}
+use Rattle.bucket_states.specs.Items.{tallied_in, value_at}
 use Rattle.bucket_states.specs.Places.{IsReply}
 use Rattle.bucket_states.proofs.AnswerLemmas.{IsReply-Tally_held, IsReply-Tally_absent}
 use Rattle.bucket_states.proofs.ValueLemmas.{summed-small}

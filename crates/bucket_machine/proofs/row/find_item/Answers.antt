@@ -1,5 +1,4 @@
 use Rattle.std.proofs.Common.{◌≡◌, ◌∙◌, ap, sym, arith, get_or, List, ℕ, length}
-use Rattle.plain_map.specs.declared.keys.Pair.{Pair}
 use Rattle.bucket_machine.proofs.WordLemmas.{placed_here, none_more}
 use Rattle.bucket_machine.proofs.row.find_item.Goals as goal
 use Rattle.plain_map.specs.Keys.{no_pair}

@@ -1,5 +1,4 @@
-use Rattle.std.proofs.Common.{◌≡◌, ap, get_or, ◌+◌, ◌*◌, ℕ, List, length, arith}
-use Rattle.step_counts.specs.declared.TheConstants.{ITEM_WORDS}
+use Rattle.std.proofs.Common.{◌≡◌, ap, get_or, ℕ, List, length, arith}
 use Rattle.bucket_machine.proofs.WordLemmas.{pushed}
 use Rattle.bucket_machine.proofs.row.push_item.Goals as goal
 

@@ -68,7 +68,8 @@ loop-packets-preserved g c =
       read = λ old holds count.
           let r = inv.read old holds count in
           let taken = c.in_ok-take.ensures c.args.before (old ++ r.0) r.1 (omega (arith, r.2)) in
-          let parts : (old ++ r.0) ++ packet ∷ [] ≡ old ++ (r.0 ++ packet ∷ []) = append_assoc old r.0 (packet ∷ []) in (
+          let parts : (old ++ r.0) ++ packet ∷ [] ≡ old ++ (r.0 ++ packet ∷ []) =
+          append_assoc old r.0 (packet ∷ []) in (
             r.0 ++ packet ∷ [],
             subst (λ (ps : List (List ℕ)). g.P.Pile.holds c.take.new.self c.args.before ps) parts taken,
             ap length (sym parts) ∙ length_push (old ++ r.0) packet ∙ ap (λ n. n + 1) r.2,

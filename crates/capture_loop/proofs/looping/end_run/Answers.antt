@@ -2,7 +2,7 @@
 use Rattle.std.proofs.Common.{Err, sym, subst}
 use Rattle.edge_traits.specs.Edge.{Rose}
 use Rattle.capture_loop.specs.declared.stop.Stop.{Stop}
-use Rattle.capture_loop.specs.Leaves.{LeavesAll}
+use Rattle.capture_loop.specs.Leaves.{LoopLeavesAll}
 use Rattle.capture_loop.proofs.LoopLemmas.{end_front, end_memory, end_whole}
 use Rattle.capture_loop.proofs.looping.end_run.Goals as goal
 
@@ -11,7 +11,7 @@ returns-in-Err-clause-leaves g c = λ plan faults since first left before all ba
     let lines = g.J.Job.lines plan in
     let report = g.J.Job.report plan in
     let now = g.K.Sink.put c.args.sink.now in
-    subst (λ (stop : Stop). LeavesAll lines report (Rose faults since) first left before now (Err stop))
+    subst (λ (stop : Stop). LoopLeavesAll lines report (Rose faults since) first left before now (Err stop))
     (sym c.from.ensures)
     (end_memory lines report (Rose faults since) first left before all batches c.args.ending ended cut met now
     c.args.text.now.items done put (g.met.J.Job.told c.args.job.now plan batches done has))
@@ -29,7 +29,7 @@ returns-in-Err-put-clause-leaves g c = λ plan faults since first left before al
     let report = g.J.Job.report plan in
     let more = c.in_default.ensures plan batches done has in
     let after = g.K.Sink.put c.put.new.sink in
-    subst (λ (stop : Stop). LeavesAll lines report (Rose faults since) first left before after (Err stop))
+    subst (λ (stop : Stop). LoopLeavesAll lines report (Rose faults since) first left before after (Err stop))
     (sym c.from-in-Err-put.ensures)
     (end_front lines report (Rose faults since) first left before all batches c.args.ending ended cut met
     (g.K.Sink.put c.args.sink.now) after c.args.text.now.items done more.0 c.finish.new.text.items put more.1 more.2

@@ -3,12 +3,13 @@ use Rattle.std.proofs.Common.{◌≡◌, ◌≤◌, ◌+◌, ◌++◌, ◌∷◌
 use Rattle.std.specs.Io.KnownBytes.{Appends}
 use Rattle.std.proofs.lemmas.Result.{IfOk-at_ok}
 use Rattle.edge_traits.specs.Edge.{AppendsFront, Rose}
+use Rattle.edge_traits.proofs.EdgeLemmas.{Rose-since}
 use Rattle.capture_loop.specs.Input.{packet_limit}
 use Rattle.capture_loop.specs.Intake.{IsTaken}
 use Rattle.capture_loop.specs.Looping.{HasPut, Stands}
 use Rattle.capture_loop.specs.Reading.{HaveCome, HaveEnded}
 use Rattle.capture_loop.proofs.LeavesLemmas.{AreWhole-more, HasPut-cut, HasPut-more, leaves_memory, leaves_not_put, leaves_some}
-use Rattle.capture_loop.proofs.LoopLemmas.{Rose-later, Stands-more, at_none, at_some, at_start, if_none, last_memory, none_failed}
+use Rattle.capture_loop.proofs.LoopLemmas.{Stands-more, at_none, at_some, at_start, if_none, last_memory, none_failed}
 use Rattle.capture_loop.proofs.looping.go_through.Goals as goal
 
 pub batches-init : goal.batches-init
@@ -63,7 +64,7 @@ returns-in-Some-clause-leaves g c = λ plan first before faults low has put come
     c.in-Some.is (r.3 first s.0 s.2.count s.5) in
     c.serve_last.ensures.leaves plan faults since first left before s.0 (s.1 ++ r.0) s.2 r.1 r.2 ended
     (λ is.
-    Rose-later faults (g.S.Source.faults c.batches.source) since (omega (arith, low, c.batches.invariant.counted_reads))
+    Rose-since faults (g.S.Source.faults c.batches.source) since (omega (arith, low, c.batches.invariant.counted_reads))
     (c.in_ok-part.ensures.read_fault (c.in-Some.is ∙ ap (λ e. Some e) is)))
 
 pub serve_ahead-requires-clause-going : goal.serve_ahead-requires-clause-going

@@ -21,7 +21,8 @@ invariant-batches g l =
       writes_failed : g.K.Sink.failed l.sink ≡ g.K.Sink.failed l.fn.sink;
       stands : (plan : g.row.P.Denot) (first before : Option (List ℕ)) →
           g.J.Job.done l.fn.job plan [] l.fn.text.items →
-          HasPut before (put l.fn.sink) l.fn.text.items l.fn.text.items → HaveCome first (left l.fn.source) l.fn.reader [] →
+          HasPut before (put l.fn.sink) l.fn.text.items l.fn.text.items →
+          HaveCome first (left l.fn.source) l.fn.reader [] →
           (all held : List (List ℕ)) × Stands (g.J.Job.done l.job plan) first l.packets all before (put l.sink)
           l.text.items × g.J.Pile.Pile.holds l.piles.now l.packets held × (length held ≡ l.ahead)
           × HaveCome first (left l.source) l.reader (all ++ held);

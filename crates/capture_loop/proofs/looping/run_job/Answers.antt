@@ -27,7 +27,8 @@ returns-in-Ends-clause-leaves g c = λ plan has.
     left put [] []
     (at_start (g.J.Job.done c.args.job.now plan) first put put c.args.text.now.items has
     (HasPut-start put c.args.text.now.items))
-    c.requires.none refl ended (λ is. c.in-Err.ensures.read_fault (ap (λ u. Err u) (c.in-Ends.is ∙ ap (λ e. Ends e) is)))
+    c.requires.none refl ended
+    (λ is. c.in-Err.ensures.read_fault (ap (λ u. Err u) (c.in-Ends.is ∙ ap (λ e. Ends e) is)))
 
 pub returns-in-Memory-clause-leaves : goal.returns-in-Memory-clause-leaves
 returns-in-Memory-clause-leaves g c = λ plan has.

@@ -1,17 +1,18 @@
 -- The last batch is served, where one is begun.
 use Rattle.std.proofs.Common.{◌≡◌, ◌++◌, ◌∷◌, [], List, ℕ, Err, ap, subst, sym, ◌∙◌, append-nil, arith}
+use Rattle.std.proofs.lemmas.List.{nil_from_length}
 use Rattle.edge_traits.specs.Edge.{Rose}
 use Rattle.capture_loop.specs.Batches.{AreBatches}
 use Rattle.capture_loop.specs.declared.stop.Stop.TheVariants.{Memory}
-use Rattle.capture_loop.specs.Leaves.{LeavesAll}
+use Rattle.capture_loop.specs.Leaves.{LoopLeavesAll}
 use Rattle.capture_loop.proofs.LeavesLemmas.{leaves_stop}
-use Rattle.capture_loop.proofs.LoopLemmas.{last_cut, last_front, last_memory, none_of, whole_cut}
+use Rattle.capture_loop.proofs.LoopLemmas.{last_cut, last_front, last_memory, whole_cut}
 use Rattle.capture_loop.proofs.looping.serve_last.Goals as goal
 use Rattle.capture_loop.proofs.looping.serve_last.Goals.{else-last-eq0-via-then-last-eq0+else-many-gt0, else-last-eq0-via-else-last-eq0}
 
 pub returns-then-many-gt0-clause-leaves : goal.returns-then-many-gt0-clause-leaves
 returns-then-many-gt0-clause-leaves g c = λ plan faults since first left before all last stands holds count ended met.
-    let none : last ≡ [] = none_of last (count ∙ c.if-last-eq0.true) in
+    let none : last ≡ [] = nil_from_length last (count ∙ c.if-last-eq0.true) in
     let same : all ++ last ≡ all = ap (λ (ps : List (List ℕ)). all ++ ps) none ∙ append-nil all in
     c.end_run.ensures.leaves plan faults since first left before (all ++ last) stands.batches stands.text stands.done
     (subst (λ (ps : List (List ℕ)). AreBatches ps stands.batches) (sym same)
@@ -56,7 +57,7 @@ returns-in-Err-clause-leaves g c = λ plan faults since first left before all la
     met after (stands.text ++ next.0)
     (g.met.J.Job.begins c.serve_one.new.job plan batches (stands.text ++ next.0) c.args.last.ending next.1) next.2)
     (λ same.
-    subst (λ sink. LeavesAll lines report (Rose faults since) first left before (g.K.Sink.put sink) (Err Memory))
+    subst (λ sink. LoopLeavesAll lines report (Rose faults since) first left before (g.K.Sink.put sink) (Err Memory))
     (sym same)
     (last_memory lines report (Rose faults since) (g.J.Job.done c.args.job.now plan) first left c.args.many all before
     (g.K.Sink.put c.args.sink.now) c.args.text.now.items stands

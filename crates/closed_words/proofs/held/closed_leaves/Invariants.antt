@@ -1,5 +1,5 @@
 use Rattle.std.proofs.Common.{◌≡◌, ◌++◌, map, drop}
-use Rattle.core_model.specs.Closed.{leaf_at}
+use Rattle.table_model.specs.Closed.{leaf_at}
 use Rattle.word_rows.specs.LayoutView.{shape_of}
 use Rattle.closed_words.specs.Views.{as_leaf}
 use Rattle.closed_words.proofs.held.closed_leaves.Given as goal

@@ -1,6 +1,6 @@
 use Rattle.std.proofs.Common.{◌≡◌, ◌++◌, drop}
 use Rattle.std.specs.List.{flat_map}
-use Rattle.core_model.specs.Reading.{bucket_at, row_of}
+use Rattle.table_model.specs.Reading.{bucket_at, row_of}
 use Rattle.word_rows.specs.LayoutView.{shape_of}
 use Rattle.closed_words.proofs.held.closed_pairs.Given as goal
 

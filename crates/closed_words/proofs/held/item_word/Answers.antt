@@ -1,6 +1,6 @@
 use Rattle.std.proofs.Common.{◌<◌, ◌∙◌, arith}
 use Rattle.word_rows.specs.LayoutView.{shape_of}
-use Rattle.core_model.specs.Reading.{bucket_spelling}
+use Rattle.table_model.specs.Reading.{bucket_spelling}
 use Rattle.closed_words.proofs.ItemLemmas.{item_word-inside}
 use Rattle.closed_words.proofs.held.item_word.Goals as goal
 

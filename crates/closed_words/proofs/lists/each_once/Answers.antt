@@ -1,5 +1,5 @@
 use Rattle.std.proofs.Common.{ℕ, Vec, Global, ap, ◌∙◌, sym}
-use Rattle.core_model.specs.Reading.{each_once}
+use Rattle.table_model.specs.Reading.{each_once}
 use Rattle.closed_words.proofs.LoopLemmas.{each_once-kept, each_once-left}
 use Rattle.closed_words.proofs.lists.each_once.Goals as goal
 use Rattle.closed_words.proofs.lists.each_once.Goals.{then-not-contains+in_ok-push, else-not-contains}

@@ -1,5 +1,5 @@
 use Rattle.std.proofs.Common.{◌≡◌, ◌++◌, drop}
-use Rattle.core_model.specs.Reading.{each_once}
+use Rattle.table_model.specs.Reading.{each_once}
 use Rattle.closed_words.proofs.lists.each_once.Given as goal
 
 abbrev pub invariant-loop-i : goal.invariant-loop-i

@@ -1,7 +1,7 @@
 use Rattle.std.proofs.Common.{ℕ, Vec, Global, ap, ◌∙◌, sym}
 use Rattle.std.specs.Prelude.{not}
 use Rattle.std.specs.List.{filter}
-use Rattle.core_model.specs.Reading.{is_among}
+use Rattle.table_model.specs.Reading.{is_among}
 use Rattle.closed_words.proofs.LoopLemmas.{filter-kept, filter-left}
 use Rattle.closed_words.proofs.lists.without.Goals as goal
 use Rattle.closed_words.proofs.lists.without.Goals.{then-not-contains+in_ok-push, else-not-contains}

@@ -1,7 +1,7 @@
 use Rattle.std.proofs.Common.{◌≡◌, ◌++◌, drop}
 use Rattle.std.specs.List.{filter}
 use Rattle.std.specs.Prelude.{not}
-use Rattle.core_model.specs.Reading.{is_among}
+use Rattle.table_model.specs.Reading.{is_among}
 use Rattle.closed_words.proofs.lists.without.Given as goal
 
 abbrev pub invariant-loop-number : goal.invariant-loop-number

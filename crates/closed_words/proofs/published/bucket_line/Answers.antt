@@ -1,7 +1,7 @@
 use Rattle.std.proofs.Common.{◌-◌, ◌<◌, arith}
 use Rattle.plain_map.specs.declared.full.FullKind.TheVariants.{BucketRows}
 use Rattle.word_rows.specs.Shape.{count_of}
-use Rattle.core_model.specs.Reading.{bucket_row, bucket_line}
+use Rattle.table_model.specs.Reading.{bucket_row, bucket_line}
 use Rattle.word_rows.specs.LayoutView.{shape_of}
 use Rattle.closed_words.proofs.LineLemmas.{line-ends, line-goes}
 use Rattle.closed_words.proofs.published.bucket_line.Goals as goal

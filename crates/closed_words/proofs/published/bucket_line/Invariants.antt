@@ -1,7 +1,7 @@
 use Rattle.std.proofs.Common.{◌≡◌, ◌-◌, ◌++◌}
 use Rattle.plain_map.specs.declared.full.FullKind.TheVariants.{BucketRows}
 use Rattle.word_rows.specs.Shape.{count_of}
-use Rattle.core_model.specs.Reading.{line, bucket_line, bucket_row}
+use Rattle.table_model.specs.Reading.{line, bucket_line, bucket_row}
 use Rattle.word_rows.specs.LayoutView.{shape_of}
 use Rattle.closed_words.proofs.published.bucket_line.Given as goal
 

@@ -1,6 +1,6 @@
 use Rattle.std.proofs.Common.{◌≡◌, ◌++◌, Some, drop}
 use Rattle.std.specs.List.{flat_map}
-use Rattle.core_model.specs.Reading.{bucket_line, row_of}
+use Rattle.table_model.specs.Reading.{bucket_line, row_of}
 use Rattle.word_rows.specs.LayoutView.{shape_of}
 use Rattle.closed_words.proofs.published.bucket_rows.Given as goal
 

@@ -1,7 +1,7 @@
 use Rattle.std.proofs.Common.{◌-◌, ◌<◌, arith}
 use Rattle.plain_map.specs.declared.full.FullKind.TheVariants.{DirRows}
 use Rattle.word_rows.specs.Shape.{count_of}
-use Rattle.core_model.specs.Reading.{directory_row, directory_line}
+use Rattle.table_model.specs.Reading.{directory_row, directory_line}
 use Rattle.word_rows.specs.LayoutView.{shape_of}
 use Rattle.closed_words.proofs.LineLemmas.{line-ends, line-goes}
 use Rattle.closed_words.proofs.published.directory_line.Goals as goal

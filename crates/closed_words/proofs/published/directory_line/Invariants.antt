@@ -1,7 +1,7 @@
 use Rattle.std.proofs.Common.{◌≡◌, ◌-◌, ◌++◌}
 use Rattle.plain_map.specs.declared.full.FullKind.TheVariants.{DirRows}
 use Rattle.word_rows.specs.Shape.{count_of}
-use Rattle.core_model.specs.Reading.{line, directory_line, directory_row}
+use Rattle.table_model.specs.Reading.{line, directory_line, directory_row}
 use Rattle.word_rows.specs.LayoutView.{shape_of}
 use Rattle.closed_words.proofs.published.directory_line.Given as goal
 

@@ -1,6 +1,6 @@
 use Rattle.std.proofs.Common.{◌≡◌, take}
 use Rattle.word_rows.specs.LayoutView.{shape_of}
-use Rattle.core_model.specs.Reading.{directory_at}
+use Rattle.table_model.specs.Reading.{directory_at}
 use Rattle.closed_words.proofs.published.entries.Given as goal
 
 abbrev pub invariant-loop-i : goal.invariant-loop-i

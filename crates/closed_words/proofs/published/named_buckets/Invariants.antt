@@ -1,6 +1,6 @@
 use Rattle.std.proofs.Common.{◌≡◌, ◌++◌, drop}
 use Rattle.std.specs.List.{flat_map}
-use Rattle.core_model.specs.Reading.{directory_at}
+use Rattle.table_model.specs.Reading.{directory_at}
 use Rattle.word_rows.specs.LayoutView.{shape_of}
 use Rattle.closed_words.proofs.published.named_buckets.Given as goal
 

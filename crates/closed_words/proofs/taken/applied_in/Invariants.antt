@@ -1,8 +1,8 @@
 use Rattle.std.proofs.Common.{◌≡◌, ◌++◌, drop}
 use Rattle.std.specs.Prelude.{◌&&◌, ◌==◌}
 use Rattle.std.specs.List.{filter, list_any}
-use Rattle.core_model.specs.SeatStates.{is_update}
-use Rattle.core_model.specs.Reading.{applied_at}
+use Rattle.plain_map.specs.Calls.{is_update}
+use Rattle.table_model.specs.Reading.{applied_at}
 use Rattle.word_rows.specs.LayoutView.{shape_of}
 use Rattle.closed_words.proofs.taken.applied_in.Given as goal
 

@@ -1,7 +1,7 @@
 use Rattle.std.proofs.Common.{◌≡◌, drop}
 use Rattle.std.specs.Prelude.{◌==◌}
 use Rattle.std.specs.List.{list_any}
-use Rattle.core_model.specs.Reading.{applied_at}
+use Rattle.table_model.specs.Reading.{applied_at}
 use Rattle.word_rows.specs.LayoutView.{shape_of}
 use Rattle.closed_words.proofs.taken.was_applied.Given as goal
 

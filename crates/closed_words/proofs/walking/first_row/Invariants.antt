@@ -3,7 +3,7 @@ use Rattle.std.specs.Prelude.{find, not}
 use Rattle.plain_map.specs.declared.full.FullKind.TheVariants.{BucketRows}
 use Rattle.word_rows.specs.Shape.{count_of}
 use Rattle.word_rows.specs.LayoutView.{shape_of}
-use Rattle.core_model.specs.Reading.{line, bucket_row, first_row, is_exchanged}
+use Rattle.table_model.specs.Reading.{line, bucket_row, first_row, is_exchanged}
 use Rattle.closed_words.proofs.walking.first_row.Given as goal
 
 abbrev pub invariant-loop : goal.invariant-loop

@@ -1,5 +1,5 @@
 use Rattle.std.proofs.Common.{None, get_or, map, sym, subst}
-use Rattle.core_model.specs.DirectoryChange.{change_leaves, leaves_after_seat}
+use Rattle.table_model.specs.DirectoryChange.{change_leaves, leaves_after_seat}
 use Rattle.dir_states.specs.Views.{as_directory, as_leaf, as_loaded}
 use Rattle.dir_states.specs.Fit.{AreFit}
 use Rattle.dir_states.proofs.FitLemmas.{none_made}

@@ -1,5 +1,5 @@
 use Rattle.std.proofs.Common.{◌≡◌, ◌+◌, ◌*◌, ◌≤◌, [], drop, map, vec_len}
-use Rattle.core_model.specs.DirectoryChange.{leaves_after}
+use Rattle.table_model.specs.DirectoryChange.{leaves_after}
 use Rattle.dir_states.specs.Rooms.{AreKept}
 use Rattle.dir_states.specs.Views.{as_directory, as_leaf, as_loaded}
 use Rattle.dir_states.proofs.changes.walk.Given as goal

@@ -1,7 +1,7 @@
 use Rattle.std.proofs.Common.{◌<◌, ◌≤◌, length, subst, ◌∙◌, arith}
 use Rattle.std.proofs.Math.ListN.{length-set}
 use Rattle.std.proofs.lemmas.List.{take_all}
-use Rattle.core_model.specs.Setup.{HaveRoom}
+use Rattle.table_model.specs.Setup.{HaveRoom}
 use Rattle.dir_states.proofs.CountLemmas.{more-counted, counted-classmates}
 use Rattle.dir_states.proofs.FindLemmas.{finds_next, first_without, have_room}
 use Rattle.dir_states.proofs.counts.count.Goals as goal

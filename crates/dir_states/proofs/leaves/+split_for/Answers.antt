@@ -1,6 +1,6 @@
 use Rattle.std.proofs.Common.{◌≡◌, List, true, map, sym, ap, subst, ◌∙◌, ◌-◌, arith}
 use Rattle.plain_map.specs.Calls.{key_in}
-use Rattle.core_model.specs.Leaves.{NewLeaf, must_split, split, split_for}
+use Rattle.table_model.specs.Leaves.{NewLeaf, must_split, split, split_for}
 use Rattle.dir_states.specs.declared.values.NewLeaf.{NewLeaf as Leaf}
 use Rattle.dir_states.specs.Views.{as_leaf}
 use Rattle.dir_states.specs.Fit.{AreFit, MakesLeaves}

@@ -1,6 +1,6 @@
 use Rattle.std.proofs.Common.{◌≡◌, ℕ, ◌<◌, false, get_or}
 use Rattle.bucket_states.specs.States.{state_of}
-use Rattle.core_model.specs.Leaves.{is_in}
+use Rattle.table_model.specs.Leaves.{is_in}
 use Rattle.dir_states.specs.declared.values.NewLeaf.{NewLeaf as Leaf}
 use Rattle.dir_states.proofs.leaves.leaf_place.Given as goal
 

@@ -1,5 +1,5 @@
 use Rattle.std.proofs.Common.{◌≡◌, drop, map}
-use Rattle.core_model.specs.Leaves.{must_split}
+use Rattle.table_model.specs.Leaves.{must_split}
 use Rattle.dir_states.specs.Views.{as_leaf}
 use Rattle.dir_states.proofs.leaves.must_split.Given as goal
 

@@ -1,5 +1,5 @@
 use Rattle.std.proofs.Common.{List, map, sym, ap, subst, ◌∙◌, arith}
-use Rattle.core_model.specs.Leaves.{split, halves}
+use Rattle.table_model.specs.Leaves.{split, halves}
 use Rattle.bucket_states.specs.States.{state_of}
 use Rattle.dir_states.specs.declared.values.NewLeaf.{NewLeaf}
 use Rattle.dir_states.specs.Views.{as_leaf}

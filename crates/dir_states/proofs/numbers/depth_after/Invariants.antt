@@ -1,5 +1,5 @@
 use Rattle.std.proofs.Common.{◌≡◌, drop, map}
-use Rattle.core_model.specs.DirectoryChange.{depth_after}
+use Rattle.table_model.specs.DirectoryChange.{depth_after}
 use Rattle.dir_states.specs.Views.{as_directory, as_leaf}
 use Rattle.dir_states.proofs.numbers.depth_after.Given as goal
 

@@ -1,12 +1,13 @@
 use Rattle.std.proofs.Common.{◌≡◌, ℕ, ◌+◌, ◌-◌, ◌/◌, ◌<◌, ◌≤◌, ◌^◌, List, length, drop, get_or, map, subst, sym, ap, ◌∙◌, arith}
 use Rattle.std.specs.Prelude.{slice_index}
 use Rattle.std.proofs.lemmas.List.{drop_all}
-use Rattle.core_model.specs.DirectoryChange.{number_at, with_leaves}
+use Rattle.table_model.specs.DirectoryChange.{number_at, with_leaves}
 use Rattle.word_rows.specs.Blocks.{first_values}
 use Rattle.dir_states.specs.declared.values.NewLeaf.{NewLeaf}
 use Rattle.dir_states.specs.Views.{as_directory, as_leaf}
 use Rattle.dir_states.proofs.NumberLemmas.{depth_after-each, length-first_values, value-at, values-at}
 use Rattle.dir_states.proofs.numbers.with_leaves.Goals as goal
+use Rattle.std.proofs.Math.Nat.{add-zero}
 
 pub loop-left-init : goal.loop-left-init
 loop-left-init c =
@@ -52,10 +53,7 @@ returns-clause-state c =
     (slice_index directory.entries.items (k / 2 ^ (depth - directory.depth)))
     (map as_leaf (drop n c.args.leaves.now))) none_left
     ∙ ap (λ (n : ℕ). number_at depth k n (slice_index directory.entries.items (k / 2 ^ (depth - directory.depth)))
-    (map as_leaf c.args.leaves.now)) (nothing c.args.fresh)) in
+    (map as_leaf c.args.leaves.now)) (add-zero c.args.fresh)) in
     ap (λ (d : ℕ). record { depth = d; entries = c.loop-left.state.entries.items }) c.loop-left.invariant.depth
     ∙ ap (λ (l : List ℕ). record { depth = depth; entries = l }) entries
     ∙ ap (λ (d : ℕ). record { depth = d; entries = first_values (f d) (2 ^ d) }) c.depth_after-depth.ensures
-  where
-    nothing : (n : ℕ) → n + 0 ≡ n
-    nothing n = omega arith

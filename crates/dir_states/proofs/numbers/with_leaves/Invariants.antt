@@ -1,6 +1,6 @@
 use Rattle.std.proofs.Common.{◌≡◌, ℕ, ◌+◌, ◌-◌, ◌<◌, ◌≤◌, ◌^◌, ◌/◌, length, drop, get_or, map, vec_capacity}
 use Rattle.std.specs.Prelude.{slice_index}
-use Rattle.core_model.specs.DirectoryChange.{number_at}
+use Rattle.table_model.specs.DirectoryChange.{number_at}
 use Rattle.dir_states.specs.Views.{as_leaf}
 use Rattle.dir_states.proofs.numbers.with_leaves.Given as goal
 

@@ -3,10 +3,10 @@ use Rattle.std.specs.Prelude.{vec_capacity}
 use Rattle.std.proofs.lemmas.List.{get_or-map, length-map, take_all}
 use Rattle.std.proofs.lemmas.List.Elements.{All-set}
 use Rattle.plain_map.specs.declared.keys.Pair.{Pair}
-use Rattle.core_model.specs.DirectoryChange.{depth_after}
-use Rattle.core_model.specs.Directories.{DirectoryState}
-use Rattle.core_model.specs.Opening.{opening_directory}
-use Rattle.core_model.specs.Leaves as M
+use Rattle.table_model.specs.DirectoryChange.{depth_after}
+use Rattle.table_model.specs.Directories.{DirectoryState}
+use Rattle.table_model.specs.Opening.{opening_directory}
+use Rattle.table_model.specs.Leaves as M
 use Rattle.dir_states.specs.declared.values.NewLeaf.{NewLeaf}
 use Rattle.dir_states.specs.Openings.{IsOpen}
 use Rattle.dir_states.specs.Views.{as_directory, as_leaf}

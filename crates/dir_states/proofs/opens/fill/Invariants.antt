@@ -1,5 +1,5 @@
 use Rattle.std.proofs.Common.{◌≡◌, [], map, take}
-use Rattle.core_model.specs.Opening.{opening_directory}
+use Rattle.table_model.specs.Opening.{opening_directory}
 use Rattle.dir_states.specs.Cuts.{cut_leaves}
 use Rattle.dir_states.specs.Openings.{OpeningHasRoom, first_directory}
 use Rattle.dir_states.specs.Views.{as_leaf}

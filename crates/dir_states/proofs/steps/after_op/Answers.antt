@@ -1,6 +1,6 @@
 use Rattle.std.proofs.Common.{◌≡◌, List, map, sym, subst, ◌∙◌}
-use Rattle.core_model.specs.DirectoryChange.{with_parts}
-use Rattle.core_model.specs.Leaves.{NewLeaf}
+use Rattle.table_model.specs.DirectoryChange.{with_parts}
+use Rattle.table_model.specs.Leaves.{NewLeaf}
 use Rattle.dir_states.specs.Views.{as_leaf, as_loaded}
 use Rattle.dir_states.specs.Fit.{AreFit}
 use Rattle.dir_states.proofs.FitLemmas.{AreFit-split_for, AreFit-apply, none_made, some_made}

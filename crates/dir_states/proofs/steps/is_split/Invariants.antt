@@ -1,6 +1,6 @@
 use Rattle.std.proofs.Common.{◌≡◌, drop, map}
 use Rattle.std.specs.List.{list_any}
-use Rattle.core_model.specs.DirectoryChange.{comes_from}
+use Rattle.table_model.specs.DirectoryChange.{comes_from}
 use Rattle.dir_states.specs.Views.{as_leaf}
 use Rattle.dir_states.proofs.steps.is_split.Given as goal
 

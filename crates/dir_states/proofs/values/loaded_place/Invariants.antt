@@ -1,5 +1,5 @@
 use Rattle.std.proofs.Common.{◌≡◌, drop, map}
-use Rattle.core_model.specs.DirectoryChange.{loaded_of}
+use Rattle.table_model.specs.DirectoryChange.{loaded_of}
 use Rattle.dir_states.specs.Views.{as_loaded}
 use Rattle.dir_states.proofs.values.loaded_place.Given as goal
 

@@ -1,6 +1,6 @@
 use Rattle.std.proofs.Common.{◌≡◌, ◌+◌, ◌-◌, sym, ap, ◌∙◌, arith}
-use Rattle.core_bounds.proofs.Levels.{sum_below, sum_range}
-use Rattle.core_leaves.specs.Leaves.{crowds_of}
+use Rattle.bound_laws.proofs.Levels.{sum_below, sum_range}
+use Rattle.leaf_laws.specs.Leaves.{crowds_of}
 use Rattle.flowdir_c.proofs.fewer.splits_by.Goals as goal
 
 pub returns-clause-splits : goal.returns-clause-splits

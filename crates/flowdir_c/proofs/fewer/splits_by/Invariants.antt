@@ -1,6 +1,6 @@
 use Rattle.std.proofs.Common.{◌≡◌, ◌+◌, ◌-◌, ◌*◌, ◌≤◌}
-use Rattle.core_bounds.proofs.Levels.{sum_below}
-use Rattle.core_leaves.specs.Leaves.{crowds_of}
+use Rattle.bound_laws.proofs.Levels.{sum_below}
+use Rattle.leaf_laws.specs.Leaves.{crowds_of}
 use Rattle.flowdir_c.proofs.fewer.splits_by.Given as goal
 
 abbrev pub invariant-loop-depth : goal.invariant-loop-depth

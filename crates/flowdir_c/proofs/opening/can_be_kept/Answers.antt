@@ -3,7 +3,7 @@ use Rattle.std.proofs.lemmas.List.{take_all, take_more}
 use Rattle.std.proofs.lemmas.List.Elements.{All-push, All-same}
 use Rattle.plain_map.specs.declared.keys.Pair.{Pair}
 use Rattle.plain_map.specs.Keys.{no_key}
-use Rattle.core_model.specs.Setup.{IsPair}
+use Rattle.table_model.specs.Setup.{IsPair}
 use Rattle.flowdir_c.proofs.opening.can_be_kept.Goals as goal
 
 -- a pair that stands where none does

@@ -1,4 +1,4 @@
-use Rattle.std.proofs.Common.{◌≡◌, ◌^◌, List, Err, length, sym, ap, ◌∙◌, subst}
+use Rattle.std.proofs.Common.{◌≡◌, ◌^◌, List, Err, sym, ap, ◌∙◌, subst}
 use Rattle.std.specs.Prelude.{All, replicate}
 use Rattle.std.specs.List.{IsDistinct}
 use Rattle.std.specs.Arc.{arc_value}
@@ -6,10 +6,9 @@ use Rattle.std.proofs.lemmas.List.Elements.{All-nil}
 use Rattle.hash_bits.specs.declared.hashing.Hashing.TheVariants.{Mix}
 use Rattle.step_counts.specs.declared.rows.SeatRows.{SeatRows}
 use Rattle.bucket_states.specs.Parts.{HasDistinctKeys}
-use Rattle.core_model.specs.Setup.{IsPair, seats_of}
+use Rattle.table_model.specs.Setup.{IsPair, seats_of}
 use Rattle.shared_table.specs.Openings.{setup_of}
 use Rattle.shared_table.specs.Values.{IsNew, IsOf, TableValue}
-use Rattle.shared_table.specs.SeatValues.{SeatValue}
 use Rattle.plain_map.specs.declared.leaves.OpenFault.{OpenFault}
 use Rattle.word_rows.specs.Shape.{AreBelow}
 use Rattle.flowdir_c.specs.Fit.{rules_with}
@@ -24,7 +23,7 @@ invariant_of-result c =
     let same : t ≡ c.in-Ok-open_in.directory = c.in-Ok-new.ensures.ok in
     record {
       new = subst (λ (u : TableValue). All (IsNew u) c.in-Ok-open_in.fresh.items) (sym same)
-          (subst (All (IsNew c.in-Ok-open_in.directory)) c.deref-in-Ok-open_in.ensures.value c.are_new.ensures.new);
+          c.in-Ok-open_in.ensures.new;
       of = subst (All (IsOf t)) (sym c.in-Ok-with_capacity.ensures.items) (All-nil (IsOf t));
       all = sym (ap (λ (u : TableValue). seats_of u.setup) same ∙ ap seats_of c.in-Ok-open_in.ensures.setup);
       ran = tt;
@@ -42,8 +41,7 @@ returns-in-Ok-open_in-clause-opened c =
 
 -- with as many seats
 pub returns-in-Ok-open_in-clause-seats : goal.returns-in-Ok-open_in-clause-seats
-returns-in-Ok-open_in-clause-seats c =
-    sym (ap (λ (seats : List SeatValue). length seats) c.deref-in-Ok-open_in.ensures.value) ∙ c.are_new.ensures.many
+returns-in-Ok-open_in-clause-seats c = c.in-Ok-open_in.ensures.count
 
 -- and rows below 2^32
 pub returns-in-Ok-open_in-clause-small : goal.returns-in-Ok-open_in-clause-small

@@ -1,5 +1,5 @@
 use Rattle.std.proofs.Common.{◌≡◌, ◌+◌, ◌<◌, ℕ, drop, length, slice_index_or}
-use Rattle.history_order.specs.Closing.{records_there}
+use Rattle.table_model.specs.Closing.{records_there}
 use Rattle.history_order.specs.Columns.{looks_in}
 use Rattle.history_order.proofs.columns.add_looks.Given as goal
 

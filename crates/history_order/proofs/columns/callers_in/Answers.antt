@@ -2,7 +2,7 @@ use Rattle.std.proofs.Common.{◌<◌, length, ap, ◌∙◌, arith}
 use Rattle.std.specs.Prelude.{is_some}
 use Rattle.std.proofs.lemmas.List.{length-set}
 use Rattle.word_rows.specs.LayoutView.{shape_of}
-use Rattle.core_model.specs.Order.{new_in_rows}
+use Rattle.table_model.specs.Order.{new_in_rows}
 use Rattle.history_order.proofs.Writes.{flag_set}
 use Rattle.history_order.proofs.columns.callers_in.Goals as goal
 

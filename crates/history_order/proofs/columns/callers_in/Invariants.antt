@@ -1,7 +1,7 @@
 use Rattle.std.proofs.Common.{◌≡◌, ℕ, length, nat_lt, ◌&&◌, slice_index_or, false}
 use Rattle.std.specs.Prelude.{is_some}
 use Rattle.word_rows.specs.LayoutView.{shape_of}
-use Rattle.core_model.specs.Order.{new_in_rows}
+use Rattle.table_model.specs.Order.{new_in_rows}
 use Rattle.history_order.proofs.columns.callers_in.Given as goal
 
 abbrev pub invariant-loop-seat : goal.invariant-loop-seat

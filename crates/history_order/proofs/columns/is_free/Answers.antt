@@ -2,7 +2,7 @@ use Rattle.std.proofs.Common.{◌<◌, ℕ, not, ap, ◌∙◌, sym, arith}
 use Rattle.std.specs.Prelude.{is_some}
 use Rattle.step_counts.specs.declared.settings.Settings.{Settings}
 use Rattle.word_rows.specs.LayoutView.{shape_of}
-use Rattle.core_model.specs.Order.{new_in_rows}
+use Rattle.table_model.specs.Order.{new_in_rows}
 use Rattle.history_order.proofs.Writes.{all_goes, all_fails}
 use Rattle.history_order.proofs.columns.is_free.Goals as goal
 

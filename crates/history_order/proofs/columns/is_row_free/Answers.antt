@@ -3,7 +3,7 @@ use Rattle.std.proofs.Common.{◌≡◌, ◌∷◌, [], ◌<◌, ℕ, List, Bool
 use Rattle.std.specs.Prelude.{◌&&◌, is_some}
 use Rattle.step_counts.specs.declared.settings.Settings.{Settings}
 use Rattle.word_rows.specs.LayoutView.{shape_of}
-use Rattle.core_model.specs.Order.{new_in_rows}
+use Rattle.table_model.specs.Order.{new_in_rows}
 use Rattle.history_order.proofs.Writes.{all_goes, all_fails}
 use Rattle.history_order.proofs.columns.is_row_free.Goals as goal
 

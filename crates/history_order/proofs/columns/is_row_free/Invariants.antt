@@ -2,7 +2,7 @@ use Rattle.std.proofs.Common.{◌≡◌, ◌-◌, ◌∷◌, [], not}
 use Rattle.std.specs.Prelude.{is_some}
 use Rattle.std.specs.List.{list_all, range_with_len}
 use Rattle.word_rows.specs.LayoutView.{shape_of}
-use Rattle.core_model.specs.Order.{new_in_rows}
+use Rattle.table_model.specs.Order.{new_in_rows}
 use Rattle.history_order.specs.Columns.{is_free}
 use Rattle.history_order.proofs.columns.is_row_free.Given as goal
 

@@ -2,7 +2,7 @@ use Rattle.std.proofs.Common.{◌≡◌, ◌+◌, ◌<◌, ℕ, drop, length, sl
 use Rattle.word_rows.specs.Shape.{count_of}
 use Rattle.plain_map.specs.declared.full.FullKind.TheVariants.{BucketRows}
 use Rattle.word_rows.specs.LayoutView.{shape_of}
-use Rattle.history_order.specs.Closing.{records_there}
+use Rattle.table_model.specs.Closing.{records_there}
 use Rattle.history_order.specs.Columns.{looks_in}
 use Rattle.history_order.proofs.columns.looks.Given as goal
 

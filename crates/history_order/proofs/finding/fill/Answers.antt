@@ -1,7 +1,7 @@
 -- What is found and how the turns begin, by what is told.
 use Rattle.std.proofs.Common.{ℕ, List, sym, subst}
 use Rattle.plain_map.specs.declared.records.Record.{Record}
-use Rattle.history_order.specs.Closing.{read_in}
+use Rattle.table_model.specs.Closing.{read_in}
 use Rattle.history_order.specs.Fills.{IsFound, IsBegun}
 use Rattle.word_rows.specs.LayoutView.{shape_of}
 use Rattle.history_order.proofs.TablesTell.{bases_told, filled, begins}

@@ -5,7 +5,7 @@ use Rattle.plain_map.specs.declared.records.Record.{Record}
 use Rattle.plain_map.specs.declared.full.FullKind.TheVariants.{BucketRows}
 use Rattle.word_rows.specs.Shape.{Shape, count_of}
 use Rattle.word_rows.specs.LayoutView.{shape_of}
-use Rattle.history_order.specs.Closing.{log_of, read_in}
+use Rattle.table_model.specs.Closing.{log_of, read_in}
 use Rattle.history_order.specs.Filling.{leaves_from, exchanged_in}
 use Rattle.history_order.specs.Columns.{IsMade, after_all, base_in, is_caller, unit_at}
 use Rattle.history_order.specs.Fills.{AreUnits, AreWritten, version_leaves, exchanged_rows}

@@ -1,7 +1,7 @@
 use Rattle.std.proofs.Common.{ℕ, List, ◌≡◌, ◌<◌, ◌≤◌, ◌∙◌, ◌++◌, length, take, get_or, refl, sym, ap, subst, arith}
 use Rattle.std.specs.Prelude.{slice_set, true, flat_map}
 use Rattle.std.proofs.lemmas.List.{length-set, take_all}
-use Rattle.core_placing.proofs.Lists.{In}
+use Rattle.list_laws.proofs.Lists.{In}
 use Rattle.history_order.specs.Tables.{brought, firsts_of, marked}
 use Rattle.history_order.proofs.Firsts.{firsts_are, mark_more, bring_more, get_in}
 use Rattle.history_order.proofs.moves.place_version.Goals as goal

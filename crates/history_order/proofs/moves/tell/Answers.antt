@@ -1,10 +1,11 @@
 use Rattle.std.proofs.Common.{ℕ, List, ◌≡◌, ◌+◌, ◌-◌, ◌++◌, ◌∙◌, sym, ap, arith, append-nil}
 use Rattle.std.specs.Prelude.{slice_index}
 use Rattle.plain_map.specs.declared.records.TheConstants.{MOST_SEATS}
-use Rattle.history_order.specs.Closing.{read_in}
+use Rattle.table_model.specs.Closing.{read_in}
 use Rattle.history_order.specs.Tables.{all_told, told_with, count_with}
 use Rattle.history_order.proofs.Ranges.{flat_goes, flat_ends}
-use Rattle.history_order.proofs.Steps.{grows, set_done, set_rest}
+use Rattle.history_order.proofs.Steps.{set_done, set_rest}
+use Rattle.closed_words.proofs.LoopLemmas.{grows}
 use Rattle.history_order.proofs.moves.tell.Goals as goal
 
 pub loop-other-preserved : goal.loop-other-preserved

@@ -1,6 +1,6 @@
 use Rattle.std.proofs.Common.{ℕ, Bool, ◌+◌, ◌-◌, ◌∙◌, sym, arith}
 use Rattle.plain_map.specs.declared.records.TheConstants.{MOST_SEATS}
-use Rattle.history_order.specs.Closing.{read_in}
+use Rattle.table_model.specs.Closing.{read_in}
 use Rattle.history_order.specs.Tables.{is_none_or_next}
 use Rattle.history_order.proofs.Alone.{next_alone}
 use Rattle.history_order.proofs.Ranges.{range_goes, range_stops, all_ends}

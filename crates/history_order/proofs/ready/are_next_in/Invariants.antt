@@ -1,7 +1,7 @@
 use Rattle.std.proofs.Common.{◌≡◌, ◌-◌}
 use Rattle.std.specs.List.{list_all, range_with_len}
 use Rattle.plain_map.specs.declared.records.TheConstants.{MOST_SEATS}
-use Rattle.history_order.specs.Closing.{read_in}
+use Rattle.table_model.specs.Closing.{read_in}
 use Rattle.history_order.specs.Tables.{is_none_or_next, are_next_in}
 use Rattle.history_order.proofs.ready.are_next_in.Given as goal
 

@@ -1,5 +1,5 @@
 use Rattle.std.proofs.Common.{◌≡◌, ◌+◌, ◌<◌, ℕ, [], length, map, None, slice_index_or}
-use Rattle.history_order.specs.Closing.{log_of, read_in}
+use Rattle.table_model.specs.Closing.{log_of, read_in}
 use Rattle.history_order.proofs.row_columns.lists.Given as goal
 
 abbrev pub invariant-loop-seat : goal.invariant-loop-seat

@@ -1,7 +1,7 @@
 use Rattle.std.proofs.Common.{◌≡◌, ℕ, length, map, nat_lt, ◌&&◌, slice_index_or, false}
 use Rattle.std.specs.Prelude.{is_some}
 use Rattle.word_rows.specs.LayoutView.{shape_of}
-use Rattle.core_model.specs.Order.{new_number}
+use Rattle.table_model.specs.Order.{new_number}
 use Rattle.history_order.specs.Columns.{IsUnitPut, row_place}
 use Rattle.history_order.specs.declared.tables.Unit.TheVariants.{Row}
 use Rattle.history_order.proofs.Rows.{Went}

@@ -3,7 +3,7 @@ use Rattle.std.proofs.Common.{ℕ, List}
 use Rattle.plain_map.specs.declared.records.Record.{Record}
 use Rattle.word_rows.specs.Shape.{Shape}
 use Rattle.word_rows.specs.LayoutView.{shape_of}
-use Rattle.history_order.specs.Closing.{read_in}
+use Rattle.table_model.specs.Closing.{read_in}
 use Rattle.history_order.proofs.ToldOfRun.{told_of_run}
 use Rattle.history_order.proofs.run_order.order.Goals as goal
 

@@ -1,6 +1,6 @@
 use Rattle.std.proofs.Common.{ℕ, Bool, ◌+◌, ◌-◌, ◌∙◌, sym, arith}
 use Rattle.word_rows.specs.LayoutView.{shape_of}
-use Rattle.history_order.specs.Closing.{read_in}
+use Rattle.table_model.specs.Closing.{read_in}
 use Rattle.history_order.specs.Tables.{is_ready_in}
 use Rattle.history_order.proofs.Ranges.{find_here, find_later, find_ends}
 use Rattle.history_order.proofs.turns.next_seat.Goals as goal

@@ -1,6 +1,6 @@
 use Rattle.std.proofs.Common.{◌≡◌, [], ◌∷◌, length, refl, sym, ap, ◌∙◌, arith, append-nil, length-append}
 use Rattle.word_rows.specs.LayoutView.{shape_of}
-use Rattle.history_order.specs.Closing.{read_in}
+use Rattle.table_model.specs.Closing.{read_in}
 use Rattle.history_order.specs.declared.tables.Progress.{Progress}
 use Rattle.history_order.specs.Tables.{left_of}
 use Rattle.history_order.proofs.Runs.{runs_start, popped_inside, runs_drop, runs_row, runs_same, row_less, version_inside, version_rows, version_less, runs_version, runs_end, seat_few, unit_there, unit_can, call_less, runs_call}

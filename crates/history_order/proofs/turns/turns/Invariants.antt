@@ -1,6 +1,6 @@
 use Rattle.std.proofs.Common.{◌+◌, ◌*◌, ◌^◌, length}
 use Rattle.word_rows.specs.LayoutView.{shape_of}
-use Rattle.history_order.specs.Closing.{read_in}
+use Rattle.table_model.specs.Closing.{read_in}
 use Rattle.history_order.specs.Tables.{left_of}
 use Rattle.history_order.proofs.Runs.{Runs}
 use Rattle.history_order.proofs.turns.turns.Given as goal

@@ -7,7 +7,7 @@ use Rattle.plain_map.specs.declared.records.Record.{Record}
 use Rattle.step_counts.specs.declared.settings.Settings.{Settings}
 use Rattle.word_rows.specs.Shape.{Shape}
 use Rattle.word_rows.specs.LayoutView.{shape_of}
-use Rattle.history_order.specs.Closing.{log_of, read_in}
+use Rattle.table_model.specs.Closing.{log_of, read_in}
 use Rattle.history_order.specs.Columns.{after_all, look_place, numbered_from, version_place}
 use Rattle.history_order.specs.declared.tables.Unit.{Unit}
 use Rattle.history_order.specs.declared.tables.Unit.TheVariants.{Lookup, Version as VersionAt}

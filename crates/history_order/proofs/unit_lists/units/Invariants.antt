@@ -1,6 +1,6 @@
 use Rattle.std.proofs.Common.{◌≡◌, length, map}
 use Rattle.word_rows.specs.LayoutView.{shape_of}
-use Rattle.history_order.specs.Closing.{log_of, read_in}
+use Rattle.table_model.specs.Closing.{log_of, read_in}
 use Rattle.history_order.proofs.Rows.{Went, IsMore}
 use Rattle.history_order.proofs.unit_lists.units.Given as goal
 

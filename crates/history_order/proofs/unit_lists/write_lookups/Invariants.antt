@@ -1,5 +1,5 @@
 use Rattle.std.proofs.Common.{◌≡◌, ℕ, drop, length, slice_index_or, Some, None}
-use Rattle.history_order.specs.Closing.{records_there}
+use Rattle.table_model.specs.Closing.{records_there}
 use Rattle.history_order.specs.Columns.{after_all, look_place}
 use Rattle.history_order.specs.declared.tables.Unit.TheVariants.{Lookup}
 use Rattle.history_order.proofs.unit_lists.write_lookups.Given as goal

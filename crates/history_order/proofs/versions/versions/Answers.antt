@@ -7,7 +7,7 @@ use Rattle.word_rows.specs.LayoutView.{shape_of}
 use Rattle.history_order.specs.Columns.{IsMade}
 use Rattle.history_order.specs.Filling.{exchanged_in, exchanged_of, firsts_in}
 use Rattle.history_order.specs.declared.tables.Version.{Version}
-use Rattle.history_order.proofs.Loops.{grows}
+use Rattle.closed_words.proofs.LoopLemmas.{grows}
 use Rattle.history_order.proofs.Writes.{get_more, length_more}
 use Rattle.history_order.proofs.versions.versions.Goals as goal
 

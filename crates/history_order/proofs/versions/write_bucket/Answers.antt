@@ -4,7 +4,7 @@ use Rattle.std.specs.Prelude.{not}
 use Rattle.plain_map.specs.declared.full.FullKind.TheVariants.{BucketRows}
 use Rattle.word_rows.specs.Shape.{Shape, count_of}
 use Rattle.word_rows.specs.LayoutView.{shape_of}
-use Rattle.core_model.specs.Reading.{bucket_row, is_exchanged, line}
+use Rattle.table_model.specs.Reading.{bucket_row, is_exchanged, line}
 use Rattle.closed_words.proofs.LineLemmas.{find-none, find-end, find-here, find-later}
 use Rattle.history_order.specs.Filling.{while_true}
 use Rattle.history_order.proofs.Loops.{exchanged_ends, exchanged_stops, exchanged_goes}

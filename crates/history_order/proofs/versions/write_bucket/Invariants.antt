@@ -4,7 +4,7 @@ use Rattle.plain_map.specs.declared.records.Record.{Record}
 use Rattle.plain_map.specs.declared.full.FullKind.TheVariants.{BucketRows}
 use Rattle.word_rows.specs.Shape.{count_of}
 use Rattle.word_rows.specs.LayoutView.{shape_of}
-use Rattle.core_model.specs.Reading.{line, bucket_row, first_row, is_exchanged}
+use Rattle.table_model.specs.Reading.{line, bucket_row, first_row, is_exchanged}
 use Rattle.history_order.specs.Filling.{while_true, exchanged_of}
 use Rattle.history_order.specs.Fills.{AreWritten}
 use Rattle.history_order.proofs.versions.write_bucket.Given as goal

@@ -5,7 +5,7 @@ use Rattle.std.proofs.lemmas.List.{at_drop_more}
 use Rattle.word_rows.specs.Shape.{Shape}
 use Rattle.word_rows.specs.LayoutView.{shape_of}
 use Rattle.history_order.specs.Filling.{exchanged_of}
-use Rattle.history_order.proofs.Loops.{grows}
+use Rattle.closed_words.proofs.LoopLemmas.{grows}
 use Rattle.history_order.proofs.Rows.{first_goes}
 use Rattle.history_order.proofs.versions.write_buckets.Goals as goal
 

@@ -3,13 +3,15 @@ use Rattle.std.proofs.lemmas.List.{length-map}
 use Rattle.word_rows.specs.LayoutView.{shape_of}
 use Rattle.word_rows.specs.Places.{place}
 use Rattle.word_rows.specs.declared.addresses.Address.TheVariants.{DirectoryWord}
-use Rattle.core_model.specs.Directories.{DirectoryState}
+use Rattle.table_model.specs.Directories.{DirectoryState}
 use Rattle.dir_states.specs.Openings.{first_directory, first_leaves}
 use Rattle.dir_states.specs.Views.{as_leaf}
 use Rattle.opening_words.specs.Written.{written}
 use Rattle.opening_words.proofs.Dirt.{IsBlankBut, IsOfOpening}
 use Rattle.opening_words.proofs.ClearingLemmas.{leaf_cleared, opening_but, opening_cleared}
-use Rattle.opening_words.proofs.WritingLemmas.{directory_there, rows_there, words_there}
+use Rattle.word_rows.proofs.OpeningNumbers.{directory_there}
+use Rattle.word_rows.proofs.OpeningNumbers.{rows_there}
+use Rattle.word_rows.proofs.OpeningNumbers.{words_there}
 use Rattle.opening_words.proofs.clearing.clear_all.Goals as goal
 
 pub loop-number-init : goal.loop-number-init

@@ -6,13 +6,16 @@ use Rattle.word_rows.specs.Places.{place}
 use Rattle.word_rows.specs.declared.addresses.Address.TheVariants.{DirectoryWord}
 use Rattle.word_rows.specs.BucketWords.{IsBucket}
 use Rattle.bucket_states.specs.States.{row_of_state}
-use Rattle.core_model.specs.Directories.{DirectoryState}
-use Rattle.core_model.specs.Leaves.{NewLeaf}
-use Rattle.core_model.specs.Stores.{directory_words}
+use Rattle.table_model.specs.Directories.{DirectoryState}
+use Rattle.table_model.specs.Leaves.{NewLeaf}
+use Rattle.table_model.specs.Stores.{directory_words}
 use Rattle.dir_states.specs.Openings.{first_directory, first_leaves}
 use Rattle.dir_states.specs.Views.{as_leaf}
 use Rattle.opening_words.specs.Written.{written}
-use Rattle.opening_words.proofs.WritingLemmas.{all_written, directory_there, leaf_at, one_more_leaf, rows_there, words_there}
+use Rattle.opening_words.proofs.WritingLemmas.{all_written, leaf_at, one_more_leaf}
+use Rattle.word_rows.proofs.OpeningNumbers.{directory_there}
+use Rattle.word_rows.proofs.OpeningNumbers.{rows_there}
+use Rattle.word_rows.proofs.OpeningNumbers.{words_there}
 use Rattle.opening_words.proofs.writing.put_all.Goals as goal
 
 pub put_leaf-requires-clause-word : goal.put_leaf-requires-clause-word

@@ -2,7 +2,7 @@ use Rattle.std.proofs.Common.{◌≡◌, drop, length}
 use Rattle.plain_map.specs.Rows.{HasBucketRoom}
 use Rattle.word_rows.specs.LayoutView.{shape_of}
 use Rattle.word_rows.specs.Places.{word_count}
-use Rattle.core_model.specs.Stores.{with_puts}
+use Rattle.table_model.specs.Stores.{with_puts}
 use Rattle.dir_states.specs.Openings.{first_leaves}
 use Rattle.opening_words.proofs.WritingLemmas.{blank_words, leaves_from}
 use Rattle.opening_words.proofs.writing.put_all.Given as goal

@@ -1,7 +1,7 @@
 use Rattle.std.proofs.Common.{◌≡◌, ◌≤◌, ◌+◌, ◌++◌, [], length, take, drop, refl, ap, ◌∙◌, arith, length-append, length-drop, length-take-le}
 use Rattle.std.proofs.KnownBytes.{Consumes-nil}
 use Rattle.byte_window.specs.Window.{Held}
-use Rattle.byte_window.proofs.WindowFacts.{on_err}
+use Rattle.edge_traits.proofs.EdgeLemmas.{on_err}
 use Rattle.pcapng_reader.proofs.WaitFacts.{drops_end, drops_failed, drops_more, drops_none, drops_read}
 use Rattle.pcapng_reader.proofs.dropping.drop_behind.Goals as goal
 

@@ -1,6 +1,6 @@
 use Rattle.std.proofs.Common.{◌-◌, ℕ, List, Ok, ap, arith, sym, subst}
-use Rattle.byte_window.proofs.WindowFacts.{on_err}
 use Rattle.pcap_reader.specs.Reading.{Took}
+use Rattle.edge_traits.proofs.EdgeLemmas.{on_err}
 use Rattle.pcapng_reader.specs.declared.long.Awaited.{Awaited}
 use Rattle.pcapng_reader.specs.Waiting.{AwaitsTo, SeesLong}
 use Rattle.pcapng_reader.proofs.LongFacts.{drop_end, drop_failed, hold_end, hold_failed, long_end, second_end, second_failed}

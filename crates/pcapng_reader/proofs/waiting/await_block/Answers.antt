@@ -1,5 +1,6 @@
 use Rattle.std.proofs.Common.{◌≡◌, ◌≤◌, ℕ, ◌+◌, List, length, sym, ◌∙◌, subst, refl, arith}
-use Rattle.byte_window.proofs.WindowFacts.{gathered_none, gathers_more, on_err}
+use Rattle.byte_window.proofs.WindowFacts.{gathered_none, gathers_more}
+use Rattle.edge_traits.proofs.EdgeLemmas.{on_err}
 use Rattle.pcapng_reader.specs.declared.block.Seen.TheVariants as seen
 use Rattle.pcapng_reader.specs.Blocks.{Sees}
 use Rattle.pcapng_reader.proofs.WaitFacts.{awaits_behind, awaits_end, awaits_failed, awaits_none_behind, awaits_seen, cut_before, cut_held}

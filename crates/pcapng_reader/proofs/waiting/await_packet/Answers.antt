@@ -1,7 +1,7 @@
 use Rattle.std.proofs.Common.{◌≡◌, ◌+◌, ◌-◌, ℕ, List, drop, sym, ap, ◌∙◌, subst, arith}
 use Rattle.byte_window.specs.Window.{Held}
-use Rattle.byte_window.proofs.WindowFacts.{on_err}
 use Rattle.pcap_reader.specs.Reading.{Took}
+use Rattle.edge_traits.proofs.EdgeLemmas.{on_err}
 use Rattle.pcapng_reader.specs.Section.{State}
 use Rattle.pcapng_reader.specs.Blocks.{after}
 use Rattle.pcapng_reader.specs.Waiting.{PassesTo}

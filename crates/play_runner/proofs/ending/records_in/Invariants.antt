@@ -1,5 +1,5 @@
 use Rattle.std.proofs.Common.{◌≡◌, map, take}
-use Rattle.history_order.specs.Closing.{read_in}
+use Rattle.table_model.specs.Closing.{read_in}
 use Rattle.play_runner.proofs.ending.records_in.Given as goal
 
 abbrev pub invariant-loop-log : goal.invariant-loop-log

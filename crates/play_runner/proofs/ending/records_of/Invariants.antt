@@ -1,5 +1,5 @@
 use Rattle.std.proofs.Common.{◌≡◌, take}
-use Rattle.history_order.specs.Closing.{records_there}
+use Rattle.table_model.specs.Closing.{records_there}
 use Rattle.play_runner.proofs.ending.records_of.Given as goal
 
 abbrev pub invariant-loop-record : goal.invariant-loop-record

@@ -1,6 +1,6 @@
 -- The sum of so few slots fits.
 use Rattle.std.proofs.Common.{arith}
-use Rattle.core_model.specs.Schedules.{most_slots}
+use Rattle.table_model.specs.Schedules.{most_slots}
 use Rattle.play_runner.proofs.Numbers.{few_at, no_hand, rounds_few, sum_from, sum_past}
 use Rattle.play_runner.proofs.hands.most_rounds.Goals as goal
 

@@ -1,6 +1,6 @@
 -- The sum of so few calls fits.
 use Rattle.std.proofs.Common.{length, arith}
-use Rattle.core_model.specs.Schedules.{Hand}
+use Rattle.table_model.specs.Schedules.{Hand}
 use Rattle.play_runner.proofs.Numbers.{calls_few, no_hand, sum_from, sum_past}
 use Rattle.play_runner.proofs.hands.unbegun.Goals as goal
 

@@ -1,7 +1,7 @@
 -- The segments, and then the rounds.
 use Rattle.std.proofs.Common.{IfOk, map, subst}
-use Rattle.core_model.specs.Setup.{Setup}
-use Rattle.core_model.specs.Schedules.{Play, play_of}
+use Rattle.table_model.specs.Setup.{Setup}
+use Rattle.table_model.specs.Schedules.{Play, play_of}
 use Rattle.play_runner.specs.Played.{IsPlayed, as_segment}
 use Rattle.play_runner.specs.Hands.{as_hands}
 use Rattle.play_runner.proofs.Coming.{segments_done, whole}

@@ -1,7 +1,7 @@
 -- What ended with the event is told.
 use Rattle.std.proofs.Common.{◌++◌, sym, ap, ◌∙◌}
-use Rattle.core_world.specs.declared.values.Stepped.{Stepped}
-use Rattle.core_world.specs.Values.{CoreValue}
+use Rattle.core_steps.specs.declared.values.Stepped.{Stepped}
+use Rattle.core_steps.specs.Values.{CoreValue}
 use Rattle.play_runner.specs.Played.{outcome_in, outcomes_of}
 use Rattle.play_runner.proofs.Outcomes.{told_more}
 use Rattle.play_runner.proofs.slots.go_on.Goals as goal

@@ -1,6 +1,6 @@
 use Rattle.std.proofs.Common.{◌∙◌, ap, sym, nat_le}
 use Rattle.plain_map.specs.declared.records.Pending.{Pending}
-use Rattle.report_told.specs.Rules.{is_update}
+use Rattle.plain_map.specs.Calls.{is_update}
 use Rattle.report_check.proofs.WholeLemmas.{effect_none, effect_some, one_is}
 use Rattle.report_check.proofs.whole.is_effect.Goals as goal
 

@@ -1,7 +1,7 @@
 use Rattle.std.proofs.Common.{arith}
 use Rattle.std.proofs.lemmas.Fmt.{length-decimal-le}
 use Rattle.std.proofs.lemmas.List.{get_or_past}
-use Rattle.batch_orders.proofs.GoneOn.{index_with}
+use Rattle.batch_history.proofs.GoneOn.{index_with}
 use Rattle.report_text.proofs.CountLemmas.{length-with_counts}
 use Rattle.report_text.proofs.calls.count_on.Goals as goal
 

@@ -1,5 +1,5 @@
 use Rattle.std.proofs.Common.{ℕ, List, ◌++◌, decimal, sym, ap, ◌∙◌, append-nil, arith}
-use Rattle.batch_orders.specs.Batches.{with_counts}
+use Rattle.batch_history.specs.Batches.{with_counts}
 use Rattle.report_text.specs.Lines.{counts_word, text_in}
 use Rattle.report_text.proofs.CountLemmas.{counts_first, text_more}
 use Rattle.report_text.proofs.calls.put_counts.Goals as goal

@@ -1,5 +1,5 @@
 use Rattle.std.proofs.Common.{◌≡◌, ◌+◌, ◌*◌, ◌≤◌, ◌++◌}
-use Rattle.batch_orders.specs.Batches.{with_counts}
+use Rattle.batch_history.specs.Batches.{with_counts}
 use Rattle.report_text.specs.Lines.{counts_word, room, text_in}
 use Rattle.report_text.proofs.calls.put_counts.Given as goal
 

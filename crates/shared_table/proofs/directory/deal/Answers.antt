@@ -1,5 +1,5 @@
 use Rattle.std.proofs.Common.{◌<◌, ◌∙◌, sym, arith}
-use Rattle.core_model.specs.Setup.{Setup, seats_of}
+use Rattle.table_model.specs.Setup.{Setup, seats_of}
 use Rattle.shared_table.specs.Rule.{plain}
 use Rattle.shared_table.specs.Values.{TableValue}
 use Rattle.shared_table.proofs.Parts.{splits, dealt, reached_fresh, one_more}

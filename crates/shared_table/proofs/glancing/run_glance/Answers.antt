@@ -1,7 +1,7 @@
 use Rattle.std.proofs.Common.{sym, ap, ◌∙◌, subst}
 use Rattle.plain_map.specs.declared.keys.Key.{Key}
-use Rattle.core_model.specs.Worlds.{IsRun}
-use Rattle.seat_machine.specs.Going.{Going}
+use Rattle.table_model.specs.Worlds.{IsRun}
+use Rattle.seat_calls.specs.Going.{Going}
 use Rattle.shared_table.specs.Rule.{M, plain}
 use Rattle.shared_table.specs.Glancing.{Start, front_of}
 use Rattle.shared_table.specs.Seen.{WasSeen}

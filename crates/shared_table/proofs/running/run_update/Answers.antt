@@ -1,5 +1,5 @@
 use Rattle.std.proofs.Common.{sym, ap, ◌∙◌, subst}
-use Rattle.core_model.specs.Shown.{Holding}
+use Rattle.table_model.specs.Shown.{Holding}
 use Rattle.shared_table.specs.SeatValues.{SeatValue}
 use Rattle.shared_table.specs.Calls.{Ended, holding_of}
 use Rattle.shared_table.proofs.StepLemmas.{begins_under}

@@ -1,6 +1,6 @@
 use Rattle.std.proofs.Common.{ℕ, List, [], ◌∷◌, ◌++◌, sym, ap, ◌∙◌, rules, arith}
 use Rattle.std.specs.Mem.Slots.{slots_items}
-use Rattle.sim_totals.proofs.Gathering.{take_at}
+use Rattle.list_laws.proofs.Cuts.{take_at}
 use Rattle.sim_totals.proofs.table.read_all.Goals as goal
 
 pub loop-i-preserved : goal.loop-i-preserved

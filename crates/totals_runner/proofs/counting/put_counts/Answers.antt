@@ -1,6 +1,7 @@
 -- One seat's count more is added.
 use Rattle.std.proofs.Common.{◌<◌, length, sym, arith}
-use Rattle.totals_runner.proofs.CountLemmas.{next_fits, with_next, with_none}
+use Rattle.batch_history.proofs.AddedCounts.{with_next, with_none}
+use Rattle.totals_runner.proofs.CountLemmas.{next_fits}
 use Rattle.totals_runner.proofs.counting.put_counts.Goals as goal
 
 pub loop-seat-init : goal.loop-seat-init

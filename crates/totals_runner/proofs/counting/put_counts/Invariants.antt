@@ -1,5 +1,5 @@
 use Rattle.std.proofs.Common.{◌≡◌, take}
-use Rattle.batch_orders.specs.Batches.{with_counts}
+use Rattle.batch_history.specs.Batches.{with_counts}
 use Rattle.totals_runner.proofs.counting.put_counts.Given as goal
 
 abbrev pub invariant-loop-seat : goal.invariant-loop-seat

@@ -42,8 +42,8 @@ loop-frame-preserved c =
     let inside : seat < length lists =
     omega (arith, below, many seats (take c.loop-frame.frame-index frames) lists c.loop-frame.invariant) in
     let none : Frame = record { packet = 0; length = 0; first = [] } in
-    deal_more seats frames c.loop-frame.frame-index _ none seat (map (λ (share : Vec Frame Global). share.items) lists) _
-    c.loop-frame-test.true (get_or_default frames c.loop-frame.frame-index none _ c.loop-frame-test.true)
+    deal_more seats frames c.loop-frame.frame-index _ none seat (map (λ (share : Vec Frame Global). share.items) lists)
+    _ c.loop-frame-test.true (get_or_default frames c.loop-frame.frame-index none _ c.loop-frame-test.true)
     (ap (λ (n : ℕ). n % seats) c.saturating_sub.ensures) below c.loop-frame.invariant
     (pushed lists seat c.index_mut.result.now c.push.new.self _ inside c.index_mut.ensures.value
     c.in_ok-push.ensures.items)

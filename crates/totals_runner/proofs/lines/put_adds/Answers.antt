@@ -42,5 +42,5 @@ loop-place-preserved c = λ answers long turns.
     ∙ next.is a in
     let of : a.seat ≡ seat = ap (λ (x : Added). x.seat) is ∙ turns.turns place a less in
     told_more seats c.args.before.now c.args.most c.args.text.now.items c.loop-place.text.items
-    c.add_text.new.out.items c.loop-place.steps c.max-steps.result c.loop-place.taken _ place answers a seat told less is
-    of few c.in_ok-add_text.ensures.appended c.max-steps.ensures refl
+    c.add_text.new.out.items c.loop-place.steps c.max-steps.result c.loop-place.taken _ place answers a seat told less
+    is of few c.in_ok-add_text.ensures.appended c.max-steps.ensures refl

@@ -6,7 +6,7 @@ use Rattle.report_text.specs.declared.parts.Ending.{Ending}
 use Rattle.report_text.specs.Adds.{totals_head}
 use Rattle.capture_loop.specs.declared.stop.Stop.{Stop}
 use Rattle.capture_loop.specs.declared.stop.Stop.TheVariants.{Memory}
-use Rattle.capture_loop.specs.Leaves.{LeavesAll, Lines, Reports}
+use Rattle.capture_loop.specs.Leaves.{LoopLeavesAll, Lines, Reports}
 use Rattle.capture_loop.proofs.LeavesLemmas.{Keeps-same, leaves_nothing}
 use Rattle.totals_runner.specs.Told.{IsTotalsLines, IsTotalsReport}
 use Rattle.totals_runner.proofs.JobLemmas.{begun}
@@ -15,10 +15,10 @@ use Rattle.totals_runner.proofs.running.count_input.Goals as goal
 -- memory ran out before anything was read
 leaves_none : (lines : Lines) (report : Reports) (read_failed : Type 0) (first left before after : Option (List ℕ))
     (result : Result Ending Stop) → IsErr result × IsErrAnd result (λ (stop : Stop). stop ≡ Memory) →
-    Keeps before after → LeavesAll lines report read_failed first left before after result
+    Keeps before after → LoopLeavesAll lines report read_failed first left before after result
 leaves_none lines report read_failed first left before after (Ok ending) is kept = absurd (cc)
 leaves_none lines report read_failed first left before after (Err stop) is kept =
-    subst (λ (s : Stop). LeavesAll lines report read_failed first left before after (Err s)) (sym is.1)
+    subst (λ (s : Stop). LoopLeavesAll lines report read_failed first left before after (Err s)) (sym is.1)
     (leaves_nothing lines report read_failed first left before after kept)
 
 pub returns-in_err-totals_head_text-clause-leaves : goal.returns-in_err-totals_head_text-clause-leaves

@@ -5,8 +5,8 @@ use Rattle.std.proofs.lemmas.List.Elements.{length_all_zip}
 use Rattle.sim_totals.specs.Values.{TableValue}
 use Rattle.packet_adders.specs.declared.workers.AddWorker.{AddWorker}
 use Rattle.packet_adders.specs.Work.{IsDone}
+use Rattle.list_laws.proofs.Cuts.{whole_slice}
 use Rattle.totals_runner.proofs.JobLemmas.{closed_going, follows, opened_at}
-use Rattle.totals_runner.proofs.SeatLemmas.{whole_slice}
 use Rattle.totals_runner.proofs.tests.serve.Goals as goal
 
 pub returns : goal.returns
@@ -21,5 +21,5 @@ returns g c =
     (λ closes before packets gone has.
     closed_going c.args.counting.now c.close_batch.new.self t _ c.in_ok-table.dealt c.args.text.now.items
     c.close_batch.new.text.items closes ws before packets gone
-    (opened_at c.args.counting.now c.args.frames.now t ws c.in_ok-table.dealt c.in_ok-table.ensures.opened before packets
-    gone has) (subst (AllZip (IsDone t) ws) (sym (whole_slice ws vs _ c.in_ok-table.workers.ok.0 long)) zip))
+    (opened_at c.args.counting.now c.args.frames.now t ws c.in_ok-table.dealt c.in_ok-table.ensures.opened before
+    packets gone has) (subst (AllZip (IsDone t) ws) (sym (whole_slice ws vs _ c.in_ok-table.workers.ok.0 long)) zip))

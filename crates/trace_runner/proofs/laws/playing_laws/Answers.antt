@@ -4,8 +4,8 @@ use Rattle.trace_runner.proofs.laws.playing_laws.Goals as goal
 
 pub returns-clause-right : goal.returns-clause-right
 returns-clause-right c =
-    plays_are_right c.schedule_laws.ensures.runs c.schedule_laws.ensures.end c.order_laws.ensures.legal
-    c.order_laws.ensures.after c.order_laws.ensures.whole c.end_laws.ensures.pairs c.end_laws.ensures.depth
+    plays_are_right c.schedule_laws.ensures.runs c.schedule_laws.ensures.end c.one_order_laws.ensures.legal
+    c.one_order_laws.ensures.after c.one_order_laws.ensures.whole c.end_laws.ensures.pairs c.end_laws.ensures.depth
     c.warrant_laws.ensures.warranted c.cover_laws.ensures.cover c.step_laws.ensures.bounded
 
 pub returns-clause-answered : goal.returns-clause-answered

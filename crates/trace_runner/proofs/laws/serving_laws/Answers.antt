@@ -1,7 +1,7 @@
 use Rattle.std.proofs.Common.{◌≡◌, refl, arith}
 use Rattle.std.proofs.lemmas.List.Elements.{All-replicate}
 use Rattle.batch_answers.specs.Answers.{AreNone}
-use Rattle.trace_runner.specs.Served.{no_counts}
+use Rattle.batch_history.specs.Batches.{no_counts}
 use Rattle.trace_runner.proofs.ServedLines.{lines_counted}
 use Rattle.trace_runner.proofs.ShortLines.{lines_within}
 use Rattle.trace_runner.proofs.laws.serving_laws.Goals as goal

@@ -3,15 +3,17 @@ use Rattle.std.proofs.Common.{subst, sym}
 use Rattle.std.specs.Io.KnownBytes.{Appends}
 use Rattle.edge_traits.specs.Edge.{AppendsFront, Rose}
 use Rattle.trace_runner.specs.Playing.{LeavesPlayed}
-use Rattle.trace_runner.proofs.EndLemmas.{Keeps-same}
+use Rattle.capture_loop.proofs.LeavesLemmas.{Keeps-same}
 use Rattle.trace_runner.proofs.PlayLemmas.{LeavesPlayed-front, LeavesPlayed-nothing, LeavesPlayed-whole}
 use Rattle.trace_runner.proofs.playing.play.Goals as goal
 
 pub returns-in_default-clause-leaves : goal.returns-in_default-clause-leaves
 returns-in_default-clause-leaves g c =
-    LeavesPlayed-nothing c.args.plan.now
-    (Rose (g.S.Source.faults c.args.source.now) (g.S.Source.faults c.read_input.new.source)) (g.S.Source.left c.args.source.now) (g.S.Source.left c.read_input.new.source)
-    (g.K.Sink.put c.args.sink.now) (g.K.Sink.put c.args.sink.now) (Keeps-same (g.K.Sink.put c.args.sink.now))
+    let first = g.S.Source.left c.args.source.now in
+    let left = g.S.Source.left c.read_input.new.source in
+    let before = g.K.Sink.put c.args.sink.now in
+    let failed = Rose (g.S.Source.faults c.args.source.now) (g.S.Source.faults c.read_input.new.source) in
+    LeavesPlayed-nothing c.args.plan.now failed first left before before (Keeps-same before)
 
 pub returns-in-Ok-write_all-clause-leaves : goal.returns-in-Ok-write_all-clause-leaves
 returns-in-Ok-write_all-clause-leaves g c =

@@ -2,9 +2,9 @@
 use Rattle.std.proofs.Common.{◌≡◌, ◌<◌, ◌∙◌, ℕ, List, [], Vec, Global, Err, All, ap, subst, sym, length, map, vec_len, arith}
 use Rattle.plain_map.specs.declared.calls.Call.{Call}
 use Rattle.step_counts.specs.declared.rows.SeatRows.{SeatRows}
-use Rattle.core_model.specs.Setup.{IsSetup}
-use Rattle.core_world.specs.Values.{CoreValue, setup_of}
-use Rattle.core_orders.proofs.Reopens.{no_pair_lacks_room}
+use Rattle.table_model.specs.Setup.{IsSetup}
+use Rattle.core_steps.specs.Values.{CoreValue, setup_of}
+use Rattle.order_laws.proofs.Reopens.{no_pair_lacks_room}
 use Rattle.batch_rows.specs.declared.rows.TheConstants.{CALL_LIMIT}
 use Rattle.batch_runner.specs.declared.service.Service.{Service}
 use Rattle.batch_runner.specs.Served.{rules_of}

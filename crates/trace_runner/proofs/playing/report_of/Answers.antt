@@ -7,7 +7,7 @@ use Rattle.flow_keys.specs.FlowText.{HasText}
 use Rattle.report_text.specs.declared.parts.Head.{Head}
 use Rattle.report_told.specs.Rules.{IsHead, IsTail}
 use Rattle.report_text.specs.Report.{head_line, session_line, tail_lines}
-use Rattle.core_model.specs.Schedules.{CanPlay}
+use Rattle.table_model.specs.Schedules.{CanPlay}
 use Rattle.play_runner.specs.declared.values.Played.{Played}
 use Rattle.play_runner.specs.Played.{IsPlayed}
 use Rattle.batch_runner.specs.declared.service.Service.{Service}

@@ -4,7 +4,7 @@ use Rattle.trace_runner.specs.Headline.{LeavesAll, LeavesMade, LeavesTried}
 use Rattle.trace_runner.specs.Playing.{LeavesPlayed}
 use Rattle.trace_runner.specs.Totalled.{LeavesTotals}
 use Rattle.edge_traits.specs.Edge.{Rose}
-use Rattle.trace_runner.proofs.EndLemmas.{Keeps-same}
+use Rattle.capture_loop.proofs.LeavesLemmas.{Keeps-same}
 use Rattle.trace_runner.proofs.HeadlineLemmas.{leaves_nothing}
 use Rattle.trace_runner.proofs.ExactLemmas.{Leaves-exact}
 use Rattle.trace_runner.proofs.JudgedLemmas.{check_exact, check_nothing}
@@ -20,7 +20,9 @@ same_plan is = cc
 pub returns-in-Ok-clause-headline : goal.returns-in-Ok-clause-headline
 returns-in-Ok-clause-headline g c = λ plan asked serves.
     let same : c.in-Ok.plan ≡ plan = same_plan (sym c.in-Ok.ensures.answers ∙ asked) in
-    subst (λ (p : Plan). LeavesAll p (Rose (g.S.Source.faults c.args.source.now) (g.S.Source.faults c.run_plan.new.source)) (g.S.Source.left c.args.source.now) (g.S.Source.left c.run_plan.new.source)
+    subst (λ (p : Plan). LeavesAll p
+    (Rose (g.S.Source.faults c.args.source.now) (g.S.Source.faults c.run_plan.new.source))
+    (g.S.Source.left c.args.source.now) (g.S.Source.left c.run_plan.new.source)
     (g.K.Sink.put c.args.sink.now) (g.K.Sink.put c.run_plan.new.sink) c.run_plan.result) same
     (c.run_plan.ensures.headline (ap (λ (p : Plan). p.mode) same ∙ serves))
 
@@ -34,7 +36,9 @@ returns-in-Ok-clause-exact g c = λ plan bytes packets ending asked serves told 
 pub returns-in-Ok-clause-played : goal.returns-in-Ok-clause-played
 returns-in-Ok-clause-played g c = λ plan asked plays.
     let same : c.in-Ok.plan ≡ plan = same_plan (sym c.in-Ok.ensures.answers ∙ asked) in
-    subst (λ (p : Plan). LeavesPlayed p (Rose (g.S.Source.faults c.args.source.now) (g.S.Source.faults c.run_plan.new.source)) (g.S.Source.left c.args.source.now) (g.S.Source.left c.run_plan.new.source)
+    subst (λ (p : Plan). LeavesPlayed p
+    (Rose (g.S.Source.faults c.args.source.now) (g.S.Source.faults c.run_plan.new.source))
+    (g.S.Source.left c.args.source.now) (g.S.Source.left c.run_plan.new.source)
     (g.K.Sink.put c.args.sink.now) (g.K.Sink.put c.run_plan.new.sink) c.run_plan.result) same
     (c.run_plan.ensures.played (ap (λ (p : Plan). p.mode) same ∙ plays))
 
@@ -47,7 +51,8 @@ returns-in-Ok-clause-exact_play g c = λ plan bytes packets ending asked plays t
 
 pub returns-in-Err-Memory-clause-played : goal.returns-in-Err-Memory-clause-played
 returns-in-Err-Memory-clause-played g c = λ plan asked plays.
-    LeavesPlayed-nothing plan (Rose (g.S.Source.faults c.args.source.now) (g.S.Source.faults c.args.source.now)) (g.S.Source.left c.args.source.now) (g.S.Source.left c.args.source.now)
+    LeavesPlayed-nothing plan (Rose (g.S.Source.faults c.args.source.now) (g.S.Source.faults c.args.source.now))
+    (g.S.Source.left c.args.source.now) (g.S.Source.left c.args.source.now)
     (g.K.Sink.put c.args.sink.now) (g.K.Sink.put c.args.sink.now) (Keeps-same (g.K.Sink.put c.args.sink.now))
 
 pub returns-in-Ok-clause-made : goal.returns-in-Ok-clause-made
@@ -61,7 +66,8 @@ returns-in-Ok-clause-made g c = λ plan asked makes.
 
 pub returns-in-Err-Memory-clause-headline : goal.returns-in-Err-Memory-clause-headline
 returns-in-Err-Memory-clause-headline g c = λ plan asked serves.
-    leaves_nothing plan (Rose (g.S.Source.faults c.args.source.now) (g.S.Source.faults c.args.source.now)) (g.S.Source.left c.args.source.now) (g.S.Source.left c.args.source.now)
+    leaves_nothing plan (Rose (g.S.Source.faults c.args.source.now) (g.S.Source.faults c.args.source.now))
+    (g.S.Source.left c.args.source.now) (g.S.Source.left c.args.source.now)
     (g.K.Sink.put c.args.sink.now) (g.K.Sink.put c.args.sink.now) (Keeps-same (g.K.Sink.put c.args.sink.now))
 
 pub returns-in-Ok-clause-tried : goal.returns-in-Ok-clause-tried
@@ -77,7 +83,8 @@ returns-in-Ok-clause-tried g c = λ plan asked tries.
 pub returns-in-Ok-clause-totals : goal.returns-in-Ok-clause-totals
 returns-in-Ok-clause-totals g c = λ plan asked counts.
     let same : c.in-Ok.plan ≡ plan = same_plan (sym c.in-Ok.ensures.answers ∙ asked) in
-    subst (λ (p : Plan). LeavesTotals p (Rose (g.S.Source.faults c.args.source.now) (g.S.Source.faults c.run_plan.new.source))
+    subst (λ (p : Plan). LeavesTotals p
+    (Rose (g.S.Source.faults c.args.source.now) (g.S.Source.faults c.run_plan.new.source))
     (g.S.Source.left c.args.source.now) (g.S.Source.left c.run_plan.new.source) (g.K.Sink.put c.args.sink.now)
     (g.K.Sink.put c.run_plan.new.sink) c.run_plan.result) same
     (c.run_plan.ensures.totals (ap (λ (p : Plan). p.mode) same ∙ counts))

@@ -1,6 +1,4 @@
-use Rattle.std.proofs.Common.{◌≡◌, ℕ, ◌+◌, ◌*◌, ◌<◌, get_or, vec_capacity, vec_len}
-use Rattle.step_counts.specs.declared.TheConstants.{ITEM_WORDS}
-use Rattle.plain_map.specs.declared.keys.TheConstants.{KEY_WORDS}
+use Rattle.std.proofs.Common.{◌≡◌, ℕ, ◌<◌, vec_capacity, vec_len}
 use Rattle.word_rows.specs.BucketPlaces.{ItemStands}
 use Rattle.word_rows.specs.BucketWords.{items_of_words}
 use Rattle.word_rows.proofs.bucket_parts.read_items.Given as goal

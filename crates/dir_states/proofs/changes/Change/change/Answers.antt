@@ -1,8 +1,8 @@
 use Rattle.std.proofs.Common.{◌≤◌, ◌^◌, All, List, map, sym, subst, arith}
 use Rattle.std.specs.Prelude.{vec_capacity}
 use Rattle.std.proofs.lemmas.List.Elements.{All-map}
-use Rattle.core_model.specs.DirectoryChange.{depth_after}
-use Rattle.core_model.specs.Leaves as M
+use Rattle.table_model.specs.DirectoryChange.{depth_after}
+use Rattle.table_model.specs.Leaves as M
 use Rattle.dir_states.specs.declared.values.NewLeaf.{NewLeaf}
 use Rattle.dir_states.specs.Views.{as_directory, as_leaf}
 use Rattle.dir_states.proofs.NumberLemmas.{depth_after-least, fewer_places}

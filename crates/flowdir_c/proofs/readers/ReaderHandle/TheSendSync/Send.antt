@@ -17,7 +17,8 @@ use Rattle.flowdir_c.specs.contracts.readers.ReaderHandle.{the_row, the_type}
 
 held_keyless : (p : Ptr) (xs : List holder.the_row.Denot) → Keyless (handle_owns holder.the_row p xs)
 held_keyless p [] = tt
-held_keyless p (x ∷ _) = (lies holder.the_row holder_crosses.the_send p x, frees.frees the_heap (raw (lone holder.the_row.mir)) p)
+held_keyless p (x ∷ _) =
+    (lies holder.the_row holder_crosses.the_send p x, frees.frees the_heap (raw (lone holder.the_row.mir)) p)
 
 pub send : IsSend the_row
 send = let O = the_type in let ps : IsSend RawPtr = search sendable in

@@ -1,6 +1,6 @@
 use Rattle.std.proofs.Common.{◌≡◌, sym, subst, ap, ◌∙◌}
 use Rattle.std.specs.Prelude.{All, IfSome}
-use Rattle.core_model.specs.Setup.{seats_of}
+use Rattle.table_model.specs.Setup.{seats_of}
 use Rattle.shared_table.specs.Values.{IsNew, IsOf, Ran, TableValue}
 use Rattle.flowdir_c.specs.Shelves.{ShelfValue}
 use Rattle.flowdir_c.specs.Insides.{table_in}

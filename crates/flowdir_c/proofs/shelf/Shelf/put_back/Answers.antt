@@ -1,9 +1,10 @@
 use Rattle.std.proofs.Common.{sym, ap, ◌∙◌, subst}
 use Rattle.std.specs.Prelude.{All}
 use Rattle.shared_table.specs.Values.{IsNew, TableValue}
+use Rattle.list_laws.proofs.Options.{some_same}
 use Rattle.flowdir_c.specs.Insides.{table_in}
 use Rattle.flowdir_c.specs.Shelves.{ShelfValue}
-use Rattle.flowdir_c.proofs.ShelfLemmas.{if_some, some_same}
+use Rattle.flowdir_c.proofs.ShelfLemmas.{if_some}
 use Rattle.flowdir_c.proofs.shelf.Shelf.put_back.Goals as goal
 
 -- the seat that is put back is a new one of this table

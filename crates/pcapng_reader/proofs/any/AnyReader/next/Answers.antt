@@ -1,5 +1,5 @@
 use Rattle.std.proofs.Common.{sym, ap, ◌∙◌, Ok, Err}
-use Rattle.pcapng_reader.specs.declared.fault.AnyFault.TheVariants.{Capture}
+use Rattle.capture_faults.specs.declared.any_fault.AnyFault.TheVariants.{Capture}
 use Rattle.pcapng_reader.specs.Inner.{of_savefile, reading_of}
 use Rattle.pcapng_reader.proofs.AnyFacts.{answers_item, answers_refused, answers_same}
 use Rattle.pcapng_reader.proofs.any.AnyReader.next.Goals as goal

@@ -1,6 +1,6 @@
 -- A round does nothing where no seat does.
 use Rattle.std.proofs.Common.{arith}
-use Rattle.core_schedules.proofs.Skipped.{round_stays}
+use Rattle.play_laws.proofs.Skipped.{round_stays}
 use Rattle.play_runner.specs.Plays.{play_in}
 use Rattle.play_runner.proofs.turns.Playing.all_done.Goals as goal
 

@@ -1,6 +1,6 @@
 -- The seats before this one do nothing.
 use Rattle.std.proofs.Common.{◌≡◌, ℕ, ◌<◌}
-use Rattle.core_model.specs.Schedules.{slot}
+use Rattle.table_model.specs.Schedules.{slot}
 use Rattle.play_runner.specs.Plays.{play_in}
 use Rattle.play_runner.proofs.turns.Playing.all_done.Given as goal
 

@@ -1,8 +1,8 @@
 -- A play before its first event.
 use Rattle.std.proofs.Common.{map, sym, ap, ◌∙◌, subst}
-use Rattle.core_schedules.specs.Good.{IsGood}
-use Rattle.core_schedules.proofs.Ends.{first_good}
-use Rattle.core_world.specs.Values.{CoreValue}
+use Rattle.play_laws.specs.Good.{IsGoodPlay}
+use Rattle.play_laws.proofs.Ends.{first_good}
+use Rattle.core_steps.specs.Values.{CoreValue}
 use Rattle.play_runner.specs.Played.{outcomes_of}
 use Rattle.play_runner.specs.Hands.{as_hands}
 use Rattle.play_runner.proofs.Coming.{opens}
@@ -17,7 +17,7 @@ returns-clause-play c =
 
 pub returns-clause-stands : goal.returns-clause-stands
 returns-clause-stands c = record {
-  good = subst (IsGood c.args.core.setup)
+  good = subst (IsGoodPlay c.args.core.setup)
       (sym (opens c.args.core (as_hands c.in_ok-hands.hands.items) c.settings.result.seats
       (map (λ own. own.items) c.args.calls.now) c.args.stops.now c.requires.opened
       (ap (λ (s : Settings). s.seats) c.settings.ensures) c.in_ok-hands.ensures))

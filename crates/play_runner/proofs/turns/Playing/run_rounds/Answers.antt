@@ -1,7 +1,7 @@
 -- One round after the other.
 use Rattle.std.proofs.Common.{List, refl, sym, ap, ◌∙◌, inl, inr}
 use Rattle.step_counts.specs.declared.settings.Settings.{Settings}
-use Rattle.core_model.specs.Setup.{Setup, seats_of}
+use Rattle.table_model.specs.Setup.{Setup, seats_of}
 use Rattle.play_runner.specs.declared.hands.Hand.{Hand}
 use Rattle.play_runner.specs.Hands.{as_hands, rounds_of}
 use Rattle.play_runner.proofs.Coming.{round_on, rounds_done, rounds_in, rounds_out}

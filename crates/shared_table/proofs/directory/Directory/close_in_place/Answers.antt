@@ -1,6 +1,6 @@
 use Rattle.std.proofs.Common.{◌≡◌, ◌∙◌, length, ap, sym, subst, arith}
 use Rattle.std.specs.Mem.Slots.{slots_counts, slots_items}
-use Rattle.core_model.specs.Setup.{Setup, seats_of}
+use Rattle.table_model.specs.Setup.{Setup, seats_of}
 use Rattle.word_rows.specs.Places.{word_count}
 use Rattle.shared_table.specs.Rule.{plain}
 use Rattle.shared_table.specs.Values.{TableValue, Ran}

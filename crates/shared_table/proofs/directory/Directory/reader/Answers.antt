@@ -1,7 +1,7 @@
-use Rattle.std.proofs.Common.{◌≡◌, ℕ, [], ◌∷◌, sym, ap, ◌∙◌, arith}
+use Rattle.std.proofs.Common.{◌≡◌, [], ◌∷◌, sym, ap, ◌∙◌, arith}
 use Rattle.word_rows.specs.declared.addresses.Address.TheVariants.{Root}
 use Rattle.word_rows.specs.LayoutView.{shape_of}
-use Rattle.core_model.specs.Setup.{Setup, seats_of}
+use Rattle.table_model.specs.Setup.{Setup, seats_of}
 use Rattle.shared_table.specs.Fronts.{Front}
 use Rattle.shared_table.specs.Rule.{M, plain}
 use Rattle.shared_table.specs.Seating.{fresh}

@@ -1,8 +1,8 @@
 use Rattle.std.proofs.Common.{◌≡◌, ◌++◌, [], ◌∷◌, List, subst, sym}
 use Rattle.std.proofs.lemmas.List.Elements.{All-push, All-same}
 use Rattle.step_counts.specs.declared.settings.Settings.{Settings}
-use Rattle.seat_machine.specs.Rooms.{HasAllRoom}
-use Rattle.seat_machine.specs.declared.room.Room.{Room}
+use Rattle.seat_calls.specs.Rooms.{HasAllRoom}
+use Rattle.seat_calls.specs.declared.room.Room.{Room}
 use Rattle.shared_table.proofs.rooms.Rooms.keep.Goals as goal
 
 pub invariant_of-self : goal.invariant_of-self

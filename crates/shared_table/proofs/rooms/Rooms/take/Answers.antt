@@ -1,7 +1,7 @@
 use Rattle.std.proofs.Common.{Some, subst}
 use Rattle.std.proofs.lemmas.List.Elements.{All-pop}
 use Rattle.step_counts.specs.declared.settings.Settings.{Settings}
-use Rattle.seat_machine.specs.Rooms.{HasAllRoom}
+use Rattle.seat_calls.specs.Rooms.{HasAllRoom}
 use Rattle.shared_table.proofs.rooms.Rooms.take.Goals as goal
 
 pub returns : goal.returns

@@ -2,16 +2,12 @@ use Rattle.std.proofs.Common.{◌≡◌, ℕ, List, ◌++◌, length, take, drop
 use Rattle.std.proofs.lemmas.List.{take-append-le, take_all}
 use Rattle.std.proofs.lemmas.List.Elements.{All-same}
 use Rattle.shared_table.specs.declared.tests.meetings.Worker.{Worker}
-use Rattle.shared_table.specs.SeatValues.{SeatValue}
-use Rattle.shared_table.specs.Values.{IsNew, IsOf, new_seats}
-use Rattle.shared_table.proofs.TestLemmas.{all_new, length-new_seats}
+use Rattle.shared_table.specs.Values.{IsOf}
 use Rattle.shared_table.proofs.tests.meetings.met.Goals as goal
 
 pub workers_of-requires : goal.workers_of-requires
 workers_of-requires g c = record {
-  seats = All-same (IsNew c.in-Ok.directory) c.in-Ok.seats.items
-      (new_seats c.in-Ok.directory 0 c.args.settings.now.seats)
-      c.in-Ok.ensures.seats (all_new c.in-Ok.directory 0 c.args.settings.now.seats);
+  seats = c.in-Ok.ensures.new;
 }
 
 -- a list that was written whole
@@ -38,7 +34,6 @@ close-requires-clause-all g c = omega (
   c.in_ok-seats.ensures.count,
   c.in_ok-workers.ensures.count,
   c.in-Ok.seats.ok.0,
-  ap (length {A = SeatValue}) c.in-Ok.ensures.seats,
-  length-new_seats c.in-Ok.directory 0 c.args.settings.now.seats,
+  c.in-Ok.ensures.count,
   c.in-Ok.ensures.setup,
 )

@@ -178,7 +178,8 @@ returns-clause-counted c = λ started batches packets kept o zip.
         most = then_most job batches kept before at packets few o.frames o.are (listed logs) closed batch of
             c.in_ok-self.field-0 told.1;
         packets = kept.packets ++ packets;
-        many = then_many job batches kept before at packets few o.frames o.are (listed logs) closed batch of refl _ more;
+        many =
+            then_many job batches kept before at packets few o.frames o.are (listed logs) closed batch of refl _ more;
         make = then_make job batches kept before at packets few o.frames o.are (listed logs) closed batch of;
         short = All-append (λ (packet : List ℕ). length packet ≤ 262144) kept.packets packets kept.short o.short;
         few_packets = omega (arith, length-append kept.packets packets, kept.many, few);

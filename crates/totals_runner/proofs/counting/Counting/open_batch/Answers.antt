@@ -38,8 +38,8 @@ counts_of-requires c =
     let shares : Vec (Vec Frame Global) Global = c.in_ok-shares.shares in
     let are = dealt_are c.args.self.now.seats c.args.frames.now c.deref.result.now shares c.deref.ensures.value
     c.in_ok-shares.ensures in
-    let few = short_shares c.args.self.now.seats c.args.self.now.packets c.args.frames.now going.1 shares.items are going.3
-    (omega (arith, going.4)) in
+    let few = short_shares c.args.self.now.seats c.args.self.now.packets c.args.frames.now going.1 shares.items are
+    going.3 (omega (arith, going.4)) in
     subst (All (λ (share : Vec Frame Global). vec_len share < 2 ^ 32)) (sym c.deref-2.ensures.value)
     (All-weaker (λ (share : Vec Frame Global). vec_len share ≤ 4000000)
     (λ (share : Vec Frame Global). vec_len share < 2 ^ 32) (λ share less. omega (arith, less)) shares.items few)

@@ -13,8 +13,9 @@ returns c = λ before packets has at.
     record {
       are = subst (λ (fs : List Frame). AreFrames (before + 1) (packets ++ c.args.packet.now ∷ []) fs)
           (sym c.in_ok-push.ensures.items)
-          (AreFrames-more (before + 1) packets c.args.self.now.frames.items c.args.packet.now frame c.args.number has.are
-          c.of.ensures last);
+          (AreFrames-more (before + 1) packets c.args.self.now.frames.items c.args.packet.now frame c.args.number
+          has.are c.of.ensures last);
       behind = has.behind;
-      short = All-push (λ (packet : List ℕ). length packet ≤ 262144) packets c.args.packet.now has.short c.requires.short;
+      short =
+          All-push (λ (packet : List ℕ). length packet ≤ 262144) packets c.args.packet.now has.short c.requires.short;
     }

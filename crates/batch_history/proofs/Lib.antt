@@ -1,0 +1,4 @@
+pub mod Cuts
+pub mod GoneOn
+pub mod OneOrder
+pub mod AddedCounts

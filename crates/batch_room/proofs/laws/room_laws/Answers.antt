@@ -1,6 +1,0 @@
-use Rattle.batch_room.proofs.Logs.{answered_are_records}
-use Rattle.batch_room.proofs.Rooms.{batch_is_answered}
-use Rattle.batch_room.proofs.laws.room_laws.Goals as goal
-
-pub returns : goal.returns
-returns c = record { none = batch_is_answered; records = answered_are_records }

@@ -1,5 +1,0 @@
-pub mod Lines
-pub mod Threads
-pub mod Shares
-pub mod Room
-pub mod OneSeat

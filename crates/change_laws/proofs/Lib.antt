@@ -1,0 +1,15 @@
+pub mod Bits
+pub mod Steps
+pub mod Parts
+pub mod Splits
+pub mod Walk
+pub mod Stages
+pub mod Seats
+pub mod Weak
+pub mod Directories
+pub mod NewDirectory
+pub mod Counts
+pub mod FoldStages
+pub mod Folds
+pub mod Openings
+pub mod FirstLeaves

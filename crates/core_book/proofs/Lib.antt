@@ -1,5 +1,0 @@
-pub mod FromWords
-pub mod Leadings
-pub mod LoadStates
-pub mod Told
-pub mod Covers

@@ -1,5 +1,0 @@
-use Rattle.core_bounds.proofs.SplitCounts.{splits_are_few}
-use Rattle.core_bounds.proofs.laws.split_laws.Goals as goal
-
-pub returns : goal.returns
-returns c = record { few = splits_are_few }

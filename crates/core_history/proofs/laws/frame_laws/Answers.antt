@@ -1,5 +1,0 @@
-use Rattle.core_history.proofs.Frames.{asks_are_steps, stores_are_apart}
-use Rattle.core_history.proofs.laws.frame_laws.Goals as goal
-
-pub returns : goal.returns
-returns c = record { steps = asks_are_steps; apart = stores_are_apart }

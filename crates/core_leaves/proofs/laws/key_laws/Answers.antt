@@ -1,6 +1,0 @@
-use Rattle.core_leaves.proofs.Crowds.{splits_are_by_keys}
-use Rattle.core_leaves.proofs.Suffice.{rows_by_keys_suffice}
-use Rattle.core_leaves.proofs.laws.key_laws.Goals as goal
-
-pub returns : goal.returns
-returns c = record { splits = splits_are_by_keys; suffice = rows_by_keys_suffice }

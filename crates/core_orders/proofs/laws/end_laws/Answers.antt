@@ -1,6 +1,0 @@
-use Rattle.core_orders.proofs.Promised.{pairs_are_of_the_order}
-use Rattle.core_orders.proofs.Depths.{depth_is_of_leaves}
-use Rattle.core_orders.proofs.laws.end_laws.Goals as goal
-
-pub returns : goal.returns
-returns c = record { pairs = pairs_are_of_the_order; depth = depth_is_of_leaves }

@@ -1,6 +1,0 @@
-//! What readers without a seat see.
-#![tactic(auto)]
-
-mod laws;
-
-pub use laws::peek_laws;

@@ -1,9 +1,0 @@
-pub mod Lists
-pub mod Turns
-pub mod Stuck
-pub mod Alone
-pub mod Afters
-pub mod Story
-pub mod Legals
-pub mod Turned
-pub mod Instants

@@ -1,7 +1,0 @@
-use Rattle.core_model.specs.Histories.{closed}
-use Rattle.core_placing.proofs.Turned.{turns_do_not_matter}
-use Rattle.core_placing.proofs.laws.free_turns.Goals as goal
-
-pub returns : goal.returns
-returns c =
-    record { same_order = λ setup events placings run. turns_do_not_matter setup (closed setup events) placings }

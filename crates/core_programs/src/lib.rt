@@ -1,6 +1,0 @@
-//! A program goes as its seat does.
-#![tactic(auto)]
-
-mod laws;
-
-pub use laws::program_laws;

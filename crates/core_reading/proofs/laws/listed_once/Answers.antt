@@ -1,5 +1,0 @@
-use Rattle.core_reading.proofs.OnceLists.{each_is_listed_once}
-use Rattle.core_reading.proofs.laws.listed_once.Goals as goal
-
-pub returns : goal.returns
-returns c = record { each_once = each_is_listed_once }

@@ -1,6 +1,0 @@
-//! The history at the opening, and so the central induction over every run.
-#![tactic(auto)]
-
-mod laws;
-
-pub use laws::{step_laws, stuck_laws};

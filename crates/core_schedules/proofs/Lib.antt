@@ -1,4 +1,0 @@
-pub mod Slots
-pub mod Ends
-pub mod Skipped
-pub mod PlayedBySlots

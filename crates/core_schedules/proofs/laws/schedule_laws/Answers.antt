@@ -1,8 +1,0 @@
-use Rattle.core_schedules.proofs.Ends.{plays_are_runs, plays_end}
-use Rattle.core_schedules.proofs.laws.schedule_laws.Goals as goal
-
-pub returns-clause-runs : goal.returns-clause-runs
-returns-clause-runs c = plays_are_runs
-
-pub returns-clause-end : goal.returns-clause-end
-returns-clause-end c = plays_end

@@ -1,6 +1,0 @@
-//! Plays by a schedule are runs, and end.
-#![tactic(auto)]
-
-mod laws;
-
-pub use laws::schedule_laws;

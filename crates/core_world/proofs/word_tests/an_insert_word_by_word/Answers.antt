@@ -1,7 +1,0 @@
--- No pairs have distinct keys.
-use Rattle.std.specs.List.{IsDistinct}
-use Rattle.core_world.proofs.word_tests.an_insert_word_by_word.Goals as goal
-
-pub open-requires-clause-distinct : goal.open-requires-clause-distinct
-unfolding IsDistinct
-open-requires-clause-distinct g c = tt

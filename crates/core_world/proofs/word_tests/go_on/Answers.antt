@@ -1,9 +1,0 @@
--- A seat that is not idle may go on.
-use Rattle.std.proofs.Common.{◌∙◌, sym}
-use Rattle.core_world.proofs.TestLemmas.{next_event}
-use Rattle.core_world.proofs.word_tests.go_on.Goals as goal
-
-pub step-requires : goal.step-requires
-step-requires c = record {
-  event = next_event c.args.core.now c.requires (sym c.idle.ensures ∙ c.if-idle.false);
-}

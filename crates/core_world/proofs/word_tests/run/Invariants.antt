@@ -1,7 +1,0 @@
--- The table has a seat.
-use Rattle.std.proofs.Common.{◌<◌}
-use Rattle.core_model.specs.Setup.{seats_of}
-use Rattle.core_world.proofs.word_tests.run.Given as goal
-
-abbrev pub invariant-loop : goal.invariant-loop
-invariant-loop l = 0 < seats_of l.core.setup

@@ -1,0 +1,32 @@
+use Rattle.std.proofs.Common.{◌^◌, List, [], ◌∷◌, sym, ap, ◌∙◌, subst}
+use Rattle.std.specs.Prelude.{IsSomeAnd}
+use Rattle.step_counts.specs.declared.rows.SeatRows.{SeatRows}
+use Rattle.step_counts.proofs.MadeLemmas.{made_in_range}
+use Rattle.plain_map.specs.declared.keys.Pair.{Pair}
+use Rattle.word_rows.specs.Shape.{AreBelow}
+use Rattle.shared_table.specs.Values.{TableValue}
+use Rattle.flowdir_c.specs.Opened.{IsOpened}
+use Rattle.flowdir_c.proofs.table_exports.flowdir_reopen.Goals as goal
+
+-- the handle that was there is the one that is taken out
+pub into_loose-requires : goal.into_loose-requires
+into_loose-requires c = (c.requires.0, ap (λ h. h.holders) c.replace.ensures.value ∙ c.requires.1)
+
+-- the next table is what was asked for, with the pairs that were listed
+pub returns-in-Ok-clause-opened : goal.returns-in-Ok-clause-opened
+returns-in-Ok-clause-opened c = λ done. record {
+  shelf = c.reopened-opened.new.self;
+  next = c.in-Ok.next.value;
+  closed_is = c.of_loose.ensures ∙ ap (λ v. v ∷ []) c.of.ensures;
+  opened_is = c.of_loose-in-Ok.ensures ∙ ap (λ v. v ∷ []) c.of-in-Ok.ensures;
+  free = c.in-Ok.ensures.seats ∙ c.in-Some.ensures.seats_are;
+  fit = record {
+    numbers = made_in_range c.in-Some.settings _ _ _ _ c.in-Some.ensures;
+    rows = subst (AreBelow (2 ^ 32)) c.to_rows.ensures c.in-Ok.ensures.small;
+  };
+  settings = c.in-Some.settings;
+  asked = c.in-Some.ensures;
+  runs = subst (λ (u : SeatRows × List Pair). IsSomeAnd c.in-Ok.next.value.table (λ (t : TableValue).
+      IsOpened c.in-Some.settings c.args.options.now.seed u.0 u.1 t.setup))
+      (λ i. (c.to_rows.ensures i, (sym c.reopened-opened.ensures.same i).pairs)) c.in-Ok.ensures.opened;
+}

@@ -1,5 +1,0 @@
-use Rattle.one_thread.proofs.AnswerLemmas.{answers_as_one_thread}
-use Rattle.one_thread.proofs.laws.one_thread_laws.Goals as goal
-
-pub returns : goal.returns
-returns c = record { answers = answers_as_one_thread }

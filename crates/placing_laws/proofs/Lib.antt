@@ -1,0 +1,11 @@
+pub mod Turns
+pub mod Stuck
+pub mod Alone
+pub mod Afters
+pub mod Story
+pub mod Legals
+pub mod Turned
+pub mod Instants
+pub mod CallLemmas
+pub mod OrderLemmas
+pub mod AnswerLemmas

@@ -1,0 +1,13 @@
+pub mod Frames
+pub mod History
+pub mod Shared
+pub mod Invariant
+pub mod InFlight
+pub mod Numbers
+pub mod RowLemmas
+pub mod Events
+pub mod Stays
+pub mod Stores
+pub mod Loads
+pub mod Histories
+pub mod Change

@@ -1,0 +1,11 @@
+use Rattle.std.proofs.Common.{◌∙◌, ap, sym, arith}
+use Rattle.step_counts.specs.declared.settings.Settings.{Settings}
+use Rattle.seat_calls.specs.Desks.{settings_at}
+use Rattle.seat_calls.proofs.SeatLemmas.{reply_at}
+use Rattle.seat_calls.proofs.words.reply_in.Goals as goal
+
+pub returns : goal.returns
+returns c =
+    let items = ap (λ (s : Settings). s.items) c.settings.ensures in
+    c.reply_of.ensures.value ∙ sym (reply_at (settings_at c.args.desk.now) c.args.words.now c.args.desk.now.seat _
+    c.args.desk.now.within (omega (arith, items)))

@@ -1,0 +1,13 @@
+pub mod Going
+pub mod Starts
+pub mod Desks
+pub mod Owns
+pub mod Items
+pub mod Tries
+pub mod Found
+pub mod Rows
+pub mod Loads
+pub mod Rooms
+pub mod Puts
+pub mod Changes
+pub mod Outcomes
