@@ -6,7 +6,7 @@ ghost use Rattle.trace_runner.specs.Serving.{HoldsCalls};
 
 use crate::steps::keep_call;
 use batch_runner::{Dealt, Service, deal_batch};
-use capture_loop::{BATCH, Pile};
+use capture_loop::Pile;
 use plain_map::Call;
 use std::alloc::{AllocError, Global};
 
@@ -23,15 +23,15 @@ pub(crate) struct CallPile {
 }
 
 impl CallPile {
-    /// An empty one, with room for the calls of a batch.
-    pub fn new(alloc: Global, service: Service) -> Result<CallPile, AllocError>
+    /// An empty one, with room for so many calls.
+    pub fn with_room(alloc: Global, service: Service, calls: usize) -> Result<CallPile, AllocError>
         ensures { IfOk result (λ pile. HoldsCalls pile 0 []) }
     {
         Ok(CallPile {
             alloc,
             service,
             packets: 0,
-            calls: Vec::with_capacity(alloc, BATCH as usize)?,
+            calls: Vec::with_capacity(alloc, calls)?,
             dealt: None,
         })
     }

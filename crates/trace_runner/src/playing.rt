@@ -61,10 +61,11 @@ pub(crate) fn play<S: Source, K: Sink>(
     ensures counted { (S.faults source.old ≤ S.faults source.new) × (K.faults sink.old ≤ K.faults sink.new) }
 {
     promise_laws();
-    let Ok(input) = read_input(alloc, service_of(plan), source) else {
+    let service = service_of(plan);
+    let Ok(input) = read_input(alloc, service, source) else {
         return Status::Memory;
     };
-    match report_of(alloc, plan, &input) {
+    match report_of(alloc, plan, &service, &input) {
         Ok(text) => match write_all(sink, &text) {
             Ok(()) => Status::of_ending(&input.ending),
             Err(Failed) => Status::WriteFault,
@@ -102,7 +103,7 @@ fn read_input<S: Source>(
 {
     match open(alloc, source) {
         Ok(mut reader) => {
-            let mut pile = CallPile::new(alloc, service)?;
+            let mut pile = CallPile::with_room(alloc, service, PLAY_LIMIT as usize)?;
             let part = read_rest(&mut reader, source, 0, 0, PLAY_LIMIT, &mut pile)?;
             match part.ending {
                 Some(ending) => Ok(Input {
@@ -123,8 +124,15 @@ fn read_input<S: Source>(
 }
 
 /// The report of a play of an input's calls.
-fn report_of(alloc: Global, plan: &Plan, input: &Input) -> Result<Vec<u8>, AllocError>
+fn report_of(
+    alloc: Global,
+    plan: &Plan,
+    service: &Service,
+    input: &Input,
+) -> Result<Vec<u8>, AllocError>
     requires range { IsInRange plan.now }
+    requires asks { IsServiceOf plan.now service.now }
+    requires given { ForSome service.now.rows (AreBelow (2 ^ 32)) }
     requires between { AreBetween 0 input.now.packets input.now.calls.items }
     requires few { input.now.packets ≤ PLAY_LIMIT }
     requires ending { IsEnding input.now.ending }
@@ -133,15 +141,14 @@ fn report_of(alloc: Global, plan: &Plan, input: &Input) -> Result<Vec<u8>, Alloc
 {
     playing_laws();
     session_laws();
-    let service = service_of(plan);
-    let played = play_calls(alloc, plan, &service, &input.calls)?;
+    let played = play_calls(alloc, plan, service, &input.calls)?;
     let mut text = Vec::new(alloc);
     let head = head_of(true, plan);
     head_fits(&head, &service.settings);
     head_text(&mut text, &head)?;
     put_played(&mut text, plan.seats, &played)?;
     put_sessions(&mut text, &played.pairs)?;
-    let tail = play_tail(&service, input, &played);
+    let tail = play_tail(service, input, &played);
     tail_fits(&head, &tail, &service.settings);
     tail_text(&mut text, &tail)?;
     Ok(text)

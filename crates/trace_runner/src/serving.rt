@@ -253,8 +253,8 @@ fn serve_input<R: Threads + Sync, S: Source, K: Sink, G: Gate + Sync>(
     head_fits(&head, &service.settings);
     head_text(&mut text, &head)?;
     let mut piles = Piles {
-        now: CallPile::new(alloc, service)?,
-        next: CallPile::new(alloc, service)?,
+        now: CallPile::with_room(alloc, service, BATCH as usize)?,
+        next: CallPile::with_room(alloc, service, BATCH as usize)?,
     };
     let mut serving = Serving::new(alloc, service)?;
     let answer = run_job::<R, S, K, G, Plan, Serving>(

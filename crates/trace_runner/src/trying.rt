@@ -226,8 +226,8 @@ fn text_of<R: Threads + Sync, G: Gate + Sync>(
     let service = service_of(plan);
     let alloc = means.alloc;
     let mut piles = Piles {
-        now: CallPile::new(alloc, service)?,
-        next: CallPile::new(alloc, service)?,
+        now: CallPile::with_room(alloc, service, BATCH as usize)?,
+        next: CallPile::with_room(alloc, service, BATCH as usize)?,
     };
     let mut trying = Trying::new(alloc, plan, service)?;
     let mut source = MadeSource::new(plan.number, plan.packets);

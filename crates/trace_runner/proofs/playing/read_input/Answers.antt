@@ -38,7 +38,7 @@ returns-in-Err-Ends-clause-ended g c =
     c.in-Err-Ends.field-0-is c.in-Err-Ends.ensures.ended in
     let none : EndsCalls PLAY_LIMIT first left 0 [] c.in-Err-Ends.ending =
     record { packets = []; ended = ended PLAY_LIMIT; make = refl; count = refl } in
-    let all : EndsCalls PLAY_LIMIT first left 0 c.new-in-Err-Ends.result.items c.in-Err-Ends.ending =
+    let all : EndsCalls PLAY_LIMIT first left 0 c.new.result.items c.in-Err-Ends.ending =
     subst (λ (calls : List (ℕ × Call)). EndsCalls PLAY_LIMIT first left 0 calls c.in-Err-Ends.ending)
-    (sym c.new-in-Err-Ends.ensures.items) none in
-    subst (EndsCalls PLAY_LIMIT first left 0 c.new-in-Err-Ends.result.items) (sym c.in-Err-Ends.ending-is) all
+    (sym c.new.ensures.items) none in
+    subst (EndsCalls PLAY_LIMIT first left 0 c.new.result.items) (sym c.in-Err-Ends.ending-is) all

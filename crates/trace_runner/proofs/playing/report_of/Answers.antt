@@ -19,7 +19,7 @@ use Rattle.trace_runner.proofs.playing.report_of.Goals as goal
 
 pub put_played-requires-clause-ended : goal.put_played-requires-clause-ended
 put_played-requires-clause-ended c =
-    let service : Service = c.service_of-service.result in
+    let service : Service = c.args.service.now in
     let calls : List (ℕ × Call) = c.args.input.now.calls.items in
     let played : Played = c.in_ok-played.played in
     let comes : IsPlayed (play_setup service calls) (play_in c.args.plan.now service calls) played =
@@ -30,7 +30,7 @@ put_played-requires-clause-ended c =
 
 pub put_played-requires-clause-under_way : goal.put_played-requires-clause-under_way
 put_played-requires-clause-under_way c =
-    let service : Service = c.service_of-service.result in
+    let service : Service = c.args.service.now in
     let calls : List (ℕ × Call) = c.args.input.now.calls.items in
     let played : Played = c.in_ok-played.played in
     let comes : IsPlayed (play_setup service calls) (play_in c.args.plan.now service calls) played =
@@ -41,7 +41,7 @@ put_played-requires-clause-under_way c =
 
 pub put_sessions-requires : goal.put_sessions-requires
 put_sessions-requires c =
-    let service : Service = c.service_of-service.result in
+    let service : Service = c.args.service.now in
     let calls : List (ℕ × Call) = c.args.input.now.calls.items in
     let played : Played = c.in_ok-played.played in
     let comes : IsPlayed (play_setup service calls) (play_in c.args.plan.now service calls) played =
@@ -59,7 +59,7 @@ put_sessions-requires c =
 
 pub play_tail-tail-requires-clause-depth : goal.play_tail-tail-requires-clause-depth
 play_tail-tail-requires-clause-depth c =
-    let service : Service = c.service_of-service.result in
+    let service : Service = c.args.service.now in
     let calls : List (ℕ × Call) = c.args.input.now.calls.items in
     let played : Played = c.in_ok-played.played in
     let comes : IsPlayed (play_setup service calls) (play_in c.args.plan.now service calls) played =
@@ -75,7 +75,7 @@ play_tail-tail-requires-clause-depth c =
 
 pub returns : goal.returns
 returns c =
-    let service : Service = c.service_of-service.result in
+    let service : Service = c.args.service.now in
     let calls : List (ℕ × Call) = c.args.input.now.calls.items in
     let played : Played = c.in_ok-played.played in
     let comes : IsPlayed (play_setup service calls) (play_in c.args.plan.now service calls) played =
@@ -86,7 +86,7 @@ returns c =
     c.in_ok-played.ensures.can in
     IsPlayOf-done c.args.plan.now service calls played comes c.args.input.now.packets c.args.input.now.ending
     c.tail_text.new.out.items c.playing_laws.ensures.right c.playing_laws.ensures.answered
-    c.service_of-service.ensures.asks can c.requires.between.ascend
+    c.requires.asks can c.requires.between.ascend
     (subst IsHead c.head_of-head.ensures c.head_fits.ensures)
     (subst (IsTail (head_of true c.args.plan.now)) c.play_tail-tail.ensures
     (subst (λ (head : Head). IsTail head c.play_tail-tail.result) c.head_of-head.ensures c.tail_fits.ensures))

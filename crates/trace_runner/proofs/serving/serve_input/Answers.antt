@@ -35,18 +35,18 @@ returns-in_err-head_text-clause-leaves g c =
     (g.K.Sink.put c.args.sink.now) c.from_residual-in_err-head_text.result c.from_residual-in_err-head_text.ensures
     (Keeps-same (g.K.Sink.put c.args.sink.now))
 
-pub returns-in_err-new-clause-leaves : goal.returns-in_err-new-clause-leaves
-returns-in_err-new-clause-leaves g c =
+pub returns-in_err-with_room-clause-leaves : goal.returns-in_err-with_room-clause-leaves
+returns-in_err-with_room-clause-leaves g c =
     leaves_none c.args.plan.now (Rose (g.S.Source.faults c.args.source.now) (g.S.Source.faults c.args.source.now))
     (g.S.Source.left c.args.source.now) (g.S.Source.left c.args.source.now) (g.K.Sink.put c.args.sink.now)
-    (g.K.Sink.put c.args.sink.now) c.from_residual-in_err-new.result c.from_residual-in_err-new.ensures
+    (g.K.Sink.put c.args.sink.now) c.from_residual-in_err-with_room.result c.from_residual-in_err-with_room.ensures
     (Keeps-same (g.K.Sink.put c.args.sink.now))
 
-pub returns-in_err-new-2-clause-leaves : goal.returns-in_err-new-2-clause-leaves
-returns-in_err-new-2-clause-leaves g c =
+pub returns-in_err-with_room-2-clause-leaves : goal.returns-in_err-with_room-2-clause-leaves
+returns-in_err-with_room-2-clause-leaves g c =
     leaves_none c.args.plan.now (Rose (g.S.Source.faults c.args.source.now) (g.S.Source.faults c.args.source.now))
     (g.S.Source.left c.args.source.now) (g.S.Source.left c.args.source.now) (g.K.Sink.put c.args.sink.now)
-    (g.K.Sink.put c.args.sink.now) c.from_residual-in_err-new-2.result c.from_residual-in_err-new-2.ensures
+    (g.K.Sink.put c.args.sink.now) c.from_residual-in_err-with_room-2.result c.from_residual-in_err-with_room-2.ensures
     (Keeps-same (g.K.Sink.put c.args.sink.now))
 
 pub returns-in_err-serving-clause-leaves : goal.returns-in_err-serving-clause-leaves
