@@ -6,6 +6,9 @@ use std::process::ExitCode;
 use std::{env, io};
 use trace_runner::{Status, run};
 
+#[cfg(test)]
+mod tests;
+
 fn main(rt: HostRuntime) -> ExitCode {
     let status = match words_of(&rt) {
         Ok(words) => {

@@ -38,6 +38,3 @@ pub use lookups::{glance, lookup};
 pub use room::Room;
 pub use steps::Steps;
 pub use updates::update;
-
-#[cfg(test)]
-mod tests;

@@ -25,6 +25,3 @@ mod stage;
 mod takes;
 
 pub use seat::SeatMachine;
-
-#[cfg(test)]
-mod tests;

@@ -29,4 +29,6 @@ pub use seat::Seat;
 #[cfg(test)]
 mod closing_tests;
 #[cfg(test)]
+mod desk_tests;
+#[cfg(test)]
 mod tests;

@@ -20,6 +20,3 @@ pub use laws::{playing_laws, serving_laws};
 pub use playing::PLAY_LIMIT;
 pub use running::run;
 pub use status::Status;
-
-#[cfg(test)]
-mod tests;

@@ -2,12 +2,12 @@
 
 use super::captures::{HEAD, Part, file_of};
 use super::{Row, expect_rows, run_line};
-use crate::{PLAY_LIMIT, Status};
 use edge_traits::{MemorySink, MemorySource};
 use std::alloc::{AllocError, Global};
 use std::process::Abort;
 use std::test::Fail;
 use std::thread::Threads;
+use trace_runner::{PLAY_LIMIT, Status};
 
 /// A seat that stops for good behind its announcement is helped, and its call takes effect.
 #[test]

@@ -2,8 +2,8 @@
 
 use super::captures::DNS_AND_WEB;
 use super::{Row, expect_rows};
-use crate::Status;
 use std::test::Fail;
+use trace_runner::Status;
 
 /// The report of a name and a page, with the settings as by default.
 pub(super) const NAME_AND_PAGE: &str = "\

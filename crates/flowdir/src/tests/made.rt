@@ -1,12 +1,12 @@
 //! Captures that the program makes, serves and tries.
 
 use super::run_line;
-use crate::Status;
 use edge_traits::{Failed, MemorySink, MemorySource, Source};
 use std::alloc::{AllocError, Global};
 use std::process::Abort;
 use std::test::Fail;
 use std::thread::Threads;
+use trace_runner::Status;
 
 /// The head and the first record of the made capture of number 0, worked by hand from its definition.
 const FIRST: [u8; 94] = [

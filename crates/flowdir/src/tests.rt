@@ -9,13 +9,13 @@ mod made;
 mod plays;
 mod served;
 
-use crate::{Status, run};
 use captures::{Part, file_of};
 use edge_traits::{MemorySink, MemorySource, OpenGate, Source};
 use std::alloc::{AllocError, Global};
 use std::process::Abort;
 use std::test::Fail;
 use std::thread::Threads;
+use trace_runner::{Status, run};
 
 /// The words of a line, which stand apart by one blank.
 fn words_of(alloc: Global, line: &str) -> Result<Vec<String>, AllocError> {

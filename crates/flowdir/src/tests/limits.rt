@@ -2,10 +2,10 @@
 
 use super::captures::{HEAD, Part, file_of};
 use super::run_line;
-use crate::{BATCH, PACKET_LIMIT, Status};
 use edge_traits::{Failed, MemorySink, MemorySource, Source};
 use std::alloc::{AllocError, Global};
 use std::test::Fail;
+use trace_runner::{BATCH, PACKET_LIMIT, Status};
 
 /// The report of one flow, whose two SYNs are the first packet of two batches, up to how the input ended.
 const TWO_BATCHES: &str = "\

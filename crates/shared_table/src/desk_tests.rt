@@ -1,7 +1,7 @@
 //! What a seat has at hand, worked by hand.
 
-use crate::{Desk, Room};
 use hash_bits::Hashing;
+use seat_calls::{Desk, Room};
 use std::test::Fail;
 use step_counts::{SeatRows, Settings};
 use word_rows::Layout;

@@ -1,8 +1,8 @@
-//! A seat that begins calls, by hand. Whole calls are tested where the words of a table are at hand.
+//! A seat by itself that begins calls, by hand.
 
-use crate::SeatMachine;
 use hash_bits::Hashing;
 use plain_map::{Call, Full, FullKind, Key, Pending, Seen};
+use seat_machine::SeatMachine;
 use std::process::Abort;
 use std::test::Fail;
 use step_counts::{SeatRows, Settings};

@@ -3,12 +3,12 @@
 use super::captures::{DNS_AND_WEB, ONE_FLOW, file_of};
 use super::run_line;
 use super::served::NAME_AND_PAGE;
-use crate::Status;
 use edge_traits::{MemorySink, MemorySource};
 use std::alloc::{AllocError, Global};
 use std::process::Abort;
 use std::test::Fail;
 use std::thread::Threads;
+use trace_runner::Status;
 
 /// The settings by default, but for one seat.
 const ONE_SEAT: &str = "serve --seats 1";

@@ -2,13 +2,13 @@
 
 use super::captures::{DNS_AND_WEB, HEAD, Part, file_of};
 use super::words_of;
-use crate::{Status, run};
 use edge_traits::{Gate, MemorySink, MemorySource};
 use std::alloc::Global;
 use std::process::Abort;
 use std::sync::atomic::{AtomicU64, Ordering};
 use std::test::Fail;
 use std::thread::Threads;
+use trace_runner::{Status, run};
 
 /// Keeps the sum of the seats; and the numbers and answers as decimal digits, in the order in which they came.
 #[derive(Drop)]

@@ -2,9 +2,9 @@
 
 use super::captures::{HEAD, ONE_FLOW, Part, file_of};
 use super::run_line;
-use crate::{Status, run};
 use edge_traits::{Failed, MemorySink, MemorySource, OpenGate, Sink, Source};
 use std::test::Fail;
+use trace_runner::{Status, run};
 
 const WORDS: &str = "serve --seats 1 --items 2 --depth 1 --start 1 --hash ports";
 
