@@ -33,14 +33,12 @@ static void list(struct flowdir_table *closed) {
     expect("three pairs", count, 3);
 }
 
-/* Closes a table whose seats nobody has had, and lists its pairs. */
-static void end(struct flowdir_table *table, uint32_t seats) {
+/* Closes a table, one of whose seats was taken and given back, and lists its pairs. */
+static void end(struct flowdir_table *table) {
     struct flowdir_seat seat = {0};
     refused = 0;
-    for (uint32_t i = 0; i < seats; i++) {
-        expect("sit", flowdir_sit(table, &seat), FLOWDIR_OK);
-        expect("rise", flowdir_rise(table, &seat), FLOWDIR_OK);
-    }
+    expect("sit", flowdir_sit(table, &seat), FLOWDIR_OK);
+    expect("rise", flowdir_rise(table, &seat), FLOWDIR_OK);
     expect("close", flowdir_close(table), FLOWDIR_OK);
     list(table);
 }
@@ -51,13 +49,13 @@ static struct flowdir_table closed_after(const struct flowdir_options *options, 
     struct flowdir_table table = {0};
     refused = 0;
     expect("open", flowdir_open(options, pairs, 3, &table), FLOWDIR_OK);
-    end(&table, options->seats);
+    end(&table);
     for (int i = 0; i < reopenings; i++) {
         struct flowdir_table next = {0};
         expect("reopen", flowdir_reopen(options, &table, &next), FLOWDIR_OK);
         flowdir_free(&table);
         table = next;
-        end(&table, options->seats);
+        end(&table);
     }
     return table;
 }
@@ -79,7 +77,8 @@ static void words_are_kept(const struct flowdir_options *options) {
     narrow.items = 1, narrow.depth = 0;
     struct flowdir_table first = closed_after(options, 0), second = closed_after(options, 1);
     struct flowdir_table third = closed_after(options, 2), failed = closed_after(options, 2), none = {0};
-    size_t bytes = bytes_of(options, &first);
+    size_t bytes = bytes_of(options, &first), words = flowdir_memory(options);
+    expect("the words, and little beside them", bytes >= words && bytes < words * 6 / 5, 1);
     expect("half at the second", bytes_of(options, &second) < bytes * 6 / 10, 1);
     expect("half at the third", bytes_of(options, &third) < bytes * 6 / 10, 1);
     expect("three keys for one", flowdir_reopen(&narrow, &failed, &none), FLOWDIR_NO_ROOM);

@@ -47,6 +47,9 @@ inline Options with_rows(Options options, uint32_t updates, uint64_t keys) {
     return options;
 }
 
+/* The bytes of the words that an opening takes: those of the table, and as many from which they are copied. */
+inline uint64_t memory(const Options &options) { return flowdir_memory(&options); }
+
 /* One thread's place at a table. It goes back to its table when it ends, so the table has to outlive it. */
 class Seat {
 public:
@@ -135,9 +138,11 @@ public:
     Seat sit() { return Seat(&table_); }
     Reader read() { return Reader(&table_); }
 
-    /* Ends the table, and gives its pairs in the order of their keys. All seats were taken, and are gone again. */
+    /* Ends the table, and gives its pairs in the order of their keys. All seats are gone again. If memory is short for
+     * the pairs, the table stays closed, and close can be called again. */
     std::vector<Pair> close() {
-        check(flowdir_close(&table_));
+        if (!is_closed_) check(flowdir_close(&table_));
+        is_closed_ = true;
         std::size_t count = 0;
         check(flowdir_count(&table_, &count));
         std::vector<Pair> pairs(count);
@@ -152,10 +157,12 @@ public:
         check(flowdir_reopen(&options, &table_, &next));
         flowdir_free(&table_);
         table_ = next;
+        is_closed_ = false;
     }
 
 private:
     flowdir_table table_{};
+    bool is_closed_ = false;
 };
 
 }  // namespace flowdir

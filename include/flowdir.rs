@@ -4,6 +4,7 @@
 
 use std::marker::PhantomData;
 use std::os::raw::c_void;
+use std::sync::atomic::{AtomicBool, Ordering};
 use std::sync::{Mutex, MutexGuard};
 
 /// A key: five words, whatever they mean.
@@ -58,6 +59,7 @@ extern "C" {
     fn flowdir_bound(options: *const Options) -> u64;
     fn flowdir_rows_for(options: *const Options, updates: u32, rows: *mut Rows) -> u32;
     fn flowdir_rows_by(options: *const Options, updates: u32, keys: u64, rows: *mut Rows) -> u32;
+    fn flowdir_memory(options: *const Options) -> u64;
     fn flowdir_open(options: *const Options, first: *const Pair, count: usize, table: *mut Handle) -> u32;
     fn flowdir_sit(table: *mut Handle, seat: *mut Handle) -> u32;
     fn flowdir_insert(seat: *mut Handle, key: *const Key, value: u64, reply: *mut RawReply) -> u32;
@@ -86,7 +88,7 @@ pub enum Refused {
     NoRoom,
     /// The rows of the seat are used up.
     Full,
-    /// No seat is left, or a seat was never taken.
+    /// No seat is left.
     Busy,
 }
 
@@ -144,6 +146,11 @@ impl Options {
         Ok(self)
     }
 
+    /// The bytes of the words that an opening takes, or 0 where the options are out of their ranges.
+    pub fn memory(&self) -> u64 {
+        unsafe { flowdir_memory(self) }
+    }
+
     /// The most atomic steps of an update, or 0 where the options are out of their ranges.
     pub fn bound(&self) -> u64 {
         unsafe { flowdir_bound(self) }
@@ -154,6 +161,8 @@ impl Options {
 pub struct Table {
     // Seats and readers come and go one at a time.
     handle: Mutex<Handle>,
+    // Written and read by who has the handle's turn alone.
+    is_closed: AtomicBool,
 }
 
 unsafe impl Send for Handle {}
@@ -163,7 +172,7 @@ impl Table {
     pub fn open(options: &Options, first: &[Pair]) -> Result<Table, Refused> {
         let mut handle = Handle(std::ptr::null_mut());
         done(unsafe { flowdir_open(options, first.as_ptr(), first.len(), &mut handle) })?;
-        Ok(Table { handle: Mutex::new(handle) })
+        Ok(Table::of(handle))
     }
 
     fn turn(&self) -> MutexGuard<'_, Handle> {
@@ -184,22 +193,37 @@ impl Table {
         Ok(Reader { handle, table: PhantomData })
     }
 
-    /// Ends the table, and gives its pairs in the order of their keys. `Busy` where a seat was never taken.
-    pub fn close(self) -> Result<Vec<Pair>, Refused> {
-        self.end()
+    /// Ends the table, and gives its pairs in the order of their keys. If it is refused, the table comes back, and can be
+    /// closed again.
+    pub fn close(self) -> Result<Vec<Pair>, (Refused, Table)> {
+        self.end().map_err(|refused| (refused, self))
     }
 
-    /// The same, and opens the next table with these pairs, in the words that this one keeps.
-    pub fn reopen(self, options: &Options) -> Result<(Vec<Pair>, Table), Refused> {
-        let pairs = self.end()?;
+    /// The same, and opens the next table with these pairs, in the words that this one keeps. If no next one is opened,
+    /// this one comes back, closed, and can be closed and reopened again.
+    pub fn reopen(self, options: &Options) -> Result<(Vec<Pair>, Table), (Refused, Table)> {
+        let pairs = match self.end() {
+            Ok(pairs) => pairs,
+            Err(refused) => return Err((refused, self)),
+        };
         let mut handle = Handle(std::ptr::null_mut());
-        done(unsafe { flowdir_reopen(options, &mut *self.turn(), &mut handle) })?;
-        Ok((pairs, Table { handle: Mutex::new(handle) }))
+        let status = unsafe { flowdir_reopen(options, &mut *self.turn(), &mut handle) };
+        match done(status) {
+            Ok(()) => Ok((pairs, Table::of(handle))),
+            Err(refused) => Err((refused, self)),
+        }
+    }
+
+    fn of(handle: Handle) -> Table {
+        Table { handle: Mutex::new(handle), is_closed: AtomicBool::new(false) }
     }
 
     fn end(&self) -> Result<Vec<Pair>, Refused> {
         let mut handle = self.turn();
-        done(unsafe { flowdir_close(&mut *handle) })?;
+        if !self.is_closed.load(Ordering::Relaxed) {
+            done(unsafe { flowdir_close(&mut *handle) })?;
+            self.is_closed.store(true, Ordering::Relaxed);
+        }
         let mut count = 0;
         done(unsafe { flowdir_count(&mut *handle, &mut count) })?;
         let mut pairs = vec![Pair::default(); count];

@@ -36,6 +36,7 @@ static void ranges(void) {
         expect(table[i].what, flowdir_rows_for(&options, 7, &rows), FLOWDIR_BAD);
         expect(table[i].what, flowdir_rows_by(&options, 7, 9, &rows), FLOWDIR_BAD);
         expect(table[i].what, flowdir_bound(&options), 0);
+        expect(table[i].what, flowdir_memory(&options), 0);
         expect("rows are as they were", memcmp(&rows, &same, sizeof rows), 0);
         expect("no table", none.at != NULL, 0);
     }
@@ -79,6 +80,14 @@ static void rows_by(void) {
     flowdir_free(&table);
 }
 
+/* The words of a table, by hand: 1 root; an announcement and a done word for each of 2 seats; 4 + 2 x 3 bucket words;
+ * 2 x 5 op rows of 8 words; 4 + 2 x 7 bucket rows of 5 + 7 x 3 + 2 x 2; 1 + 2 x 2 directory rows of 2 + 4. */
+static void memory(void) {
+    struct flowdir_options options = options_of(2, 3, 2, 0);
+    options.rows = (struct flowdir_rows){5, 7, 3, 2};
+    expect("memory", flowdir_memory(&options), 16 * (1 + 4 + 10 + 80 + 18 * 30 + 5 * 6));
+}
+
 /* First pairs that no table can begin with. */
 static void first_pairs(void) {
     struct flowdir_options options = options_of(1, 2, 0, 0);
@@ -114,6 +123,7 @@ static void calls(void) {
     expect("no reply", memcmp(&reply, &same, sizeof reply), 0);
     expect("a count of a table that runs", flowdir_count(&table, &count), FLOWDIR_BAD);
     expect("a pair of a table that runs", flowdir_pair_at(&table, 0, &pair), FLOWDIR_BAD);
+    expect("reopen a table that runs", flowdir_reopen(&options, &table, &next), FLOWDIR_BAD);
     expect("no count", count, 77);
     expect("read", flowdir_read(&table, &reader), FLOWDIR_OK);
     expect("peek", flowdir_peek(&reader, &key, &reply), FLOWDIR_OK);
@@ -134,6 +144,8 @@ static void calls(void) {
     expect("sit at a closed table", flowdir_sit(&table, &seat), FLOWDIR_BUSY);
     expect("read a closed table", flowdir_read(&table, &reader), FLOWDIR_BAD);
     expect("no reader", reader.at != NULL, 0);
+    expect("reopen what is not listed", flowdir_reopen(&options, &table, &next), FLOWDIR_BAD);
+    expect("no next table", next.at != NULL, 0);
     expect("count", flowdir_count(&table, &count), FLOWDIR_OK);
     expect("no pair is left", count, 0);
     expect("no pair there", flowdir_pair_at(&table, 0, &pair), FLOWDIR_BAD);
@@ -141,6 +153,33 @@ static void calls(void) {
     expect("reopen", flowdir_reopen(&options, &table, &next), FLOWDIR_OK);
     flowdir_free(&table);
     flowdir_free(&next);
+}
+
+/* A table is closed whatever seats were never taken, and a call that is refused uses up none of a seat's calls. */
+static void untaken(void) {
+    struct flowdir_options options = options_of(8, 8, 4, 0);
+    struct flowdir_pair first[] = {{key_of(2), 20, 7}, {key_of(1), 10, 0}}, pair;
+    for (int taken = 0; taken <= 8; taken++) {
+        struct flowdir_table table = {0};
+        struct flowdir_seat seats[8] = {{0}};
+        struct flowdir_reply reply;
+        struct flowdir_key key = key_of(3);
+        size_t count = 0;
+        expect("open", flowdir_open(&options, first, 2, &table), FLOWDIR_OK);
+        for (int i = 0; i < taken; i++) expect("sit", flowdir_sit(&table, &seats[i]), FLOWDIR_OK);
+        for (int i = 0; i < taken; i++) {
+            expect("too large", flowdir_insert(&seats[i], &key, 1ull << 61, &reply), FLOWDIR_BAD);
+            expect("insert", flowdir_insert(&seats[i], &key, 30, &reply), FLOWDIR_OK);
+            expect("a seat is out", flowdir_close(&table), FLOWDIR_BUSY);
+        }
+        for (int i = 0; i < taken; i++) expect("rise", flowdir_rise(&table, &seats[i]), FLOWDIR_OK);
+        expect("close", flowdir_close(&table), FLOWDIR_OK);
+        expect("list", flowdir_count(&table, &count), FLOWDIR_OK);
+        expect("pairs", count, taken ? 3 : 2);
+        expect("the second pair", flowdir_pair_at(&table, 1, &pair), FLOWDIR_OK);
+        expect("is the first one", pair.key.k0 * 1000 + pair.value * 10 + pair.bytes, 2207);
+        flowdir_free(&table);
+    }
 }
 
 /* The pairs of a closed table come in the order of their keys, and the next table has them. */
@@ -197,8 +236,10 @@ static void interval(void) {
 int main(void) {
     ranges();
     rows_by();
+    memory();
     first_pairs();
     calls();
+    untaken();
     interval();
     printf("%s\n", failures ? "WRONG" : "each status is as the header says");
     return failures != 0;

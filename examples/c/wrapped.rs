@@ -28,13 +28,14 @@ fn main() -> Result<(), Refused> {
         }
         Ok::<(), Refused>(())
     })?;
-    let (left, table) = table.reopen(&options)?;
+    let (left, table) = table.reopen(&options).map_err(|(refused, _)| refused)?;
     assert_eq!((left.len(), left[0].bytes), (401, 6000));
     assert_eq!(table.read()?.peek(&Key([9, 3, 99, 0, 0])), Some(99));
-    for _ in 0..4 {
-        table.sit()?.lookup(&first.key)?;
-    }
-    assert_eq!(table.close()?, left);
+    table.sit()?.lookup(&first.key)?;
+    // three of its seats were never taken
+    let (refused, table) = table.reopen(&Options { seats: 9, ..options }).err().expect("nine seats");
+    assert_eq!(refused, Refused::Bad);
+    assert_eq!(table.close().map_err(|(refused, _)| refused)?, left);
     assert_eq!(Options { seats: 9, ..options }.with_rows_for(1).err(), Some(Refused::Bad));
     Ok(())
 }

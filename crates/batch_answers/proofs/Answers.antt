@@ -25,8 +25,9 @@ use Rattle.batch_laws.proofs.Shares.{flows_are_by_key}
 use Rattle.batch_laws.proofs.Room.{room_is_of_calls}
 use Rattle.batch_laws.proofs.Threads.{batches_answer_as_one_thread}
 use Rattle.batch_laws.proofs.OneSeat.{one_seat_answers}
-use Rattle.batch_runner.specs.declared.service.Service.{Service}
-use Rattle.batch_runner.specs.Served.{Served, AreServed, history_in, pairs_left, rules_of}
+use Rattle.batch_deals.specs.declared.service.Service.{Service}
+use Rattle.batch_runner.specs.Served.{Served, AreServed, history_in, pairs_left}
+use Rattle.batch_deals.specs.Opens.{rules_of}
 use Rattle.batch_runner.specs.Printed.{outcomes_in}
 use Rattle.batch_runner.proofs.Rights.{all_in_order, all_held, none_held}
 use Rattle.batch_answers.specs.Answers.{NoneIsRefused, AllAreAnswered, ServedAsOneThread, all_answers, calls_in}

@@ -13,8 +13,9 @@ use Rattle.trace_share.specs.Outcomes.{record_in, records_in}
 use Rattle.batch_history.specs.Batches.{all_calls, all_records, answered_then, gone_on}
 use Rattle.batch_history.proofs.OneOrder.{batches_are_one_order}
 use Rattle.batch_laws.proofs.Lines.{line_is_permuted}
-use Rattle.batch_runner.specs.declared.service.Service.{Service}
-use Rattle.batch_runner.specs.Served.{Served, AreServed, history_in, pairs_left, rules_of}
+use Rattle.batch_deals.specs.declared.service.Service.{Service}
+use Rattle.batch_runner.specs.Served.{Served, AreServed, history_in, pairs_left}
+use Rattle.batch_deals.specs.Opens.{rules_of}
 use Rattle.batch_runner.specs.Printed.{all_lines, answers_in, outcome_on}
 use Rattle.batch_runner.proofs.Rights.{all_in_order}
 use Rattle.batch_answers.specs.Answers.{printed_in, PrintedStandOnce}

@@ -23,7 +23,7 @@ use Rattle.trace_share.specs.Outcomes.{records_in}
 use Rattle.batch_history.specs.Batches.{answered_then, gone_on, with_counts}
 use Rattle.batch_history.proofs.GoneOn.{index_with}
 use Rattle.batch_laws.proofs.Lines.{line_is_permuted}
-use Rattle.batch_runner.specs.declared.service.Service.{Service}
+use Rattle.batch_deals.specs.declared.service.Service.{Service}
 use Rattle.batch_runner.specs.Served.{Served, AreServed, IsServed, history_in, setup_of_batch}
 use Rattle.batch_runner.specs.Printed.{all_lines, lines_of, outcome_on}
 use Rattle.batch_answers.specs.Answers.{AreNone}

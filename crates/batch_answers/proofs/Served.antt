@@ -11,16 +11,16 @@ use Rattle.trace_share.proofs.OnceLemmas.{deals_each_once}
 use Rattle.batch_rows.specs.BatchRows.{rows_of}
 use Rattle.batch_laws.specs.Rooms.{NoneRefused}
 use Rattle.batch_laws.proofs.Logs.{answered_are_records}
-use Rattle.list_laws.proofs.Places.{all_in}
-use Rattle.list_laws.proofs.Places.{in_all}
+use Rattle.list_laws.proofs.Places.{all_in, in_all}
 use Rattle.batch_laws.proofs.Rooms.{batch_is_answered}
 use Rattle.batch_laws.specs.Threads.{IsLineOf}
 use Rattle.batch_laws.proofs.Shares.{outcomes_are_lines}
-use Rattle.batch_runner.specs.declared.service.Service.{Service}
-use Rattle.batch_runner.specs.Served.{Served, IsServed, setup_of_batch, shares_of}
+use Rattle.batch_deals.specs.declared.service.Service.{Service}
+use Rattle.batch_runner.specs.Served.{Served, IsServed, setup_of_batch}
+use Rattle.batch_deals.specs.Dealt.{shares_of}
 use Rattle.batch_runner.proofs.Alike.{alike}
 use Rattle.batch_runner.proofs.Closings.{numbered}
-use Rattle.batch_runner.proofs.Deals.{long_dealt}
+use Rattle.batch_deals.proofs.Deals.{long_dealt}
 use Rattle.std.proofs.lemmas.Simd.{map-map}
 
 module _ (service : Service) (batch : Served) (is : IsServed service batch) where

@@ -12,8 +12,9 @@ use Rattle.trace_share.specs.declared.deals.Share.TheVariants.{Flow}
 use Rattle.batch_history.specs.Batches.{all_calls}
 use Rattle.batch_laws.specs.Rooms.{NoneRefused}
 use Rattle.batch_laws.specs.Threads.{ClassesHaveRoom}
-use Rattle.batch_runner.specs.declared.service.Service.{Service}
-use Rattle.batch_runner.specs.Served.{Served, AreServed, history_in, pairs_left, rules_of}
+use Rattle.batch_deals.specs.declared.service.Service.{Service}
+use Rattle.batch_runner.specs.Served.{Served, AreServed, history_in, pairs_left}
+use Rattle.batch_deals.specs.Opens.{rules_of}
 use Rattle.batch_runner.specs.Printed.{all_lines, answers_in, outcomes_in}
 
 -- no rows are given: the table of each batch has what the batch's own calls can need

@@ -15,7 +15,7 @@ use plain_map::{Key, Rules};
 use std::alloc::{AllocError, Global};
 
 /// What is crowded by some keys, from a starting depth up to one less than the greatest.
-#[derive(Clone, Copy, Debug)]
+#[derive(Clone, Copy)]
 pub(crate) struct Crowds {
     /// Prefixes that have more of the keys than a bucket has room for.
     pub prefixes: u64,

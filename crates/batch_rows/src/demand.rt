@@ -7,7 +7,7 @@ ghost use Rattle.batch_rows.specs.Counts.{AreInOrder};
 use plain_map::Key;
 
 /// What a batch asks of its table.
-#[derive(Debug, Drop)]
+#[derive(Drop)]
 pub struct Demand {
     /// The keys of its inserts, in order and each once.
     pub inserted: Vec<Key>,

@@ -12,6 +12,3 @@ mod telling;
 pub use demand::Demand;
 pub use rows::{CALL_LIMIT, Sizes, batch_rows, sizes_for, updates_of};
 pub use telling::demand_of;
-
-#[cfg(test)]
-mod tests;

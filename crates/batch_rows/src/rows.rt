@@ -21,7 +21,7 @@ use step_counts::{SeatRows, Settings, automatic_rows, need};
 pub const CALL_LIMIT: usize = 1 << 30;
 
 /// The sizes of the table of a batch.
-#[derive(Debug, Drop)]
+#[derive(Drop)]
 pub struct Sizes {
     pub settings: Settings,
     /// Of each seat, seat 0 first.

@@ -13,7 +13,7 @@ use plain_map::{Key, Pair, Rules};
 use std::alloc::{AllocError, Global};
 
 /// What the buckets of a batch's table can need.
-#[derive(Clone, Copy, Debug)]
+#[derive(Clone, Copy)]
 pub(crate) struct Splits {
     /// The greatest depth: one more than the last of which a bucket can be split, or else the starting one.
     pub depth: u32,

@@ -27,11 +27,11 @@ use Rattle.trace_share.specs.declared.outcome.Outcome.TheVariants.{Answered, Ref
 use Rattle.trace_share.specs.Outcomes.{asked_in, records_in}
 use Rattle.batch_rows.specs.BatchRows.{inserted_in_calls, rules_in}
 use Rattle.batch_rows.specs.Depths.{InsertsAmong, IsTableFor, depth_for, keys_in_batch, lesser_rules}
-use Rattle.batch_runner.specs.declared.service.Service.{Service}
-use Rattle.batch_runner.specs.Served.{shares_of}
+use Rattle.batch_deals.specs.declared.service.Service.{Service}
+use Rattle.batch_deals.specs.Dealt.{shares_of}
 use Rattle.batch_rows.proofs.Lesser.{bound_falls, depth_is_within, room_above, room_below, same_after, same_legal, same_warrant}
 use Rattle.batch_runner.proofs.Counted.{unmap_all}
-use Rattle.batch_runner.proofs.Deals.{dealt_hold}
+use Rattle.batch_deals.proofs.Deals.{dealt_hold}
 
 -- ---- the keys of a batch
 

@@ -15,7 +15,7 @@ use Rattle.order_laws.proofs.AllRuns.{all_tell}
 use Rattle.bound_laws.proofs.Ends.{steps_are_bounded, records_are_numbered}
 use Rattle.trace_share.specs.Outcomes.{records_in}
 use Rattle.batch_history.specs.Batches.{AreNumbered}
-use Rattle.batch_runner.specs.declared.service.Service.{Service}
+use Rattle.batch_deals.specs.declared.service.Service.{Service}
 use Rattle.batch_runner.specs.Served.{Served, IsOfRun, closing_in, setup_of_batch}
 
 -- the records of a seat's state

@@ -7,9 +7,9 @@ use Rattle.plain_map.specs.declared.calls.Call.{Call}
 use Rattle.trace_share.specs.declared.outcome.Outcome.{Outcome}
 use Rattle.trace_share.specs.Outcomes.{asked_in, records_in}
 use Rattle.trace_share.proofs.OutcomeLemmas.{records_few}
-use Rattle.batch_runner.specs.declared.service.Service.{Service}
-use Rattle.batch_runner.specs.Served.{shares_of}
-use Rattle.batch_runner.proofs.Deals.{dealt_few}
+use Rattle.batch_deals.specs.declared.service.Service.{Service}
+use Rattle.batch_deals.specs.Dealt.{shares_of}
+use Rattle.batch_deals.proofs.Deals.{dealt_few}
 
 -- what holds of all that are mapped
 pub unmap_all : {A B : Type 0} (P : B → Type 0) (f : A → B) (xs : List A) → All P (map f xs) → All (λ x. P (f x)) xs

@@ -16,14 +16,15 @@ use Rattle.shared_table.specs.Orders.{AreInTurn, ClosedIsOfARun}
 use Rattle.trace_share.specs.declared.outcome.Outcome.{Outcome}
 use Rattle.trace_share.specs.Outcomes.{asked_in, records_in}
 use Rattle.batch_rows.specs.Depths.{IsTableFor}
-use Rattle.batch_runner.specs.declared.service.Service.{Service}
+use Rattle.batch_deals.specs.declared.service.Service.{Service}
 use Rattle.batch_runner.specs.Seats.{HaveMade}
-use Rattle.batch_runner.specs.Served.{IsOfRun, setup_in, shares_of}
+use Rattle.batch_runner.specs.Served.{IsOfRun, setup_in}
+use Rattle.batch_deals.specs.Dealt.{shares_of}
 use Rattle.batch_runner.specs.Told.{IsClosedBatch}
 use Rattle.batch_runner.proofs.Alike.{alike}
-use Rattle.batch_runner.proofs.Deals.{long_dealt}
+use Rattle.batch_deals.proofs.Deals.{long_dealt}
 use Rattle.batch_runner.proofs.Finished.{all_asked, all_idle, all_records, all_refused, many_made, one_made, records_left}
-use Rattle.batch_runner.proofs.Shallow.{shallow}
+use Rattle.batch_deals.proofs.Shallow.{shallow}
 
 -- each seat is one of the table's
 pub all_of_table : (t : TableValue) (shares : List (List (ℕ × Call))) (seats : List SeatValue)

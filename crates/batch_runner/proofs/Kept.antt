@@ -11,7 +11,7 @@ use Rattle.trace_share.specs.declared.outcome.Outcome.{Outcome}
 use Rattle.trace_share.specs.declared.outcome.Outcome.TheVariants.{Answered, Refused}
 use Rattle.trace_share.specs.Outcomes.{full_in, records_in}
 use Rattle.trace_share.specs.Work.{IsLogOf}
-use Rattle.batch_runner.specs.declared.service.Service.{Service}
+use Rattle.batch_deals.specs.declared.service.Service.{Service}
 use Rattle.batch_runner.specs.declared.totals.Totals.{Totals}
 use Rattle.batch_runner.specs.Printed.{refused_in}
 use Rattle.batch_runner.specs.Told.{IsClosedBatch}

@@ -2,11 +2,8 @@ pub mod Alike
 pub mod Closings
 pub mod Rights
 pub mod Counted
-pub mod Shallow
 pub mod Ended
 pub mod Telling
-pub mod Opens
-pub mod Deals
 pub mod Finished
 pub mod Working
 pub mod Lines

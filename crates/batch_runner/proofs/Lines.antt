@@ -7,7 +7,7 @@ use Rattle.plain_map.specs.declared.records.CallId.{CallId}
 use Rattle.plain_map.specs.History.{ids_of}
 use Rattle.trace_share.specs.declared.outcome.Outcome.{Outcome}
 use Rattle.report_text.specs.Report.{batch_lines, order_lines, outcome_line}
-use Rattle.batch_runner.specs.declared.service.Service.{Service}
+use Rattle.batch_deals.specs.declared.service.Service.{Service}
 use Rattle.batch_runner.specs.Served.{Served, order_in}
 use Rattle.batch_runner.specs.Printed.{lines_of, outcome_on}
 use Rattle.batch_runner.specs.Told.{IsOrderOf, read_there}

@@ -25,8 +25,9 @@ use Rattle.trace_share.specs.Outcomes.{records_in}
 use Rattle.batch_history.specs.Batches.{AreInOrder, IsInOrder, BatchesAreOneOrder}
 use Rattle.batch_rows.specs.BatchRows.{rules_in}
 use Rattle.batch_rows.specs.Depths.{InsertsAmong, keys_in_batch}
-use Rattle.batch_runner.specs.declared.service.Service.{Service}
-use Rattle.batch_runner.specs.Served.{Served, IsServed, AreServed, CanOpen, history_in, leaves_in, order_in, pairs_left, rules_of, setup_of_batch, shape_in}
+use Rattle.batch_deals.specs.declared.service.Service.{Service}
+use Rattle.batch_runner.specs.Served.{Served, IsServed, AreServed, history_in, leaves_in, order_in, pairs_left, setup_of_batch, shape_in}
+use Rattle.batch_deals.specs.Opens.{CanOpen, rules_of}
 use Rattle.batch_runner.specs.Promises.{IsSound, ServedAreRight}
 use Rattle.batch_runner.proofs.Alike.{IsAlike, alike, order_among}
 use Rattle.batch_runner.proofs.Closings.{closing_is, numbered, steps}

@@ -11,11 +11,12 @@ use Rattle.trace_share.specs.Outcomes.{asked_in, records_in}
 use Rattle.batch_history.specs.Batches.{answered_then, with_counts}
 use Rattle.std.proofs.lemmas.Simd.{map-map}
 use Rattle.plain_map.specs.declared.records.Record.{Record}
-use Rattle.batch_runner.specs.declared.service.Service.{Service}
+use Rattle.batch_deals.specs.declared.service.Service.{Service}
 use Rattle.batch_runner.specs.declared.batch.Batch.{Batch}
-use Rattle.batch_runner.specs.Served.{CanOpen, Served, IsServed, history_in, rules_of}
+use Rattle.batch_deals.specs.Opens.{CanOpen, rules_of}
+use Rattle.batch_runner.specs.Served.{Served, IsServed, history_in}
 use Rattle.batch_runner.specs.Told.{CanGoOn, IsToldBy}
-use Rattle.batch_runner.proofs.Deals.{long_dealt}
+use Rattle.batch_deals.proofs.Deals.{long_dealt}
 use Rattle.batch_runner.proofs.Rights.{can_open}
 use Rattle.batch_runner.proofs.Counted.{short_asked, unmap_all}
 

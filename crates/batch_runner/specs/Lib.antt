@@ -1,4 +1,3 @@
-pub mod Dealt
 pub mod Served
 pub mod Seats
 pub mod Opened

@@ -7,10 +7,11 @@ use Rattle.table_model.specs.Setup.{settings_of}
 use Rattle.shared_table.specs.Values.{TableValue}
 use Rattle.trace_share.specs.declared.outcome.Outcome.{Outcome}
 use Rattle.batch_rows.specs.Depths.{IsTableFor}
-use Rattle.batch_runner.specs.declared.service.Service.{Service}
+use Rattle.batch_deals.specs.declared.service.Service.{Service}
 use Rattle.batch_runner.specs.declared.workers.SeatWorker.{SeatWorker}
 use Rattle.batch_runner.specs.Seats.{AreFresh, HasWorked}
-use Rattle.batch_runner.specs.Served.{setup_in, shares_of}
+use Rattle.batch_runner.specs.Served.{setup_in}
+use Rattle.batch_deals.specs.Dealt.{shares_of}
 
 -- its table is one for these pairs and calls, and has a worker for each seat, with the seat's share of the calls
 pub record IsOpened {K : Type 0} (holds : K → List Outcome → Type 0) (room : K → ℕ) (service : Service)

@@ -9,7 +9,7 @@ use Rattle.trace_share.specs.Outcomes.{full_in, record_in}
 use Rattle.report_text.specs.Report.{Batch as Lines}
 use Rattle.batch_history.specs.Batches.{answered_then}
 pub use Rattle.report_text.specs.Report.{outcome_on}
-use Rattle.batch_runner.specs.declared.service.Service.{Service}
+use Rattle.batch_deals.specs.declared.service.Service.{Service}
 use Rattle.batch_runner.specs.Served.{Served, history_in, order_in}
 
 -- so many calls a seat has answered at most before a batch

@@ -8,8 +8,9 @@ use Rattle.table_model.specs.Promises.{HasSteps}
 use Rattle.table_model.specs.Closed.{Cover, Warranted, greatest_depth}
 use Rattle.trace_share.specs.Outcomes.{records_in}
 use Rattle.batch_history.specs.Batches.{AreOneOrder}
-use Rattle.batch_runner.specs.declared.service.Service.{Service}
-use Rattle.batch_runner.specs.Served.{Served, AreServed, history_in, leaves_in, depth_in, order_in, pairs_left, rules_of, setup_of_batch}
+use Rattle.batch_deals.specs.declared.service.Service.{Service}
+use Rattle.batch_runner.specs.Served.{Served, AreServed, history_in, leaves_in, depth_in, order_in, pairs_left, setup_of_batch}
+use Rattle.batch_deals.specs.Opens.{rules_of}
 
 -- one batch: each update took no more steps than the bound of its table, which is no greater than that of the settings,
 -- and each lookup exactly its own; the leaves of the closed table cover all hashes, each that is deeper than the start

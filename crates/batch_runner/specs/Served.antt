@@ -7,14 +7,12 @@ use Rattle.step_counts.specs.declared.settings.Settings.{Settings}
 use Rattle.step_counts.specs.StepCounts.{need_of}
 use Rattle.plain_map.specs.declared.calls.Call.{Call}
 use Rattle.plain_map.specs.declared.keys.Pair.{Pair}
-use Rattle.plain_map.specs.declared.rules.Rules.{Rules}
 use Rattle.plain_map.specs.Keys.{key_cmp}
 use Rattle.plain_map.specs.History.{Placed}
 use Rattle.plain_map.specs.declared.leaves.Leaf.{Leaf}
 use Rattle.word_rows.specs.Shape.{Shape, sizes_of}
 use Rattle.table_model.specs.declared.events.Event.{Event}
-use Rattle.table_model.specs.Setup.{Setup, HaveRoom, IsPair}
-use Rattle.bucket_states.specs.Parts.{HasDistinctKeys}
+use Rattle.table_model.specs.Setup.{Setup}
 use Rattle.table_model.specs.SeatStates.{SeatState, Idle}
 use Rattle.table_model.specs.Worlds.{World, IsRun, world_after, seat_in}
 use Rattle.table_model.specs.Order.{Closing, order_of}
@@ -22,26 +20,12 @@ use Rattle.table_model.specs.Closed.{closed_depth, closed_leaves, closed_pairs}
 use Rattle.table_model.specs.Closing.{closing_with}
 use Rattle.shared_table.specs.Openings.{setup_of}
 use Rattle.trace_share.specs.declared.outcome.Outcome.{Outcome}
-use Rattle.trace_share.specs.Deal.{dealt}
 use Rattle.trace_share.specs.Outcomes.{asked_in, records_in, RefusedByRoom}
 use Rattle.batch_history.specs.Batches.{Batch}
-use Rattle.batch_rows.specs.BatchRows.{rules_in, rows_of}
+use Rattle.batch_rows.specs.BatchRows.{rows_of}
 use Rattle.batch_rows.specs.Depths.{IsTableFor}
-use Rattle.batch_runner.specs.declared.service.Service.{Service}
-
--- the rules of the plain map that the service keeps
-abbrev pub rules_of : Service → Rules
-rules_of service = rules_in service.settings service.hashing
-
--- a table can be opened with these pairs: each can be kept, their keys are distinct, and they find room
-pub record CanOpen (rules : Rules) (first : List Pair) : Type 0 where
-  pub pairs : All IsPair first
-  pub distinct : HasDistinctKeys first
-  pub room : HaveRoom rules first
-
--- for each seat the calls that it makes
-abbrev pub shares_of : Service → List (ℕ × Call) → List (List (ℕ × Call))
-shares_of service calls = dealt service.share service.settings.seats calls
+use Rattle.batch_deals.specs.declared.service.Service.{Service}
+use Rattle.batch_deals.specs.Dealt.{shares_of}
 
 -- what a table of a batch is opened with that has these settings
 abbrev pub setup_in : Service → Settings → (first : List Pair) → (calls : List (ℕ × Call)) → Setup

@@ -11,10 +11,12 @@ use Rattle.shared_table.specs.Values.{ClosedValue}
 use Rattle.trace_share.specs.declared.outcome.Outcome.{Outcome}
 use Rattle.trace_share.specs.Outcomes.{asked_in, records_in}
 use Rattle.batch_rows.specs.Depths.{IsTableFor}
-use Rattle.batch_runner.specs.declared.service.Service.{Service}
+use Rattle.batch_deals.specs.declared.service.Service.{Service}
 use Rattle.batch_runner.specs.declared.batch.Batch.{Batch}
 use Rattle.batch_runner.specs.Totals.{totals_of}
-use Rattle.batch_runner.specs.Served.{AreInPacketOrder, CanOpen, IsOfRun, IsServed, Served, depth_in, leaves_in, order_in, rules_of, setup_in, shares_of}
+use Rattle.batch_runner.specs.Served.{AreInPacketOrder, IsOfRun, IsServed, Served, depth_in, leaves_in, order_in, setup_in}
+use Rattle.batch_deals.specs.Opens.{CanOpen, rules_of}
+use Rattle.batch_deals.specs.Dealt.{shares_of}
 
 -- this is what the batch came to
 pub record IsToldBy (service : Service) (served : Served) (batch : Batch) : Type 0 where

@@ -3,11 +3,9 @@
 
 mod batch;
 mod counts;
-mod dealing;
 mod laws;
 mod ordering;
 mod outcomes;
-mod service;
 mod text;
 mod totals;
 mod workers;
@@ -17,12 +15,7 @@ pub use batch::{
     Account, Asked, Batch, OpenBatch, close_counted, close_printed, open_batch, serve_batch,
 };
 pub use counts::go_on;
-pub use dealing::{Dealt, deal_batch};
 pub use laws::served_laws;
-pub use service::Service;
 pub use totals::{Replies, Totals};
 pub use workers::SeatWorker;
 pub use workspace::Workspace;
-
-#[cfg(test)]
-mod tests;

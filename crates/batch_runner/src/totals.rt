@@ -10,7 +10,7 @@ use std::alloc::{AllocError, Global};
 use trace_share::{Collector, Outcome};
 
 /// How many calls had each reply, a number for each kind of reply.
-#[derive(Clone, Copy, Debug, PartialEq, Eq)]
+#[derive(Clone, Copy, PartialEq, Eq)]
 pub struct Replies {
     pub new: u64,
     pub old: u64,
@@ -21,7 +21,7 @@ pub struct Replies {
 }
 
 /// What calls came to.
-#[derive(Clone, Copy, Debug, PartialEq, Eq)]
+#[derive(Clone, Copy, PartialEq, Eq)]
 pub struct Totals {
     /// All of them, those that were refused too.
     pub calls: u64,

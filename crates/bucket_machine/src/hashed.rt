@@ -8,7 +8,7 @@ use hash_bits::Hashing;
 use plain_map::Key;
 
 /// A key and its hash.
-#[derive(Clone, Copy, Debug)]
+#[derive(Clone, Copy)]
 pub struct Hashed {
     pub key: Key,
     pub hash: u64,

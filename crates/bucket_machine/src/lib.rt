@@ -7,6 +7,3 @@ mod row;
 
 pub use change::change_row;
 pub use hashed::Hashed;
-
-#[cfg(test)]
-mod tests;

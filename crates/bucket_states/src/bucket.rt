@@ -21,7 +21,7 @@ use std::alloc::{AllocError, Global};
 use step_counts::Settings;
 
 /// One version of a bucket.
-#[derive(Debug, Drop)]
+#[derive(Drop)]
 pub struct Bucket {
     /// The first `depth` bits of the hashes of its keys, as a number below 2^depth.
     pub prefix: u64,

@@ -11,6 +11,3 @@ mod ops;
 pub use bucket::Bucket;
 pub use laws::{answer_laws, fold_laws, kept_laws, taken_laws};
 pub use ops::Op;
-
-#[cfg(test)]
-mod tests;

@@ -3,7 +3,7 @@
 use plain_map::Call;
 
 /// A call that a seat has announced, so that any seat may carry it out.
-#[derive(Clone, Copy, Debug, PartialEq, Eq)]
+#[derive(Clone, Copy, PartialEq, Eq)]
 pub struct Op {
     /// The seat that asks, below the number of seats; it is also the op's place among those of all seats.
     pub seat: u32,

@@ -5,6 +5,3 @@ mod room;
 mod window;
 
 pub use window::{CAPACITY, MOST_HELD, PIECE, Window};
-
-#[cfg(test)]
-mod tests;

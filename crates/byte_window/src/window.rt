@@ -24,7 +24,7 @@ pub const MOST_HELD: usize = CAPACITY - PIECE;
 /// The bytes that were read and not yet taken, and those that were taken last.
 ///
 /// Only its makers take memory.
-#[derive(Debug, Drop)]
+#[derive(Drop)]
 pub struct Window {
     buf: Vec<u8>,
     mark: usize,

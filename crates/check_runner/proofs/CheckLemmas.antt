@@ -78,4 +78,5 @@ leaves_front first left before after found has put =
       lost = has.lost;
       few = has.few;
       took = (found, has.is, put);
+      all = λ v same. absurd (cc);
     }

@@ -25,7 +25,7 @@ line_of (Judged (verdict.After packet)) = codes "check no after " ++ decimal pac
 line_of (Judged (verdict.Legal packet)) = codes "check no legal " ++ decimal packet ++ codes "\n"
 line_of (Judged verdict.Sessions) = codes "check no sessions\n"
 line_of (Judged (verdict.Steps packet)) = codes "check no steps " ++ decimal packet ++ codes "\n"
-line_of TooLong = codes "check limit 67108864\n"
+line_of TooLong = codes "check limit 4294967295\n"
 
 -- ---- what is found of a text
 
@@ -79,13 +79,15 @@ Leaves bytes before after (Err ReadFault) = Keeps before after
 Leaves bytes before after (Err Memory) = Keeps before after
 
 -- So it is for the bytes of a source, where they are told, and for those that were taken of it, as of a source that
--- had just these. No more than one byte beyond the limit is taken.
+-- had just these. Where it was judged they are all that the source had. No more than one byte beyond the limit is
+-- taken.
 pub record LeavesChecked (first left before after : Option (List ℕ)) (answer : Result Checked Stop) : Type 0 where
   pub told : (bytes : List ℕ) → first ≡ Some bytes → Leaves bytes before after answer
   pub taken : List ℕ
   pub lost : Consumes first left taken
   pub few : length taken ≤ TEXT_LIMIT + 1
   pub took : Leaves taken before after answer
+  pub all : (v : Verdict) → answer ≡ Ok (Judged v) → IfSome first (λ bytes. bytes ≡ taken)
 
 -- ---- facts by the answer
 

@@ -13,7 +13,7 @@ use report_told::Verdict;
 use std::alloc::{AllocError, Global};
 
 /// What was found of a text.
-#[derive(Clone, Copy, Debug, PartialEq, Eq)]
+#[derive(Clone, Copy, PartialEq, Eq)]
 pub enum Checked {
     /// Its verdict.
     Judged(Verdict),
@@ -22,7 +22,7 @@ pub enum Checked {
 }
 
 /// What ended a check before its line was put whole.
-#[derive(Clone, Copy, Debug, PartialEq, Eq)]
+#[derive(Clone, Copy, PartialEq, Eq)]
 pub enum Stop {
     /// A read failed.
     ReadFault,
@@ -33,7 +33,7 @@ pub enum Stop {
 }
 
 /// What was found, and the line that tells it.
-#[derive(Debug, Drop)]
+#[derive(Drop)]
 struct Found {
     checked: Checked,
     line: Vec<u8>,

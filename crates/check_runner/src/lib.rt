@@ -6,6 +6,3 @@ mod lines;
 mod reading;
 
 pub use checking::{Checked, Stop, check_input};
-
-#[cfg(test)]
-mod tests;

@@ -13,7 +13,7 @@ pub(crate) fn line_of(alloc: Global, checked: &Checked) -> Result<Vec<u8>, Alloc
     ensures { IfOk result (λ line. line.items ≡ line_of checked.now) }
 {
     match checked {
-        Checked::TooLong => Vec::from_slice(alloc, b"check limit 67108864\n"),
+        Checked::TooLong => Vec::from_slice(alloc, b"check limit 4294967295\n"),
         Checked::Judged(Verdict::Yes) => Vec::from_slice(alloc, b"check yes\n"),
         Checked::Judged(Verdict::BadLine { line }) => numbered(alloc, b"check bad line ", *line),
         Checked::Judged(Verdict::Whole { packet }) => numbered(alloc, b"check no whole ", *packet),

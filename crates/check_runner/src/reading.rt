@@ -13,7 +13,7 @@ use std::alloc::{AllocError, Global};
 const PIECE: usize = 65_536;
 
 /// What was read of a source.
-#[derive(Debug, Drop)]
+#[derive(Drop)]
 pub(crate) enum Reading {
     /// All its bytes.
     Whole(Vec<u8>),

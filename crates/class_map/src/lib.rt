@@ -5,6 +5,3 @@ mod pairs;
 mod rows;
 
 pub use rows::ClassMap;
-
-#[cfg(test)]
-mod tests;

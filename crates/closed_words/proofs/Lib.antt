@@ -3,3 +3,4 @@ pub mod LoopLemmas
 pub mod LineLemmas
 pub mod ItemLemmas
 pub mod TakenLemmas
+pub mod MarkLemmas

@@ -35,29 +35,3 @@ filter-left p xs i d done all done_then inside fails same were =
     let step : filter p (drop i xs) ≡ rest =
     at_drop_more (filter p) xs i d inside ∙ ap (λ (b : Bool). cond b (x ∷ rest) rest) fails in
     stays done rest (filter p (drop i xs)) all done_then same step were
-
--- a number is kept where it does not stand further on
-pub each_once-kept : (xs : List ℕ) (i : ℕ) (done all done_then : List ℕ) → i < length xs →
-    is_among (take (length xs - (i + 1)) (drop (i + 1) xs)) (get_or xs i 0) ≡ false →
-    done_then ≡ done ++ get_or xs i 0 ∷ [] → done ++ each_once (drop i xs) ≡ all →
-    done_then ++ each_once (drop (i + 1) xs) ≡ all
-each_once-kept xs i done all done_then inside fails more were =
-    let x = get_or xs i 0 in
-    let rest = each_once (drop (i + 1) xs) in
-    let later : is_among (drop (i + 1) xs) x ≡ false =
-    ap (λ (ys : List ℕ). is_among ys x) (sym (take_rest xs (i + 1))) ∙ fails in
-    let step : each_once (drop i xs) ≡ x ∷ rest =
-    at_drop_more each_once xs i 0 inside ∙ ap (λ (b : Bool). cond b rest (x ∷ rest)) later in
-    grows done (x ∷ []) rest (each_once (drop i xs)) all done_then more step were
-
-pub each_once-left : (xs : List ℕ) (i : ℕ) (done all done_then : List ℕ) → i < length xs →
-    is_among (take (length xs - (i + 1)) (drop (i + 1) xs)) (get_or xs i 0) ≡ true → done_then ≡ done →
-    done ++ each_once (drop i xs) ≡ all → done_then ++ each_once (drop (i + 1) xs) ≡ all
-each_once-left xs i done all done_then inside holds same were =
-    let x = get_or xs i 0 in
-    let rest = each_once (drop (i + 1) xs) in
-    let later : is_among (drop (i + 1) xs) x ≡ true =
-    ap (λ (ys : List ℕ). is_among ys x) (sym (take_rest xs (i + 1))) ∙ holds in
-    let step : each_once (drop i xs) ≡ rest =
-    at_drop_more each_once xs i 0 inside ∙ ap (λ (b : Bool). cond b rest (x ∷ rest)) later in
-    stays done rest (each_once (drop i xs)) all done_then same step were

@@ -3,18 +3,18 @@
 
 mod held;
 mod lists;
+mod marks;
 mod new_numbers;
 mod published;
 mod rows;
 mod starts;
 mod taken;
-#[cfg(test)]
-mod tests;
 mod values;
 mod walking;
 mod words;
 
 pub use held::{closed_buckets, closed_leaves, closed_pairs, row_items};
+pub use marks::{meet, was_met};
 pub use new_numbers::new_number;
 pub use published::{
     bucket_line, bucket_rows, directory_line, directory_rows, entries, leaves_new_in, named_buckets,

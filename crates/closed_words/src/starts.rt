@@ -7,7 +7,7 @@ use step_counts::bucket_row_words;
 use word_rows::{Layout, place_laws};
 
 /// The first words of the parts, and how many words a row has.
-#[derive(Clone, Copy, Debug)]
+#[derive(Clone, Copy)]
 pub struct Starts {
     /// The word numbers of the table.
     pub layout: Layout,

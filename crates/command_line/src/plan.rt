@@ -6,7 +6,7 @@ use step_counts::SeatRows;
 use trace_share::Share;
 
 /// What the program does.
-#[derive(Clone, Copy, Debug, PartialEq, Eq)]
+#[derive(Clone, Copy, PartialEq, Eq)]
 pub enum Mode {
     /// Reads a capture, calls the table for each packet, and reports.
     Serve,
@@ -23,7 +23,7 @@ pub enum Mode {
 }
 
 /// The mode and its settings. A setting that the mode does not use has its default.
-#[derive(Debug, Drop)]
+#[derive(Drop)]
 pub struct Plan {
     pub mode: Mode,
     /// How many callers or adders the table has, 1 to 8.

@@ -6,7 +6,7 @@ ghost use Rattle.command_line.specs.declared.plays.Segment.{Segment};
 use std::marker::Model;
 
 /// So many slots of a seat, or all that it needs to the end of its calls.
-#[derive(Clone, Copy, Debug, PartialEq, Eq)]
+#[derive(Clone, Copy, PartialEq, Eq)]
 pub struct Segment {
     pub seat: u32,
     /// `None` to the end of the seat's calls.
@@ -14,7 +14,7 @@ pub struct Segment {
 }
 
 /// The segments of a play, one after the other. Contracts see the list of them.
-#[derive(Debug, Drop)]
+#[derive(Drop)]
 pub struct Schedule {
     segments: Vec<Segment>,
 }
@@ -42,7 +42,7 @@ impl Schedule {
 }
 
 /// How many steps each seat may take, in the order of the seats. Contracts see the list of them.
-#[derive(Debug, Drop)]
+#[derive(Drop)]
 pub struct Stops {
     steps: Vec<Option<u32>>,
 }

@@ -21,8 +21,6 @@ mod command;
 mod laws;
 mod options;
 mod plays;
-#[cfg(test)]
-mod tests;
 mod texts;
 mod values;
 

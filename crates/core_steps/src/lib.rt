@@ -7,8 +7,6 @@ mod one_world;
 mod openings;
 mod reading;
 #[cfg(test)]
-mod seat_tests;
-#[cfg(test)]
 mod tests;
 mod values;
 #[cfg(test)]

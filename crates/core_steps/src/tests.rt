@@ -1,135 +1,52 @@
-use crate::{CoreEnd, CoreWorld};
-use hash_bits::Hashing;
-use plain_map::{Key, OpenFault, Pair};
-use std::alloc::{AllocError, Global};
-use std::test::Fail;
-use step_counts::{SeatRows, Settings};
+//! Tests of the crates that a table is made of, worked by hand, which show that their definitions mean what was meant,
+//! and that memory is found. They stand here since each crate with tests is proved a second time.
 
-const ROWS: SeatRows = SeatRows {
+mod buckets;
+mod changes;
+mod closings;
+mod maps;
+mod openings;
+mod rooms;
+mod spellings;
+
+use plain_map::{Key, Pair};
+use step_counts::SeatRows;
+
+// The key of TCP packets from 10.0.0.1, with this port, to 10.0.0.2, port 80. Its hash by ports begins with the port's
+// 16 bits: ports 1, 2 and 3 begin with 000, port 8192 with 001, port 16384 with 010, and port 32768 with 100.
+fn key(port: u16) -> Key {
+    Key {
+        k0: 0,
+        k1: 0x0a00_0001,
+        k2: 0,
+        k3: 0x0a00_0002,
+        k4: u64::from(port) << 24 | 0x5006,
+    }
+}
+
+// That key with a value and bytes.
+fn pair(port: u16, value: u64, bytes: u64) -> Pair {
+    Pair {
+        key: key(port),
+        value,
+        bytes,
+    }
+}
+
+// The rows of the only seat of a small table.
+const SMALL_ROWS: SeatRows = SeatRows {
     op_rows: 1,
     bucket_rows: 4,
     bucket_words: 2,
     directory_rows: 1,
 };
 
-// The sessions of TCP packets from 10.0.0.1, ports 1 to 3, to 10.0.0.2, port 80.
-const FIRST: [Pair; 3] = [
-    Pair {
-        key: Key {
-            k0: 0,
-            k1: 0x0a00_0001,
-            k2: 0,
-            k3: 0x0a00_0002,
-            k4: 0x0100_5006,
-        },
-        value: 1,
-        bytes: 0,
-    },
-    Pair {
-        key: Key {
-            k0: 0,
-            k1: 0x0a00_0001,
-            k2: 0,
-            k3: 0x0a00_0002,
-            k4: 0x0200_5006,
-        },
-        value: 2,
-        bytes: 0,
-    },
-    Pair {
-        key: Key {
-            k0: 0,
-            k1: 0x0a00_0001,
-            k2: 0,
-            k3: 0x0a00_0002,
-            k4: 0x0300_5006,
-        },
-        value: 3,
-        bytes: 0,
-    },
-];
-
-// The same with the ports 1, 16384 and 32768, whose classes by two bits are 0, 1 and 2.
-const SPREAD: [Pair; 3] = [
-    Pair {
-        key: Key {
-            k0: 0,
-            k1: 0x0a00_0001,
-            k2: 0,
-            k3: 0x0a00_0002,
-            k4: 0x0000_0100_5006,
-        },
-        value: 1,
-        bytes: 0,
-    },
-    Pair {
-        key: Key {
-            k0: 0,
-            k1: 0x0a00_0001,
-            k2: 0,
-            k3: 0x0a00_0002,
-            k4: 0x0040_0000_5006,
-        },
-        value: 2,
-        bytes: 0,
-    },
-    Pair {
-        key: Key {
-            k0: 0,
-            k1: 0x0a00_0001,
-            k2: 0,
-            k3: 0x0a00_0002,
-            k4: 0x0080_0000_5006,
-        },
-        value: 3,
-        bytes: 0,
-    },
-];
-
-// What the core leaves, if memory was found.
-fn ended(alloc: Global, core: CoreWorld) -> Result<CoreEnd, AllocError> {
-    match core.finish(alloc) {
-        Ok(left) => Ok(left),
-        Err((failed, _)) => Err(failed),
+// So many rows of each kind.
+fn rows_of(op_rows: u64, bucket_rows: u64, bucket_words: u64, directory_rows: u64) -> SeatRows {
+    SeatRows {
+        op_rows,
+        bucket_rows,
+        bucket_words,
+        directory_rows,
     }
-}
-
-// Three keys of one class, of which a bucket has room for two.
-#[test]
-fn the_third_pair_finds_no_room(rt: HostRuntime) -> Result<(), Fail> {
-    let settings = Settings::new(1, 2, 2, 0)?;
-    let opened = CoreWorld::new(rt.alloc(), &settings, Hashing::Ports(0), &[ROWS], &FIRST);
-    match opened {
-        Err(fault) => assert_eq!(rt; fault, OpenFault::NoRoom { place: 2 }),
-        Ok(_) => assert!(rt; false, "a table was opened"),
-    }
-    Ok(())
-}
-
-// The third pair splits the only bucket, which has room for two: the first two are in the one half, and the third is in
-// the other.
-#[test]
-fn an_opening_splits(rt: HostRuntime) -> Result<(), Fail> {
-    let settings = Settings::new(1, 2, 2, 0)?;
-    let core = CoreWorld::new(rt.alloc(), &settings, Hashing::Ports(0), &[ROWS], &SPREAD)?;
-    let left = ended(rt.alloc(), core)?;
-    assert_eq!(rt; (left.leaves.len(), left.depth), (2, 1));
-    assert_eq!(rt; left.pairs.as_slice(), SPREAD.as_slice());
-    Ok(())
-}
-
-// A table of two seats that begins with depth 1 has two leaves, no pair, and two seats that rest.
-#[test]
-fn an_opening_is_left_as_it_was(rt: HostRuntime) -> Result<(), Fail> {
-    let settings = Settings::new(2, 2, 1, 1)?;
-    let core = CoreWorld::new(rt.alloc(), &settings, Hashing::Ports(0), &[ROWS, ROWS], &[])?;
-    assert!(rt; core.idle(0));
-    assert!(rt; core.idle(1));
-    let left = ended(rt.alloc(), core)?;
-    assert_eq!(rt; left.leaves.len(), 2);
-    assert_eq!(rt; left.depth, 1);
-    assert_eq!(rt; left.pairs.len(), 0);
-    assert_eq!(rt; left.begun.len(), 0);
-    assert_eq!(rt; left.logs.len(), 2);
-    Ok(())
 }

@@ -5,7 +5,7 @@ use plain_map::{Full, Pair, Pending, Record};
 use word_rows::ClosedRows;
 
 /// What an event did.
-#[derive(Clone, Copy, Debug, PartialEq, Eq)]
+#[derive(Clone, Copy, PartialEq, Eq)]
 pub enum Stepped {
     /// The seat's call goes on.
     Going,
@@ -16,7 +16,7 @@ pub enum Stepped {
 }
 
 /// What the core leaves where it is stopped.
-#[derive(Debug, Drop)]
+#[derive(Drop)]
 pub struct CoreEnd {
     pub rows: ClosedRows,
     /// The records of each seat.

@@ -21,7 +21,7 @@ use std::alloc::{AllocError, Global};
 use step_counts::Settings;
 
 /// A new directory and its new leaves, with room that is made once.
-#[derive(Debug, Drop)]
+#[derive(Drop)]
 pub struct Change {
     state: DirState,
     leaves: Leaves,

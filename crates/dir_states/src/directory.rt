@@ -12,7 +12,7 @@ use std::alloc::{AllocError, Global};
 use step_counts::Settings;
 
 /// A directory: for each place, which is the first bits of a hash, the number of a bucket.
-#[derive(Debug, Drop)]
+#[derive(Drop)]
 pub struct DirState {
     /// In bits, at most the greatest depth.
     pub depth: u32,

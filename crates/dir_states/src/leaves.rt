@@ -27,7 +27,7 @@ pub(crate) struct Table {
 }
 
 /// The leaves that were made, in the order of their prefixes, and the spare ones.
-#[derive(Debug, Drop)]
+#[derive(Drop)]
 pub(crate) struct Leaves {
     pub made: Vec<NewLeaf>,
     pub spare: Vec<NewLeaf>,

@@ -18,6 +18,3 @@ pub use directory::DirState;
 pub use openings::{NoRoomAt, Opening};
 pub use opens::opening;
 pub use values::{Loaded, NewLeaf, base_of};
-
-#[cfg(test)]
-mod tests;

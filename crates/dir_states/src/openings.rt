@@ -11,14 +11,14 @@ use std::alloc::{AllocError, Global};
 use step_counts::Settings;
 
 /// A pair of those that a table is opened with finds as many earlier ones of its class as a bucket has room for.
-#[derive(Clone, Copy, Debug, PartialEq, Eq)]
+#[derive(Clone, Copy, PartialEq, Eq)]
 pub struct NoRoomAt {
     /// The place of the first such pair.
     pub place: usize,
 }
 
 /// The directory and the leaves of an opening, with room that is made once.
-#[derive(Debug, Drop)]
+#[derive(Drop)]
 pub struct Opening {
     pub(crate) state: DirState,
     pub(crate) base: DirState,

@@ -8,7 +8,7 @@ ghost use Rattle.dir_states.specs.Views.{as_leaf, as_loaded};
 use bucket_states::Bucket;
 
 /// A bucket that was loaded: its number, the number of its row, and what the row says.
-#[derive(Debug, Drop)]
+#[derive(Drop)]
 pub struct Loaded {
     pub bucket: u64,
     pub row: u64,
@@ -16,7 +16,7 @@ pub struct Loaded {
 }
 
 /// A bucket that is made, and the number of the bucket that it comes from, or none at an opening.
-#[derive(Debug, Drop)]
+#[derive(Drop)]
 pub struct NewLeaf {
     pub from: Option<u64>,
     pub bucket: Bucket,

@@ -8,7 +8,7 @@ use crate::groups::groups;
 use line_fields::{number, text};
 
 /// The address of a host, as it stands in a text.
-#[derive(Clone, Copy, Debug, PartialEq, Eq)]
+#[derive(Clone, Copy, PartialEq, Eq)]
 pub struct Host {
     /// The bit by which a key of IPv6 differs, or 0 for IPv4.
     pub(crate) bit: u64,
@@ -17,7 +17,7 @@ pub struct Host {
 }
 
 /// An endpoint of a flow, as it stands in a text.
-#[derive(Clone, Copy, Debug, PartialEq, Eq)]
+#[derive(Clone, Copy, PartialEq, Eq)]
 pub struct End {
     pub(crate) host: Host,
     pub(crate) port: u64,

@@ -1,5 +1,5 @@
 -- What the calls from C promise, of the holders that the handles lead to before and after.
-use Rattle.std.specs.Prelude.{◌≡◌, ℕ, ◌+◌, ◌≤◌, ◌⊎◌, List, [], ◌∷◌, ◌++◌, length, map, IsPermutation, slice_get}
+use Rattle.std.specs.Prelude.{◌≡◌, ℕ, ◌+◌, ◌≤◌, ◌⊎◌, true, false, List, [], ◌∷◌, ◌++◌, length, map, reverse, IsPermutation, slice_get}
 use Rattle.std.specs.Prelude.{Option, Some, None, IsSomeAnd}
 use Rattle.std.specs.Arc.{arc_value}
 use Rattle.step_counts.specs.declared.settings.Settings.{Settings}
@@ -9,7 +9,7 @@ use Rattle.plain_map.specs.declared.keys.Pair.{Pair}
 use Rattle.plain_map.specs.declared.calls.Call.{Call}
 use Rattle.leaf_laws.specs.Leaves.{rows_by}
 use Rattle.shared_table.specs.Readers.{StaysReader}
-use Rattle.shared_table.specs.Values.{IsNew, IsSame}
+use Rattle.shared_table.specs.Values.{IsSame, TableValue, new_seat, new_seats}
 use Rattle.flowdir_c.specs.declared.answer.Answer.{Answer}
 use Rattle.flowdir_c.specs.declared.answer.FlowPair.{FlowPair}
 use Rattle.flowdir_c.specs.declared.answer.Told.{Told}
@@ -19,7 +19,7 @@ use Rattle.flowdir_c.specs.declared.options.Options.{Options}
 use Rattle.flowdir_c.specs.declared.options.Rows.{Rows}
 use Rattle.flowdir_c.specs.Asked.{AreOptions, rows_of}
 use Rattle.flowdir_c.specs.Fit.{AreFit, AreFitPairs, LackRoom, rules_in}
-use Rattle.flowdir_c.specs.Told.{HasTold, pair_of, status_of, written}
+use Rattle.flowdir_c.specs.Told.{HasTold, calls_after, pair_of, status_of, written}
 use Rattle.flowdir_c.specs.Glimpsed.{HasGlimpsed}
 use Rattle.flowdir_c.specs.Opened.{IsOpened}
 use Rattle.flowdir_c.specs.Shelves.{ArePairsOf, ShelfValue, WasLeftTo}
@@ -49,6 +49,11 @@ pub record Opens (options : Options) (first : List FlowPair) (holders : List She
   pub shelf : ShelfValue
   pub is : holders ≡ shelf ∷ []
   pub free : shelf.free ≡ options.seats
+  pub none_back : shelf.back ≡ []
+  pub none_left : shelf.left ≡ None
+  pub unlisted : shelf.is_listed ≡ false
+  pub none_listed : shelf.pairs ≡ []
+  pub a_place_each : options.seats ≤ shelf.places
   pub fit : AreFit options
   pub fit_pairs : AreFitPairs (map pair_of first)
   pub settings : Settings
@@ -56,16 +61,6 @@ pub record Opens (options : Options) (first : List FlowPair) (holders : List She
   pub pairs : List Pair
   pub all : IsPermutation (map pair_of first) pairs
   pub runs : IsSomeAnd shelf.table (λ t. IsOpened settings options.seed (rows_of options.rows) pairs t.setup)
-
--- the handle leads to a table as before: the same one runs, or none, and no seat was taken or given back
-pub record StaysTable (was now : List ShelfValue) : Type 0 where
-  pub before : ShelfValue
-  pub after : ShelfValue
-  pub was_is : was ≡ before ∷ []
-  pub now_is : now ≡ after ∷ []
-  pub same : after.table ≡ before.table
-  pub free : after.free ≡ before.free
-  pub back : after.back ≡ before.back
 
 -- one seat more was given back
 pub record TakesBack (was now : List ShelfValue) (seats : List Holder) : Type 0 where
@@ -78,8 +73,12 @@ pub record TakesBack (was now : List ShelfValue) (seats : List Holder) : Type 0 
   pub same : after.table ≡ before.table
   pub free : after.free ≡ before.free
   pub back : after.back ≡ before.back ++ holder.seat ∷ []
+  pub places : after.places ≡ before.places
+  pub left : after.left ≡ before.left
+  pub is_listed : after.is_listed ≡ before.is_listed
+  pub pairs : after.pairs ≡ before.pairs
 
--- one of the seats that nobody had had was taken; it is the table's, and has made no call
+-- the last of the seats that nobody had had was taken: it is as the table's opening made it, and has made no call
 pub record TakesSeat (was now : List ShelfValue) (seats : List Holder) : Type 0 where
   pub before : ShelfValue
   pub after : ShelfValue
@@ -90,8 +89,13 @@ pub record TakesSeat (was now : List ShelfValue) (seats : List Holder) : Type 0 
   pub same : after.table ≡ before.table
   pub one : after.free + 1 ≡ before.free
   pub back : after.back ≡ before.back
+  pub places : after.places ≡ before.places
+  pub left : after.left ≡ before.left
+  pub is_listed : after.is_listed ≡ before.is_listed
+  pub pairs : after.pairs ≡ before.pairs
   pub of_table : Some (arc_value holder.directory) ≡ after.table
-  pub new : IsNew (arc_value holder.directory) holder.seat
+  pub new : holder.seat ≡ new_seat (arc_value holder.directory) after.free
+  pub unasked : holder.calls ≡ 0
 
 -- a reader of the table
 pub record HasReader (tables : List ShelfValue) (readers : List Peeker) : Type 0 where
@@ -109,6 +113,7 @@ pub record Called (call : Call) (was now : List Holder) (before after : Answer) 
   pub now_is : now ≡ then ∷ []
   pub told : Told
   pub became : HasTold call holder.calls holder.seat then.seat told
+  pub calls : then.calls ≡ calls_after told holder.calls
   pub same : IsSame holder.seat then.seat
   pub of_table : arc_value then.directory ≡ arc_value holder.directory
   pub status_is : status ≡ status_of told
@@ -125,21 +130,36 @@ pub record Peeked (key : Key) (was now : List Peeker) (after : Answer) (status :
   pub of_table : arc_value then.directory ≡ arc_value peeker.directory
   pub status_is : status ≡ 0
 
--- a table is closed, and its words are those of a run that left its seats as they were given back
+-- the table that ran is closed, and its words are those of a run of it that left its seats as they were given back, and
+-- those that nobody had had as they were opened
 pub record IsClosed (was now : List ShelfValue) : Type 0 where
   pub before : ShelfValue
   pub after : ShelfValue
   pub was_is : was ≡ before ∷ []
   pub now_is : now ≡ after ∷ []
+  pub table : TableValue
+  pub ran : before.table ≡ Some table
   pub closed : after.table ≡ None
-  pub left : IsSomeAnd after.left (WasLeftTo before.back)
+  pub left : IsSomeAnd after.left (WasLeftTo table.setup (before.back ++ reverse (new_seats table 0 before.free)))
+  pub none_free : after.free ≡ 0
+  pub none_back : after.back ≡ []
+  pub unlisted : after.is_listed ≡ false
+  pub pairs : after.pairs ≡ before.pairs
 
--- a closed table whose pairs are listed, and how many there are
-pub record IsCounted (holders : List ShelfValue) (count : ℕ) : Type 0 where
-  pub shelf : ShelfValue
-  pub is : holders ≡ shelf ∷ []
-  pub pairs : IsSomeAnd shelf.left (λ left. ArePairsOf left shelf.pairs)
-  pub count_is : count ≡ length shelf.pairs
+-- the pairs of a closed table are listed, and how many there are; what it left stays, and no table runs as before
+pub record IsCounted (was now : List ShelfValue) (count : ℕ) : Type 0 where
+  pub before : ShelfValue
+  pub after : ShelfValue
+  pub was_is : was ≡ before ∷ []
+  pub now_is : now ≡ after ∷ []
+  pub same : after.table ≡ before.table
+  pub free : after.free ≡ before.free
+  pub back : after.back ≡ before.back
+  pub places : after.places ≡ before.places
+  pub left : after.left ≡ before.left
+  pub is_listed : after.is_listed ≡ true
+  pub are : IsSomeAnd before.left (λ left. ArePairsOf left after.pairs)
+  pub count_is : count ≡ length after.pairs
 
 -- the handle leads to the same as before
 pub record StaysListed (was now : List ShelfValue) : Type 0 where
@@ -154,14 +174,20 @@ abbrev pub IsPairAt : List ShelfValue → (at : ℕ) → FlowPair → Type 0
 IsPairAt holders at pair =
     (shelf : ShelfValue) × (holders ≡ shelf ∷ []) × (slice_get shelf.pairs at ≡ Some (pair_of pair))
 
--- a table runs that was opened so, with the pairs that a closed one had listed, and nobody has had any of its seats;
--- the options fit
+-- a table runs that was opened so, with the pairs that a closed one left and listed, and nobody has had any of its
+-- seats; the options fit
 pub record Reopens (options : Options) (closed opened : List ShelfValue) : Type 0 where
   pub shelf : ShelfValue
   pub next : ShelfValue
   pub closed_is : closed ≡ shelf ∷ []
   pub opened_is : opened ≡ next ∷ []
+  pub listed : IsSomeAnd shelf.left (λ left. ArePairsOf left shelf.pairs)
   pub free : next.free ≡ options.seats
+  pub none_back : next.back ≡ []
+  pub none_left : next.left ≡ None
+  pub unlisted : next.is_listed ≡ false
+  pub none_listed : next.pairs ≡ []
+  pub a_place_each : options.seats ≤ next.places
   pub fit : AreFit options
   pub settings : Settings
   pub asked : AreOptions options (Some settings)
@@ -196,6 +222,10 @@ HasNoPlace holders =
 -- no table was closed
 abbrev pub IsUnclosed : List ShelfValue → Type 0
 IsUnclosed holders = (shelf : ShelfValue) × (holders ≡ shelf ∷ []) × (shelf.left ≡ None)
+
+-- no pairs of a closed table are listed
+abbrev pub IsUnlisted : List ShelfValue → Type 0
+IsUnlisted holders = (shelf : ShelfValue) × (holders ≡ shelf ∷ []) × (shelf.is_listed ≡ false)
 
 -- no pair is listed at this place
 abbrev pub HasNoPairAt : List ShelfValue → (at : ℕ) → Type 0

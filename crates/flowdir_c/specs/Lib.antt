@@ -4,6 +4,7 @@ pub mod Fit
 pub mod Told
 pub mod Glimpsed
 pub mod Opened
+pub mod Memory
 pub mod Shelves
 pub mod Insides
 pub mod Exports

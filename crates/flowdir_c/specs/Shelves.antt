@@ -1,5 +1,5 @@
 -- A table that runs or is closed, as C has it.
-use Rattle.std.specs.Prelude.{◌≡◌, ℕ, List, Option, IsPermutation}
+use Rattle.std.specs.Prelude.{◌≡◌, ℕ, Bool, List, Option, IsPermutation}
 use Rattle.std.specs.List.Sorted.{IsSortedByKey}
 use Rattle.plain_map.specs.declared.keys.Pair.{Pair}
 use Rattle.plain_map.specs.Keys.{key_cmp}
@@ -8,25 +8,25 @@ use Rattle.table_model.specs.Setup.{Setup}
 use Rattle.shared_table.specs.SeatValues.{SeatValue}
 use Rattle.shared_table.specs.Values.{ClosedValue, Ran, TableValue}
 
--- a run of a table left these words, and each of its seats to one of these
-pub record WasLeftTo (seats : List SeatValue) (closed : ClosedValue) : Type 0 where
-  pub setup : Setup
+-- a run of the table with this setup left these words, and each of its seats to one of these
+pub record WasLeftTo (setup : Setup) (seats : List SeatValue) (closed : ClosedValue) : Type 0 where
   pub ran : Ran setup closed.words seats
   pub shape : closed.shape ≡ setup.shape
 
--- and to some seats
+-- and that of some table to some seats
 pub record WasLeft (closed : ClosedValue) : Type 0 where
+  pub setup : Setup
   pub seats : List SeatValue
-  pub left : WasLeftTo seats closed
+  pub left : WasLeftTo setup seats closed
 
 -- these are the pairs that they hold, in the order of their keys
 pub record ArePairsOf (closed : ClosedValue) (pairs : List Pair) : Type 0 where
   pub held : IsPermutation (closed_pairs closed.shape closed.words) pairs
   pub sorted : IsSortedByKey (λ (pair : Pair). pair.key) key_cmp pairs
 
--- what contracts see of it: the table that runs, if one does; how many seats nobody has had yet, and for how many there
--- is a place; the seats that were given back, and for how many there is a place; what it left, if it is closed; and the
--- pairs that are listed
+-- what contracts see of it: the table that runs, if one does; how many seats nobody has had yet, which are those of the
+-- least numbers, and for how many there is a place; the seats that were given back, and for how many there is a place;
+-- what it left, if it is closed; whether its pairs are listed, and those that are
 pub record ShelfValue : Type 0 where
   pub table : Option TableValue
   pub free : ℕ
@@ -34,4 +34,5 @@ pub record ShelfValue : Type 0 where
   pub back : List SeatValue
   pub places : ℕ
   pub left : Option ClosedValue
+  pub is_listed : Bool
   pub pairs : List Pair

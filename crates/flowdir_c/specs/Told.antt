@@ -1,5 +1,5 @@
 -- What C is told of a call, by the reply of the table.
-use Rattle.std.specs.Prelude.{◌≡◌, ◌≢◌, ℕ, ◌^◌, ◌-◌, ◌≤◌, ◌⊎◌, None}
+use Rattle.std.specs.Prelude.{◌≡◌, ◌≢◌, ℕ, ◌+◌, ◌^◌, ◌-◌, ◌≤◌, ◌⊎◌, None}
 use Rattle.step_counts.specs.StepCounts.{step_bound}
 use Rattle.plain_map.specs.declared.keys.Key.{Key}
 use Rattle.plain_map.specs.declared.keys.Pair.{Pair}
@@ -69,7 +69,13 @@ pub record IsAnswered (call : Call) (was now : SeatValue) (answer : Answer) : Ty
   pub bounded : is_update call ≡ Rattle.std.specs.Prelude.true → made.steps ≤ step_bound (settings_of was.holding.setup)
   pub answer_is : answer ≡ answer_of made.reply made.steps
 
--- the call cannot be asked: its value or amount is too large, or the seat was asked as often as it can count
+-- how many calls a seat has made then: one more, if this one was answered
+abbrev pub calls_after : Told → (calls : ℕ) → ℕ
+calls_after (Answered answer) calls = calls + 1
+calls_after Full calls = calls
+calls_after Bad calls = calls
+
+-- the call cannot be asked: its value or amount is too large, or the seat has made as many calls as it can count
 abbrev pub CannotAsk : Call → (calls : ℕ) → Type 0
 CannotAsk call calls = (IsAskable call → ⊥) ⊎ (2 ^ 32 - 2 ≤ calls)
 

@@ -9,7 +9,6 @@ ghost use Rattle.flowdir_c.specs.Exports.{
   IsPairAt,
   IsUnclosed,
   StaysListed,
-  StaysTable,
 };
 
 use crate::answer::FlowPair;
@@ -19,12 +18,12 @@ use crate::tables::TableHandle;
 use std::alloc::Global;
 use std::mem;
 
-/// Closes a table whose seats were all given back, and whose readers have all left.
+/// Closes a table each of whose seats was given back or never taken, and whose readers have all left.
 #[unsafe(no_mangle)]
 pub extern "C" fn flowdir_close(alloc: Global, table: &mut TableHandle) -> u32
     requires { (v : ShelfValue) × (table.old.holders ≡ v ∷ []) }
     ensures closed { result ≡ 0 → IsClosed table.old.holders table.new.holders }
-    ensures open { result ≢ 0 → (result ≡ 5) × StaysTable table.old.holders table.new.holders }
+    ensures open { result ≢ 0 → (result ≡ 5) × StaysListed table.old.holders table.new.holders }
 {
     let mut shelf = mem::replace(table, TableHandle::blank())
         .into_loose(alloc)
@@ -38,10 +37,11 @@ pub extern "C" fn flowdir_close(alloc: Global, table: &mut TableHandle) -> u32
 #[unsafe(no_mangle)]
 pub extern "C" fn flowdir_count(alloc: Global, table: &mut TableHandle, out: &mut usize) -> u32
     requires { (v : ShelfValue) × (table.old.holders ≡ v ∷ []) }
-    ensures table { StaysTable table.old.holders table.new.holders }
-    ensures counted { result ≡ 0 → IsCounted table.new.holders out.new }
+    ensures counted { result ≡ 0 → IsCounted table.old.holders table.new.holders out.new }
     ensures uncounted { result ≢ 0 → out.new ≡ out.old }
+    ensures kept { result ≢ 0 → StaysListed table.old.holders table.new.holders }
     ensures cause { result ≢ 0 → (result ≡ 1) ⊎ ((result ≡ 2) × IsUnclosed table.old.holders) }
+    ensures open { IsUnclosed table.old.holders → result ≡ 2 }
 {
     let mut shelf = mem::replace(table, TableHandle::blank())
         .into_loose(alloc)

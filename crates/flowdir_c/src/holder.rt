@@ -5,7 +5,7 @@ ghost use Rattle.std.specs.Arc.{arc_value};
 ghost use Rattle.plain_map.specs.declared.calls.Call.TheVariants.{Insert, Lookup, Remove, Tally};
 ghost use Rattle.shared_table.specs.SeatValues.{account_of};
 ghost use Rattle.shared_table.specs.Values.{IsOf, IsSame};
-ghost use Rattle.flowdir_c.specs.Told.{HasTold};
+ghost use Rattle.flowdir_c.specs.Told.{HasTold, calls_after};
 
 use crate::answer::{Told, told_by};
 use plain_map::{Key, VALUE_LIMIT};
@@ -13,20 +13,21 @@ use shared_table::{Directory, Seat};
 use std::alloc::Global;
 use std::sync::Arc;
 
-/// A seat beside its directory, and how many calls were asked of it.
+/// A seat beside its directory, and how many calls it has answered.
 #[derive(Drop)]
 pub struct Holder {
     pub(crate) directory: Arc<Directory, Global>,
     pub(crate) seat: Seat,
     pub(crate) calls: u32,
     ghost of: { IsOf (arc_value directory) seat },
-    ghost few: { length (account_of seat).records ≤ calls },
+    ghost counted: { length (account_of seat).records ≡ calls },
 }
 
 impl Holder {
     /// Inserts a key with a value, where it is not there.
     pub(crate) fn insert(&mut self, key: Key, value: u64) -> Told
         ensures told { HasTold (Insert key value) self.old.calls self.old.seat self.new.seat result }
+        ensures calls { self.new.calls ≡ calls_after result self.old.calls }
         ensures same { IsSame self.old.seat self.new.seat }
         ensures directory { arc_value self.new.directory ≡ arc_value self.old.directory }
     {
@@ -34,9 +35,11 @@ impl Holder {
             return Told::Bad;
         }
         let made = self.seat.insert(&self.directory, 0, key, value);
-        self.calls += 1;
         match made {
-            Ok(made) => told_by(&made),
+            Ok(made) => {
+                self.calls += 1;
+                told_by(&made)
+            }
             Err(_) => Told::Full,
         }
     }
@@ -44,6 +47,7 @@ impl Holder {
     /// Takes a key out, where it is there.
     pub(crate) fn remove(&mut self, key: Key) -> Told
         ensures told { HasTold (Remove key) self.old.calls self.old.seat self.new.seat result }
+        ensures calls { self.new.calls ≡ calls_after result self.old.calls }
         ensures same { IsSame self.old.seat self.new.seat }
         ensures directory { arc_value self.new.directory ≡ arc_value self.old.directory }
     {
@@ -51,9 +55,11 @@ impl Holder {
             return Told::Bad;
         }
         let made = self.seat.remove(&self.directory, 0, key);
-        self.calls += 1;
         match made {
-            Ok(made) => told_by(&made),
+            Ok(made) => {
+                self.calls += 1;
+                told_by(&made)
+            }
             Err(_) => Told::Full,
         }
     }
@@ -61,6 +67,7 @@ impl Holder {
     /// Adds bytes to a key's, where it is there.
     pub(crate) fn tally(&mut self, key: Key, bytes: u64) -> Told
         ensures told { HasTold (Tally key bytes) self.old.calls self.old.seat self.new.seat result }
+        ensures calls { self.new.calls ≡ calls_after result self.old.calls }
         ensures same { IsSame self.old.seat self.new.seat }
         ensures directory { arc_value self.new.directory ≡ arc_value self.old.directory }
     {
@@ -68,9 +75,11 @@ impl Holder {
             return Told::Bad;
         }
         let made = self.seat.tally(&self.directory, 0, key, bytes);
-        self.calls += 1;
         match made {
-            Ok(made) => told_by(&made),
+            Ok(made) => {
+                self.calls += 1;
+                told_by(&made)
+            }
             Err(_) => Told::Full,
         }
     }
@@ -79,14 +88,15 @@ impl Holder {
     #[inline(always)]
     pub(crate) fn lookup(&mut self, key: &Key) -> Told
         ensures told { HasTold (Lookup key.now) self.old.calls self.old.seat self.new.seat result }
+        ensures calls { self.new.calls ≡ calls_after result self.old.calls }
         ensures same { IsSame self.old.seat self.new.seat }
         ensures directory { arc_value self.new.directory ≡ arc_value self.old.directory }
     {
         if self.calls >= u32::MAX - 1 {
             return Told::Bad;
         }
-        let made = self.seat.lookup(&self.directory, 0, key);
+        let found = self.seat.lookup(&self.directory, 0, key);
         self.calls += 1;
-        told_by(&made)
+        told_by(&found)
     }
 }

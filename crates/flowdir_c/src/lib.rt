@@ -9,6 +9,7 @@ mod closed_exports;
 mod fewer;
 mod holder;
 mod loose;
+mod memory;
 mod opening;
 mod options;
 mod peeker;

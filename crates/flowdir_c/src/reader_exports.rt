@@ -3,7 +3,7 @@
 ghost use Rattle.std.specs.Prelude.{◌≡◌, ◌≢◌, ◌⊎◌, ◌∷◌, []};
 ghost use Rattle.flowdir_c.specs.declared.peeker.Peeker.{Peeker};
 ghost use Rattle.flowdir_c.specs.Shelves.{ShelfValue};
-ghost use Rattle.flowdir_c.specs.Exports.{HasReader, Peeked, RunsNone, StaysTable};
+ghost use Rattle.flowdir_c.specs.Exports.{HasReader, Peeked, RunsNone, StaysListed};
 ghost use Rattle.flowdir_c.specs.Told.{key_of};
 
 use crate::answer::{Answer, FlowKey};
@@ -22,10 +22,11 @@ pub extern "C" fn flowdir_read(
     reader: &mut ReaderHandle,
 ) -> u32
     requires { (v : ShelfValue) × (table.old.holders ≡ v ∷ []) }
-    ensures table { StaysTable table.old.holders table.new.holders }
+    ensures table { StaysListed table.old.holders table.new.holders }
     ensures reader { result ≡ 0 → HasReader table.new.holders reader.new.holders }
     ensures unread { result ≢ 0 → reader.new.holders ≡ reader.old.holders }
     ensures cause { result ≢ 0 → (result ≡ 1) ⊎ ((result ≡ 2) × RunsNone table.old.holders) }
+    ensures closed { RunsNone table.old.holders → result ≡ 2 }
 {
     let shelf = mem::replace(table, TableHandle::blank())
         .into_loose(alloc)

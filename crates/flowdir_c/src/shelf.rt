@@ -19,10 +19,13 @@ ghost use Rattle.std.specs.Prelude.{
   IsTrue,
   None,
   Ok,
+  OnErr,
   Some,
   false,
   length,
+  reverse,
   slice_get,
+  true,
   vec_capacity,
   vec_len,
 };
@@ -31,7 +34,7 @@ ghost use Rattle.flowdir_c.specs.Told.{pair_of};
 ghost use Rattle.std.specs.Arc.{arc_value};
 ghost use Rattle.bucket_states.specs.Parts.{HasDistinctKeys};
 ghost use Rattle.table_model.specs.Setup.{IsPair};
-ghost use Rattle.shared_table.specs.Values.{IsNew, IsOf, TableValue};
+ghost use Rattle.shared_table.specs.Values.{IsOf, TableValue, new_seat, new_seats};
 ghost use Rattle.flowdir_c.specs.Opened.{IsOpened};
 ghost use Rattle.flowdir_c.specs.Shelves.{ArePairsOf, WasLeftTo};
 ghost use Rattle.flowdir_c.specs.Fit.{LackRoom, rules_with};
@@ -61,7 +64,7 @@ pub(crate) enum NotTaken {
 }
 
 /// A directory, until it is closed; the seats that nobody has had yet, and those that were given back; what a closed
-/// directory left, and once they were listed its pairs; and words that are kept for the next opening.
+/// directory left, and once they are listed its pairs; and words that are kept for the next opening.
 #[derive(Drop)]
 pub struct Shelf {
     directory: Option<Arc<Directory, Global>>,
@@ -69,6 +72,7 @@ pub struct Shelf {
     back: Vec<Seat>,
     count: u32,
     left: Option<ClosedTable>,
+    is_listed: bool,
     pairs: Vec<Pair>,
     // Nothing, until a table was opened after a closed one.
     blank: Blank,
@@ -100,6 +104,11 @@ pub(crate) fn shelf_of(
     ensures opened { IfOk result (λ shelf. IsSomeAnd shelf.table (λ t.
         IsOpened settings.now seed rows first.now t.setup)) }
     ensures seats { IfOk result (λ shelf. shelf.free ≡ settings.now.seats) }
+    ensures none_back { IfOk result (λ shelf. shelf.back ≡ []) }
+    ensures none_left { IfOk result (λ shelf. shelf.left ≡ None) }
+    ensures unlisted { IfOk result (λ shelf. shelf.is_listed ≡ false) }
+    ensures none_listed { IfOk result (λ shelf. shelf.pairs ≡ []) }
+    ensures a_place_each { IfOk result (λ shelf. settings.now.seats ≤ shelf.places) }
     ensures small { IfOk result (λ _. AreBelow (2 ^ 32) rows) }
     ensures bad { result ≡ Err Bad → AreBelow (2 ^ 32) rows → ⊥ }
     ensures no_room { result ≡ Err NoRoom → LackRoom (rules_with settings.now seed) first.now }
@@ -125,6 +134,7 @@ pub(crate) fn shelf_of(
                 back,
                 count: settings.seats,
                 left: None,
+                is_listed: false,
                 pairs: Vec::new(alloc),
                 blank: Blank::new(alloc),
             })
@@ -137,7 +147,6 @@ pub(crate) fn shelf_of(
 // Adds a seat, if there is a place for it.
 fn add(seats: &mut Vec<Seat>, seat: Seat)
     ensures of { (t : TableValue) → All (IsOf t) seats.old.items → IsOf t seat → All (IsOf t) seats.new.items }
-    ensures new { (t : TableValue) → All (IsNew t) seats.old.items → IsNew t seat → All (IsNew t) seats.new.items }
     ensures added { vec_len seats.old < vec_capacity seats.old → seats.new.items ≡ seats.old.items ++ seat ∷ [] }
     ensures places { vec_capacity seats.new ≡ vec_capacity seats.old }
 {
@@ -146,10 +155,23 @@ fn add(seats: &mut Vec<Seat>, seat: Seat)
     }
 }
 
+// Puts the seats of one list behind those of another, the last one first.
+fn move_all(from: &mut Vec<Seat>, to: &mut Vec<Seat>)
+    requires { vec_len to.old + vec_len from.old ≤ vec_capacity to.old }
+    ensures all { to.new.items ≡ to.old.items ++ reverse from.old.items }
+    ensures none { from.new.items ≡ [] }
+{
+    while let Some(seat) = from.pop() {
+        to.push_reserved(seat);
+    }
+}
+
 // A new seat beside its directory.
 fn holder_of(directory: Arc<Directory, Global>, seat: Seat) -> Holder
-    requires { IsNew (arc_value directory) seat }
-    ensures { (result.seat ≡ seat) × (arc_value result.directory ≡ arc_value directory) }
+    requires { seat ≡ new_seat (arc_value directory) seat.holding.seat }
+    ensures seat { result.seat ≡ seat }
+    ensures directory { arc_value result.directory ≡ arc_value directory }
+    ensures calls { result.calls ≡ 0 }
 {
     Holder {
         directory,
@@ -159,20 +181,30 @@ fn holder_of(directory: Arc<Directory, Global>, seat: Seat) -> Holder
 }
 
 impl Shelf {
-    /// Takes a seat that nobody has had. `Busy` comes only if there is none, or no table runs.
+    /// Takes the last of the seats that nobody has had. `Busy` comes exactly if there is none, or no table runs.
     pub(crate) fn take(&mut self) -> Result<Holder, NotTaken>
         ensures table { self.new.table ≡ self.old.table }
         ensures back { self.new.back ≡ self.old.back }
         ensures taken { IfOk result (λ holder. Some (arc_value holder.directory) ≡ self.old.table) }
-        ensures new { IfOk result (λ holder. IsNew (arc_value holder.directory) holder.seat) }
+        ensures new { IfOk result (λ holder. holder.seat ≡ new_seat (arc_value holder.directory) self.new.free) }
+        ensures unasked { IfOk result (λ holder. holder.calls ≡ 0) }
+        ensures places { IfOk result (λ _. self.new.places ≡ self.old.places) }
+        ensures free_places { IfOk result (λ _. self.new.free_places ≡ self.old.free_places) }
+        ensures left { IfOk result (λ _. self.new.left ≡ self.old.left) }
+        ensures is_listed { IfOk result (λ _. self.new.is_listed ≡ self.old.is_listed) }
+        ensures pairs { IfOk result (λ _. self.new.pairs ≡ self.old.pairs) }
+        ensures kept { IfErr result (λ _. self.new ≡ self.old) }
         ensures one { IfOk result (λ _. self.new.free + 1 ≡ self.old.free) }
         ensures place { IfOk result (λ _. self.new.free < self.new.free_places) }
-        ensures untaken { IfErr result (λ _. self.new.free ≡ self.old.free) }
         ensures busy { result ≡ Err Busy → (self.old.table ≡ None) ⊎ (self.old.free ≡ 0) }
+        ensures none { (self.old.table ≡ None) ⊎ (self.old.free ≡ 0) → result ≡ Err Busy }
     {
         let Some(directory) = &self.directory else {
             return Err(NotTaken::Busy);
         };
+        if self.fresh.is_empty() {
+            return Err(NotTaken::Busy);
+        }
         let Ok(directory) = Arc::try_clone(directory) else {
             return Err(NotTaken::Memory);
         };
@@ -185,11 +217,16 @@ impl Shelf {
     /// Puts a seat that was not given out again to those that nobody has had.
     pub(crate) fn put_back(&mut self, holder: Holder)
         requires table { Some (arc_value holder.directory) ≡ self.old.table }
-        requires new { IsNew (arc_value holder.directory) holder.seat }
+        requires new { holder.seat ≡ new_seat (arc_value holder.directory) self.old.free }
         requires place { self.old.free < self.old.free_places }
         ensures table { self.new.table ≡ self.old.table }
         ensures back { self.new.back ≡ self.old.back }
         ensures one { self.new.free ≡ self.old.free + 1 }
+        ensures places { self.new.places ≡ self.old.places }
+        ensures free_places { self.new.free_places ≡ self.old.free_places }
+        ensures left { self.new.left ≡ self.old.left }
+        ensures is_listed { self.new.is_listed ≡ self.old.is_listed }
+        ensures pairs { self.new.pairs ≡ self.old.pairs }
     {
         let Holder { seat, .. } = holder;
         add(&mut self.fresh, seat);
@@ -197,7 +234,8 @@ impl Shelf {
 
     /// Whether a table runs.
     pub(crate) fn runs(&self) -> bool
-        ensures { result ≡ false → self.now.table ≡ None }
+        ensures not { result ≡ false → self.now.table ≡ None }
+        ensures runs { IsTrue result → self.now.table ≡ None → ⊥ }
     {
         self.directory.is_some()
     }
@@ -230,19 +268,27 @@ impl Shelf {
         ensures table { self.new.table ≡ self.old.table }
         ensures free { self.new.free ≡ self.old.free }
         ensures back { self.new.back ≡ self.old.back ++ holder.seat ∷ [] }
+        ensures places { self.new.places ≡ self.old.places }
+        ensures left { self.new.left ≡ self.old.left }
+        ensures is_listed { self.new.is_listed ≡ self.old.is_listed }
+        ensures pairs { self.new.pairs ≡ self.old.pairs }
     {
         let Holder { seat, .. } = holder;
         add(&mut self.back, seat);
     }
 
-    /// Ends the table, if all its seats were given back and no reader is left.
+    /// Ends the table, if each of its seats was given back or never taken, and no reader is left.
     pub(crate) fn close(&mut self, alloc: Global) -> bool
         ensures closed { IsTrue result → self.new.table ≡ None }
-        ensures left { IsTrue result → IsSomeAnd self.new.left (WasLeftTo self.old.back) }
-        ensures open { result ≡ false → (self.new.table ≡ self.old.table) × (self.new.back ≡ self.old.back) }
-        ensures free { self.new.free ≡ self.old.free }
+        ensures left { IsTrue result → (t : TableValue) × ((self.old.table ≡ Some t) × IsSomeAnd self.new.left
+            (WasLeftTo t.setup (self.old.back ++ reverse (new_seats t 0 self.old.free)))) }
+        ensures free { IsTrue result → self.new.free ≡ 0 }
+        ensures back { IsTrue result → self.new.back ≡ [] }
+        ensures unlisted { IsTrue result → self.new.is_listed ≡ false }
+        ensures pairs { IsTrue result → self.new.pairs ≡ self.old.pairs }
+        ensures kept { result ≡ false → self.new ≡ self.old }
     {
-        if self.back.len() != self.count as usize {
+        if self.back.len() + self.fresh.len() != self.count as usize {
             return false;
         }
         let Some(directory) = self.directory.take() else {
@@ -250,8 +296,10 @@ impl Shelf {
         };
         match Arc::try_unwrap(directory) {
             Ok(directory) => {
+                move_all(&mut self.fresh, &mut self.back);
                 let seats = mem::replace(&mut self.back, Vec::new(alloc));
                 self.left = Some(directory.close_in_place(seats));
+                self.is_listed = false;
                 true
             }
             Err(directory) => {
@@ -266,8 +314,13 @@ impl Shelf {
         ensures table { self.new.table ≡ self.old.table }
         ensures free { self.new.free ≡ self.old.free }
         ensures back { self.new.back ≡ self.old.back }
+        ensures places { self.new.places ≡ self.old.places }
         ensures left { self.new.left ≡ self.old.left }
+        ensures is_listed { result ≡ Ok true → self.new.is_listed ≡ true }
         ensures open { result ≡ Ok false → self.old.left ≡ None }
+        ensures unclosed { self.old.left ≡ None → result ≡ Ok false }
+        ensures unlisted { result ≡ Ok false → self.new ≡ self.old }
+        ensures kept { OnErr result (self.new ≡ self.old) }
         ensures listed { IfOk result (λ is_closed. IsTrue is_closed →
             IsSomeAnd self.new.left (λ left. ArePairsOf left self.new.pairs)) }
     {
@@ -277,7 +330,16 @@ impl Shelf {
         };
         let pairs = left.pairs(alloc)?;
         self.pairs = pairs;
+        self.is_listed = true;
         Ok(true)
+    }
+
+    /// Whether the pairs of a closed table are listed.
+    pub(crate) fn is_listed(&self) -> bool
+        ensures is { result ≡ self.now.is_listed }
+        ensures listed { IsTrue result → IsSomeAnd self.now.left (λ left. ArePairsOf left self.now.pairs) }
+    {
+        self.is_listed
     }
 
     /// How many pairs are listed.
@@ -310,6 +372,11 @@ impl Shelf {
         ensures opened { IfOk result (λ shelf. IsSomeAnd shelf.value.table (λ t.
             IsOpened settings.now seed rows self.old.pairs t.setup)) }
         ensures seats { IfOk result (λ shelf. shelf.value.free ≡ settings.now.seats) }
+        ensures none_back { IfOk result (λ shelf. shelf.value.back ≡ []) }
+        ensures none_left { IfOk result (λ shelf. shelf.value.left ≡ None) }
+        ensures unlisted { IfOk result (λ shelf. shelf.value.is_listed ≡ false) }
+        ensures none_listed { IfOk result (λ shelf. shelf.value.pairs ≡ []) }
+        ensures a_place_each { IfOk result (λ shelf. settings.now.seats ≤ shelf.value.places) }
         ensures small { IfOk result (λ _. AreBelow (2 ^ 32) rows) }
         ensures bad { result ≡ Err Bad → AreBelow (2 ^ 32) rows → ⊥ }
         ensures no_room { result ≡ Err NoRoom → LackRoom (rules_with settings.now seed) self.old.pairs }

@@ -14,11 +14,11 @@ ghost use Rattle.flowdir_c.specs.Exports.{
   HasNoSeat,
   IsBoundOf,
   IsUnfit,
+  IsUnlisted,
   LacksRoom,
   Opens,
   Reopens,
   StaysListed,
-  StaysTable,
   TakesBack,
   TakesSeat,
 };
@@ -122,6 +122,7 @@ pub extern "C" fn flowdir_open(
     ensures unopened { result ≢ 0 → table.new.holders ≡ table.old.holders }
     ensures known { result ≤ 3 }
     ensures bad { result ≡ 2 → IsUnfit options.now first.now }
+    ensures out_of_range { AreOptions options.now None → result ≡ 2 }
     ensures no_room { result ≡ 3 → LackRoom (rules_in options.now) (map pair_of first.now) }
 {
     let Some(settings) = options.settings() else {
@@ -155,9 +156,10 @@ pub extern "C" fn flowdir_open(
 pub extern "C" fn flowdir_sit(alloc: Global, table: &mut TableHandle, seat: &mut SeatHandle) -> u32
     requires { (v : ShelfValue) × (table.old.holders ≡ v ∷ []) }
     ensures seat { result ≡ 0 → TakesSeat table.old.holders table.new.holders seat.new.holders }
-    ensures table { result ≢ 0 → StaysTable table.old.holders table.new.holders }
+    ensures table { result ≢ 0 → StaysListed table.old.holders table.new.holders }
     ensures unseated { result ≢ 0 → seat.new.holders ≡ seat.old.holders }
     ensures cause { result ≢ 0 → (result ≡ 1) ⊎ ((result ≡ 5) × HasNoSeat table.old.holders) }
+    ensures none { HasNoSeat table.old.holders → result ≡ 5 }
 {
     let mut shelf = mem::replace(table, TableHandle::blank())
         .into_loose(alloc)
@@ -190,7 +192,7 @@ pub extern "C" fn flowdir_rise(alloc: Global, table: &mut TableHandle, seat: &mu
         × (Some (arc_value w.directory) ≡ v.table))) }
     ensures risen { result ≡ 0 → TakesBack table.old.holders table.new.holders seat.old.holders }
     ensures blank { result ≡ 0 → seat.new.holders ≡ [] }
-    ensures table { result ≢ 0 → StaysTable table.old.holders table.new.holders }
+    ensures table { result ≢ 0 → StaysListed table.old.holders table.new.holders }
     ensures sitting { result ≢ 0 → seat.new.holders ≡ seat.old.holders }
     ensures cause { result ≢ 0 → (result ≡ 2) × HasNoPlace table.old.holders }
 {
@@ -209,8 +211,8 @@ pub extern "C" fn flowdir_rise(alloc: Global, table: &mut TableHandle, seat: &mu
     OK
 }
 
-/// Opens the next table with the pairs that a closed one left, once they are listed. It is opened in the words that the
-/// closed one kept, and keeps them.
+/// Opens the next table with the pairs that a closed one left and listed. It is opened in the words that the closed one
+/// kept, and keeps them.
 #[unsafe(no_mangle)]
 pub extern "C" fn flowdir_reopen(
     alloc: Global,
@@ -223,7 +225,9 @@ pub extern "C" fn flowdir_reopen(
     ensures opened { result ≡ 0 → Reopens options.now closed.new.holders table.new.holders }
     ensures unopened { result ≢ 0 → table.new.holders ≡ table.old.holders }
     ensures known { result ≤ 3 }
-    ensures bad { result ≡ 2 → AreFit options.now → ⊥ }
+    ensures bad { result ≡ 2 → (AreFit options.now → ⊥) ⊎ IsUnlisted closed.old.holders }
+    ensures out_of_range { AreOptions options.now None → result ≡ 2 }
+    ensures unlisted { IsUnlisted closed.old.holders → result ≡ 2 }
     ensures no_room { result ≡ 3 → LacksRoom options.now closed.old.holders }
 {
     let Some(settings) = options.settings() else {
@@ -232,6 +236,10 @@ pub extern "C" fn flowdir_reopen(
     let mut shelf = mem::replace(closed, TableHandle::blank())
         .into_loose(alloc)
         .into_box();
+    if !shelf.is_listed() {
+        *closed = TableHandle::of_loose(Loose::of(shelf));
+        return BAD;
+    }
     let opened = shelf.reopened(alloc, &settings, options.seed, options.rows.to_rows());
     *closed = TableHandle::of_loose(Loose::of(shelf));
     match opened {

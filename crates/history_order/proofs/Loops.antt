@@ -9,8 +9,10 @@ use Rattle.table_model.specs.Reading.{each_once, is_among, line}
 use Rattle.plain_map.specs.declared.records.Record.{Record}
 use Rattle.word_rows.specs.Shape.{Shape}
 use Rattle.table_model.specs.Closing.{read_in, records_there}
-use Rattle.history_order.specs.Filling.{AreMet, while_true, entries_of, new_beside, leaves_from}
+use Rattle.history_order.specs.Filling.{while_true, entries_of, new_beside, leaves_from}
+use Rattle.closed_words.specs.Marks.{AreMet}
 use Rattle.closed_words.proofs.LoopLemmas.{grows}
+use Rattle.closed_words.proofs.MarkLemmas.{among_both_lists, met_more, met_still}
 use Rattle.closed_laws.proofs.Lines.{line_none}
 
 -- where no row comes next the list ends
@@ -58,14 +60,10 @@ module _ (known : List ℕ) where
   abbrev pub picked : List ℕ → List ℕ
   picked xs = filter (λ b. not (is_among known b)) (each_once xs)
 
-  -- a number among both is among one
-  among_both_lists : (xs : List ℕ) (x : ℕ) → is_among (known ++ xs) x ≡ (is_among known x || is_among xs x)
-  among_both_lists xs x = list_any-append (λ other. other == x) known xs
-
   -- one that is neither known nor comes again is picked
   pub picked_new : (x : ℕ) (xs : List ℕ) → is_among (known ++ xs) x ≡ false → picked (x ∷ xs) ≡ x ∷ picked xs
   picked_new x xs h =
-      let parts = either (is_among known x) (is_among xs x) (sym (among_both_lists xs x) ∙ h) in
+      let parts = either (is_among known x) (is_among xs x) (sym (among_both_lists known xs x) ∙ h) in
       ap (λ b. filter (λ n. not (is_among known n)) (cond b (each_once xs) (x ∷ each_once xs))) parts.1
       ∙ ap (λ b. cond (not b) (x ∷ picked xs) (picked xs)) parts.0
 
@@ -76,41 +74,12 @@ module _ (known : List ℕ) where
     | inr last ↦
         ap (λ b. filter (λ n. not (is_among known n)) (cond b (each_once xs) (x ∷ each_once xs))) last
         ∙ ap (λ b. cond (not b) (x ∷ picked xs) (picked xs))
-        (left (is_among known x) (is_among xs x) (sym (among_both_lists xs x) ∙ h) last)
+        (left (is_among known x) (is_among xs x) (sym (among_both_lists known xs x) ∙ h) last)
   ]
     where
       left : (a b : Bool) → a || b ≡ true → b ≡ false → a ≡ true
       left true b e f = refl
       left false b e f = absurd (true≢false (sym e ∙ f))
-
-  -- with one more marked
-  pub met_more : (marks marks_then : List Bool) (x : ℕ) (xs : List ℕ) → AreMet marks (known ++ xs) →
-      ((n : ℕ) → slice_index_or marks_then n false ≡ ((n == x) || slice_index_or marks n false)) →
-      AreMet marks_then (known ++ x ∷ xs)
-  met_more marks marks_then x xs m then_is n = elim (cases_eq n x) [
-    | inl e ↦
-        then_is n ∙ ap (λ b. b || slice_index_or marks n false) (eq-eqb n x e)
-        ∙ sym (among_both_lists (x ∷ xs) n
-        ∙ ap (λ b. is_among known n || (b || is_among xs n)) (eq-eqb x n (sym e)) ∙ last (is_among known n))
-    | inr apart ↦
-        then_is n ∙ ap (λ b. b || slice_index_or marks n false) (ne_eqb n x apart)
-        ∙ m n ∙ among_both_lists xs n
-        ∙ sym (among_both_lists (x ∷ xs) n
-        ∙ ap (λ b. is_among known n || (b || is_among xs n)) (ne_eqb x n (λ e. apart (sym e))))
-  ]
-    where
-      last : (a : Bool) → a || true ≡ true
-      last true = refl
-      last false = refl
-
-  -- and with one that was marked
-  pub met_still : (marks : List Bool) (x : ℕ) (xs : List ℕ) → AreMet marks (known ++ xs) →
-      slice_index_or marks x false ≡ true → AreMet marks (known ++ x ∷ xs)
-  met_still marks x xs m was = met_more marks marks x xs m (λ n. elim (cases_Bool (n == x)) [
-    | inl e ↦ ap (λ z. slice_index_or marks z false) (eqb-true n x e) ∙ was
-        ∙ sym (ap (λ b. b || slice_index_or marks n false) e)
-    | inr f ↦ sym (ap (λ b. b || slice_index_or marks n false) f)
-  ])
 
   -- a step back over the entries, to one that is new
   module _ (entries : List ℕ) (count i x : ℕ) (many : count ≡ length entries) (inside : i < count)
@@ -139,7 +108,7 @@ module _ (known : List ℕ) where
         let rest = drop (count - i) entries in (
           ap reverse more ∙ reverse-append leaves (x ∷ []) ∙ ap (λ xs. x ∷ xs) h.0
               ∙ sym (picked_new x rest (sym (h.1 x) ∙ fresh)) ∙ ap picked (sym rest_is),
-          subst (λ xs. AreMet marks_then (known ++ xs)) (sym rest_is) (met_more marks marks_then x rest h.1 set),
+          subst (λ xs. AreMet marks_then (known ++ xs)) (sym rest_is) (met_more known marks marks_then x rest h.1 set),
         )
 
     -- with one that was met
@@ -150,7 +119,7 @@ module _ (known : List ℕ) where
         let rest = drop (count - i) entries in (
           ap reverse same ∙ h.0 ∙ sym (picked_old x rest (sym (h.1 x) ∙ was)) ∙ ap picked (sym rest_is),
           subst (λ ms. AreMet ms (known ++ drop (count - (i + 1)) entries)) (sym marked)
-              (subst (λ xs. AreMet marks (known ++ xs)) (sym rest_is) (met_still marks x rest h.1 was)),
+              (subst (λ xs. AreMet marks (known ++ xs)) (sym rest_is) (met_still known marks x rest h.1 was)),
         )
 
 -- the lists of lists grow by one

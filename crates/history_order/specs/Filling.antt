@@ -3,10 +3,6 @@ use Rattle.std.specs.Prelude.{◌≡◌, ℕ, Bool, false, not, if◌then◌else
 use Rattle.word_rows.specs.Shape.{Shape}
 use Rattle.table_model.specs.Reading.{bucket_row, directory_at, is_among, each_once, bucket_line, row_of, is_exchanged, first_row}
 
--- the marks are set at these numbers
-abbrev pub AreMet : (marks : List Bool) (numbers : List ℕ) → Type 0
-AreMet marks numbers = (number : ℕ) → slice_index_or marks number false ≡ is_among numbers number
-
 -- the entries of a directory row
 abbrev pub entries_of : Shape → List ℕ → (row : ℕ) → List ℕ
 entries_of shape words row = (directory_at shape words row).entries

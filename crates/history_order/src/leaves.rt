@@ -2,12 +2,12 @@
 //!
 //! The only error of each is want of memory.
 
-ghost use Rattle.std.specs.Prelude.{◌≡◌, ℕ, ◌==◌, ◌++◌, [], IfOk, OnOk, List, false, map, slice_index_or};
-ghost use Rattle.std.specs.Prelude.{◌||◌};
+ghost use Rattle.std.specs.Prelude.{◌≡◌, ℕ, ◌++◌, [], IfOk, OnOk, List, map};
 ghost use Rattle.word_rows.specs.LayoutView.{shape_of};
-ghost use Rattle.history_order.specs.Filling.{AreMet, bases_in, entries_of, leaves_from, new_beside};
+ghost use Rattle.closed_words.specs.Marks.{AreMet};
+ghost use Rattle.history_order.specs.Filling.{bases_in, entries_of, leaves_from, new_beside};
 
-use closed_words::{Starts, Words, entry, entry_count, row_base};
+use closed_words::{Starts, Words, entry, entry_count, meet, row_base, was_met};
 use std::alloc::{AllocError, Global};
 
 /// For each of the directory rows the buckets that it names and no row before it, in the order of the last places.
@@ -52,29 +52,6 @@ fn new_leaves<W: Words>(
     }
     leaves.reverse();
     Ok(leaves)
-}
-
-// Whether the number is marked.
-fn was_met(met: &[bool], number: u64) -> bool
-    ensures { result ≡ slice_index_or met.now number false }
-{
-    (number as usize) < met.len() && met[number as usize]
-}
-
-// Marks the number.
-fn meet(met: &mut Vec<bool>, number: u64) -> Result<(), AllocError>
-    ensures { OnOk result ((other : ℕ) → slice_index_or met.new.items other false
-        ≡ ((other == number) || slice_index_or met.old.items other false)) }
-{
-    let at = number as usize;
-    if at >= met.len() {
-        let Some(count) = at.checked_add(1) else {
-            return Err(AllocError);
-        };
-        met.resize(count, false)?;
-    }
-    met[at] = true;
-    Ok(())
 }
 
 /// The rows that the rows were made from.

@@ -3,8 +3,6 @@
 
 mod calls;
 mod columns;
-#[cfg(test)]
-mod fill_tests;
 mod finding;
 mod laws;
 mod leaves;
@@ -13,8 +11,6 @@ mod ready;
 mod row_columns;
 mod run_order;
 mod tables;
-#[cfg(test)]
-mod tests;
 mod turns;
 mod unit_lists;
 mod versions;

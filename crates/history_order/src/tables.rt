@@ -4,7 +4,7 @@ use plain_map::MOST_SEATS;
 use std::alloc::Global;
 
 /// What is placed at once. A lookup is known by its call.
-#[derive(Clone, Copy, Debug, PartialEq, Eq)]
+#[derive(Clone, Copy, PartialEq, Eq)]
 pub(crate) enum Unit {
     Lookup,
     /// A bucket row that was published by an exchange of a bucket word.
@@ -14,7 +14,7 @@ pub(crate) enum Unit {
 }
 
 /// A directory row, with the first rows of its new leaves.
-#[derive(Debug, Drop)]
+#[derive(Drop)]
 pub(crate) struct Version {
     pub row: u64,
     /// By seat, whether one of its updates is new in these rows.
@@ -25,7 +25,7 @@ pub(crate) struct Version {
 }
 
 /// The bucket rows that were published by an exchange of a bucket word, and the columns that are written with each.
-#[derive(Debug, Drop)]
+#[derive(Drop)]
 pub(crate) struct Columns {
     /// Bucket by bucket, from its row in use back.
     pub rows: Vec<u64>,
@@ -40,7 +40,7 @@ pub(crate) struct Columns {
 }
 
 /// What the words tell. No turn changes it.
-#[derive(Debug, Drop)]
+#[derive(Drop)]
 pub(crate) struct Found {
     /// By bucket row: the bucket row that it was made from, where it was exchanged.
     pub bases: Vec<Option<u64>>,
@@ -55,7 +55,7 @@ pub(crate) struct Found {
 }
 
 /// How far the turns are.
-#[derive(Debug, Drop)]
+#[derive(Drop)]
 pub(crate) struct Progress {
     /// By bucket row.
     pub placed: Vec<bool>,
@@ -69,7 +69,7 @@ pub(crate) struct Progress {
 
 /// The tables of an order. They can be kept from one order to the next, which then fills the same memory. What they
 /// hold between two orders tells nothing.
-#[derive(Debug, Drop)]
+#[derive(Drop)]
 pub struct Tables {
     pub(crate) found: Found,
     pub(crate) progress: Progress,

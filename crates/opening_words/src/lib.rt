@@ -8,6 +8,3 @@ mod writing;
 
 pub use opened::first_words;
 pub use opener::Opener;
-
-#[cfg(test)]
-mod tests;

@@ -22,7 +22,7 @@ use step_counts::Settings;
 use word_rows::Layout;
 
 /// Writes openings of tables of the same settings, with room that is made once.
-#[derive(Debug, Drop)]
+#[derive(Drop)]
 pub struct Opener {
     settings: Settings,
     made: Opening,

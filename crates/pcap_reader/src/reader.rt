@@ -17,7 +17,7 @@ use std::alloc::Global;
 use std::marker::Model;
 
 /// What a reader answers.
-#[derive(Clone, Copy, Debug, PartialEq, Eq)]
+#[derive(Clone, Copy, PartialEq, Eq)]
 pub enum Item {
     /// A record was read, whose captured bytes `Reader::packet` gives.
     Packet,
@@ -28,7 +28,7 @@ pub enum Item {
 }
 
 /// A reader of one savefile.
-#[derive(Debug, Drop)]
+#[derive(Drop)]
 pub struct Reader {
     order: Order,
     window: Window,

@@ -22,13 +22,13 @@ use std::alloc::Global;
 use std::marker::Model;
 
 /// A reader of one input.
-#[derive(Debug, Drop)]
+#[derive(Drop)]
 pub struct AnyReader {
     inner: Inner,
 }
 
 /// The reader of its format.
-#[derive(Debug, Drop)]
+#[derive(Drop)]
 enum Inner {
     Savefile(Reader),
     Blocks(BlockReader),

@@ -21,7 +21,7 @@ const ENHANCED: u32 = 6;
 pub const BLOCK_FRONT: usize = 28;
 
 /// What a block is for, by its type.
-#[derive(Clone, Copy, Debug, PartialEq, Eq)]
+#[derive(Clone, Copy, PartialEq, Eq)]
 pub enum Kind {
     Section,
     Interface,
@@ -31,7 +31,7 @@ pub enum Kind {
 }
 
 /// What the bytes from a block's start on show. A size is that of the whole block, in bytes.
-#[derive(Clone, Copy, Debug, PartialEq, Eq)]
+#[derive(Clone, Copy, PartialEq, Eq)]
 pub enum Seen {
     /// The block is not whole, or no byte is left.
     Cut,

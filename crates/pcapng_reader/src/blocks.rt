@@ -17,7 +17,7 @@ use pcap_reader::Item;
 use std::marker::Model;
 
 /// A reader of one pcapng input.
-#[derive(Debug, Drop)]
+#[derive(Drop)]
 pub struct BlockReader {
     section: Section,
     window: Window,

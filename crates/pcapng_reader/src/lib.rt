@@ -13,10 +13,3 @@ mod waiting;
 pub use any::AnyReader;
 pub use laws::{every_input, input_front, one_input, reads_input};
 use section::{Interface, Section};
-
-#[cfg(test)]
-mod made_blocks;
-#[cfg(test)]
-mod made_rows;
-#[cfg(test)]
-mod tests;

@@ -9,7 +9,7 @@ use std::alloc::{AllocError, Global};
 use std::marker::Model;
 
 /// An interface of a section.
-#[derive(Clone, Copy, Debug, PartialEq, Eq)]
+#[derive(Clone, Copy, PartialEq, Eq)]
 pub struct Interface {
     /// The link type, as in a savefile.
     pub link: u16,
@@ -18,7 +18,7 @@ pub struct Interface {
 }
 
 /// What the blocks before have set.
-#[derive(Debug, Drop)]
+#[derive(Drop)]
 pub struct Section {
     order: Order,
     interfaces: Vec<Interface>,

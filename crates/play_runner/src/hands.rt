@@ -9,7 +9,7 @@ use std::alloc::{AllocError, Global};
 use step_counts::{Settings, bound};
 
 /// What a seat has still to do.
-#[derive(Clone, Copy, Debug)]
+#[derive(Clone, Copy)]
 pub(crate) struct Hand<'a> {
     /// The calls that it has not begun, each with its packet.
     pub(crate) calls: &'a [(u32, Call)],

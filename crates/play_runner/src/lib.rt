@@ -6,8 +6,6 @@ mod ending;
 mod hands;
 mod playing;
 mod slots;
-#[cfg(test)]
-mod tests;
 mod turns;
 mod values;
 

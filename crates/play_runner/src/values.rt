@@ -4,14 +4,14 @@ use plain_map::{CallId, Pair, Pending};
 use trace_share::Outcome;
 
 /// So many slots of a seat, or as many as it needs to the end of its calls.
-#[derive(Clone, Copy, Debug, PartialEq, Eq)]
+#[derive(Clone, Copy, PartialEq, Eq)]
 pub struct Segment {
     pub seat: u32,
     pub slots: Option<u32>,
 }
 
 /// What a play comes to.
-#[derive(Debug, Drop)]
+#[derive(Drop)]
 pub struct Played {
     /// The calls that ended, answered or refused, each with its seat, in the order of their packets.
     pub outcomes: Vec<(u32, Outcome)>,

@@ -9,6 +9,3 @@ mod verdicts;
 mod whole;
 
 pub use verdicts::{check, judge};
-
-#[cfg(test)]
-mod tests;

@@ -9,7 +9,7 @@ use Rattle.report_text.specs.Report.{head_line, hash_words, mode_word, share_wor
 use Rattle.report_text.specs.declared.parts.Head.{Head}
 use Rattle.report_told.specs.Rules.{IsHead, seed_in}
 use Rattle.report_lines.specs.Fields.{most_64}
-use Rattle.report_lines.specs.Lines.{head_at, ranged}
+use Rattle.report_lines.specs.Lines.{head_at, head_behind, ranged}
 use Rattle.report_lines.proofs.Behind.{behind, line_behind}
 use Rattle.report_lines.proofs.HeadFields.{hashing_text}
 use Rattle.report_lines.proofs.PartLaws.{number, mode, hashing, share, Part, known, field, Values, spelled, Fitting, ReadSo, Finds, IsLine, found_as, reads_again, reads_takes}
@@ -66,7 +66,7 @@ in_range head is =
     grind arith
 
 head_again : (head : Head) (rest : List ℕ) → IsHead head → head_at (head_text head rest) ≡ Some (head, rest)
-unfolding head_at
+unfolding head_at head_behind
 head_again head rest is =
     let seats : head.seats ≤ 8 = is.settings.seats_in_range.1 in
     let items : head.items ≤ 16 = is.settings.items_in_range.1 in
@@ -115,7 +115,7 @@ found_head bytes head rest values left text fits then =
 
 head_takes : (bytes : List ℕ) (head : Head) (rest : List ℕ) → head_at bytes ≡ Some (head, rest) →
     Finds head_text IsHead bytes head rest
-unfolding head_at
+unfolding head_at head_behind
 head_takes bytes head rest is =
     let read : ReadSo head_parts (λ values left. ranged (head_of values) left) bytes (head, rest) =
     reads_takes head_parts (λ values left. ranged (head_of values) left) bytes (head, rest) (omega arith) is in

@@ -1,6 +1,6 @@
 -- The lines of a report, each read at the front of some bytes: what it tells and the bytes behind it, or nothing.
 -- Source: docs/FORMATS.md, the report.
-use Rattle.std.specs.Prelude.{◌≡◌, ℕ, ◌++◌, nat_lt, nat_le, ◌&&◌, List, [], codes, length, if◌then◌else◌, Option, Some, None}
+use Rattle.std.specs.Prelude.{◌≡◌, ℕ, Bool, ◌++◌, nat_lt, nat_le, ◌&&◌, List, [], codes, length, if◌then◌else◌, Option, Some, None}
 use Rattle.plain_map.specs.declared.keys.Pair.{Pair}
 use Rattle.plain_map.specs.declared.calls.Call.{Call}
 use Rattle.plain_map.specs.declared.records.Seen.{Seen}
@@ -24,16 +24,10 @@ abbrev pub ranged : Head → List ℕ → Option (Head × List ℕ)
 ranged head rest =
     if nat_lt 0 head.seats && nat_lt 0 head.items && nat_le head.start head.depth then Some (head, rest) else None
 
--- the head line
-unfoldable pub head_at : List ℕ → Option (Head × List ℕ)
-head_at bytes = do
-  begun ← text_at (codes "flowdir ") bytes
-  mode ← mode_at begun
-  before_seats ← text_at (codes " seats ") mode.1
-  seats ← number_at 8 before_seats
-  before_items ← text_at (codes " items ") seats.1
-  items ← number_at 16 before_items
-  before_depth ← text_at (codes " depth ") items.1
+-- the head line behind the items of a class
+unfoldable pub head_behind : (play : Bool) (seats items : ℕ) → List ℕ → Option (Head × List ℕ)
+head_behind play seats items bytes = do
+  before_depth ← text_at (codes " depth ") bytes
   depth ← number_at 12 before_depth
   before_start ← text_at (codes " start ") depth.1
   start ← number_at 12 before_start
@@ -43,14 +37,25 @@ head_at bytes = do
   share ← share_at before_share
   rest ← text_at (codes "\n") share.1
   ranged (record {
-    play = mode.0;
-    seats = seats.0;
-    items = items.0;
+    play = play;
+    seats = seats;
+    items = items;
     depth = depth.0;
     start = start.0;
     hashing = hashing.0;
     share = share.0;
   }) rest
+
+-- the head line
+unfoldable pub head_at : List ℕ → Option (Head × List ℕ)
+head_at bytes = do
+  begun ← text_at (codes "flowdir ") bytes
+  mode ← mode_at begun
+  before_seats ← text_at (codes " seats ") mode.1
+  seats ← number_at 8 before_seats
+  before_items ← text_at (codes " items ") seats.1
+  items ← number_at 16 before_items
+  head_behind mode.0 seats.0 items.0 items.1
 
 -- `P seat I insert KEY` of one of so many seats
 unfoldable pub asked_at : (seats : ℕ) → List ℕ → Option (Asked × List ℕ)

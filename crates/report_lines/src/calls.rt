@@ -13,7 +13,7 @@ use plain_map::{Call, Full, Seen};
 use report_told::{CallLine, Ended, PendingLine};
 
 /// What the line of a call is about.
-#[derive(Clone, Copy, Debug, PartialEq, Eq)]
+#[derive(Clone, Copy, PartialEq, Eq)]
 pub struct Asked {
     pub(crate) packet: u32,
     pub(crate) seat: u32,

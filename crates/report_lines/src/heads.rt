@@ -3,7 +3,7 @@
 ghost use Rattle.std.specs.Prelude.{◌≡◌};
 ghost use Rattle.line_fields.specs.Reading.{Gives};
 ghost use Rattle.report_lines.specs.Fields.{hashing_at, mode_at, share_at};
-ghost use Rattle.report_lines.specs.Lines.{head_at};
+ghost use Rattle.report_lines.specs.Lines.{head_at, head_behind};
 
 use hash_bits::Hashing;
 use line_fields::{number, text};
@@ -21,7 +21,15 @@ pub fn head_line(bytes: &[u8]) -> Option<(Head, &[u8])>
     let (seats, rest) = number(rest, 8)?;
     let rest = text(rest, b" items ")?;
     let (items, rest) = number(rest, 16)?;
-    let rest = text(rest, b" depth ")?;
+    head_behind(play, seats as u32, items as u32, rest)
+}
+
+// The same behind the items of a class.
+#[tactic(auto, unfolding(crate::specs::Lines::head_behind))]
+fn head_behind(play: bool, seats: u32, items: u32, bytes: &[u8]) -> Option<(Head, &[u8])>
+    ensures { Gives (λ x. (x.0, x.1.now)) result (head_behind play seats items bytes.now) }
+{
+    let rest = text(bytes, b" depth ")?;
     let (depth, rest) = number(rest, 12)?;
     let rest = text(rest, b" start ")?;
     let (start, rest) = number(rest, 12)?;
@@ -32,8 +40,8 @@ pub fn head_line(bytes: &[u8]) -> Option<(Head, &[u8])>
     let rest = text(rest, b"\n")?;
     let head = Head {
         play,
-        seats: seats as u32,
-        items: items as u32,
+        seats,
+        items,
         depth: depth as u32,
         start: start as u32,
         hashing,

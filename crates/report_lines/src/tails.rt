@@ -9,7 +9,7 @@ use line_fields::{number, text};
 use plain_map::Pair;
 
 /// What the line of leaves tells.
-#[derive(Clone, Copy, Debug, PartialEq, Eq)]
+#[derive(Clone, Copy, PartialEq, Eq)]
 pub struct Leaves {
     /// How many buckets the last table has.
     pub leaves: u64,
@@ -18,7 +18,7 @@ pub struct Leaves {
 }
 
 /// What the line of counts tells.
-#[derive(Clone, Copy, Debug, PartialEq, Eq)]
+#[derive(Clone, Copy, PartialEq, Eq)]
 pub struct Counts {
     /// Records that were served.
     pub packets: u64,
@@ -34,7 +34,7 @@ pub struct Counts {
 }
 
 /// What the line of steps tells.
-#[derive(Clone, Copy, Debug, PartialEq, Eq)]
+#[derive(Clone, Copy, PartialEq, Eq)]
 pub struct Steps {
     /// The most atomic steps of an answered update.
     pub update: u64,

@@ -1,5 +1,6 @@
 pub mod PacketLemmas
 pub mod AnswerLemmas
+mod CountLemmas
 pub mod EntryLemmas
 pub mod HoldLemmas
 pub mod StepLemmas

@@ -1,16 +1,16 @@
 -- How far a text was read.
 use Rattle.std.proofs.Common.{◌≡◌, ℕ, ◌+◌, ◌-◌, ◌^◌, ◌<◌, ◌≤◌, List, [], ◌∷◌, ◌++◌, length, length-append, refl, sym, ap, ◌∙◌, append_assoc, append-nil, subst, arith}
-use Rattle.line_fields.proofs.Scan.{IsCut, spells_append}
+use Rattle.line_fields.proofs.Scan.{spells_append}
 use Rattle.report_text.specs.declared.parts.Head.{Head}
 use Rattle.report_told.specs.Told.{Entry, entry_line}
 use Rattle.report_told.specs.Verdicts.{IsBadLine}
 use Rattle.report_lines.proofs.Machine.{Line, entry, Body, State, start, body, Next, IsWholeState, text_of, line_at, begun_with}
 use Rattle.report_lines.proofs.MachineLaws.{report_machine}
-use Rattle.report_lines.proofs.Grammar.{Spelled}
 use Rattle.report_lines.proofs.BadLines.{stuck_is_bad_line}
 use Rattle.report_reading.specs.declared.entries.Entries.{Entries}
 use Rattle.report_reading.specs.Entries.{Holds}
 use Rattle.report_reading.specs.Steps.{At, NoneFollows, with_entries}
+use Rattle.report_reading.proofs.CountLemmas.{few_lines}
 
 -- Places.
 
@@ -32,26 +32,13 @@ at_bad text s rest lines at none unended =
     subst (λ (n : ℕ). IsBadLine text (n + 1)) at.many
     (stuck_is_bad_line text at.front rest at.ls s at.cut at.spelled (record { none = none; unended = unended }))
 
--- each line has a byte
-spelled_long : (ls : List Line) (s t : State) (bytes : List ℕ) → Spelled s ls t bytes → length ls ≤ length bytes
-spelled_long [] s t bytes spelled = omega arith
-spelled_long (l ∷ ls) s t bytes (m, rest, next, cut, spelled) =
-    let later : length ls ≤ length rest = spelled_long ls m t rest spelled in
-    let line : IsCut (text_of s l) = report_machine.cut s l m next in
-    let one : length (text_of s l) ≡ length line.body + 1 =
-    ap length line.feed ∙ length-append line.body (10 ∷ []) in
-    omega (arith, later, one, ap length cut, length-append (text_of s l) rest)
-
-pub at_within : (text : List ℕ) (s : State) (rest : List ℕ) (lines : ℕ) → At text s rest lines → lines ≤ length text
-at_within text s rest lines at =
-    omega (
-      arith,
-      at.many,
-      spelled_long at.ls start s at.front at.spelled,
-      ap length at.cut,
-      length-append at.front
-          rest,
-    )
+-- So the lines that were read, and five more, are counted by 32 bits.
+pub at_few : (text : List ℕ) (s : State) (rest : List ℕ) (lines : ℕ) → At text s rest lines →
+    length text ≤ 4294967295 → lines + 6 ≤ 4294967295
+at_few text s rest lines at small =
+    let front : length at.front ≤ 4294967295 =
+    omega (arith, small, ap length at.cut, length-append at.front rest) in
+    omega (arith, at.many, few_lines at.ls s at.front at.spelled front)
 
 -- Entries.
 
@@ -68,16 +55,16 @@ entries_begin text kept head rest at holds = record
     { entries = []; at = at; holds = holds; lines_are = refl; many = refl }
 
 pub entries_few : (text : List ℕ) (kept : Entries) (head : Head) (rest : List ℕ) (lines counter : ℕ)
-    (has : HasEntries text kept head rest lines counter) → length text ≤ 67108864 → length has.entries < 2 ^ 32 - 1
+    (has : HasEntries text kept head rest lines counter) → length text ≤ 4294967295 → length has.entries < 2 ^ 32 - 1
 entries_few text kept head rest lines counter has small =
-    omega (arith, has.many, has.lines_are, at_within text (body (with_entries head has.entries)) rest lines has.at)
+    omega (arith, has.many, has.lines_are, at_few text (body (with_entries head has.entries)) rest lines has.at small)
 
 pub entries_more : (text : List ℕ) (kept made : Entries) (head : Head) (rest left : List ℕ) (lines next counter : ℕ)
-    (has : HasEntries text kept head rest lines counter) → length text ≤ 67108864 →
+    (has : HasEntries text kept head rest lines counter) → length text ≤ 4294967295 →
     (e : Entry) × (rest ≡ entry_line head.seats e ++ left) × Holds made head (has.entries ++ e ∷ []) →
     (lines + 1 < 2 ^ 32 → next ≡ lines + 1) → HasEntries text made head left next (counter + 1)
 entries_more text kept made head rest left lines next counter has small (e, cut, holds) add =
-    let within : lines ≤ length text = at_within text (body (with_entries head has.entries)) rest lines has.at in
+    let few : lines + 6 ≤ 4294967295 = at_few text (body (with_entries head has.entries)) rest lines has.at small in
     let added : next ≡ lines + 1 = add (omega arith) in
     record {
       entries = has.entries ++ e ∷ [];
@@ -92,12 +79,12 @@ entries_more text kept made head rest left lines next counter has small (e, cut,
     }
 
 pub line_bad : (text : List ℕ) (b : Body) (rest : List ℕ) (lines line : ℕ) → At text (body b) rest lines →
-    length text ≤ 67108864 → NoneFollows (body b) rest → (lines + 1 < 2 ^ 32 → line ≡ lines + 1) → IsBadLine text line
+    length text ≤ 4294967295 → NoneFollows (body b) rest → (lines + 1 < 2 ^ 32 → line ≡ lines + 1) → IsBadLine text line
 line_bad text b rest lines line at small none add =
-    let within : lines ≤ length text = at_within text (body b) rest lines at in
+    let few : lines + 6 ≤ 4294967295 = at_few text (body b) rest lines at small in
     subst (IsBadLine text) (sym (add (omega arith))) (at_bad text (body b) rest lines at none (λ nothing never. never))
 
 pub entries_never : (text : List ℕ) (kept : Entries) (head : Head) (rest : List ℕ) (lines counter : ℕ)
-    (has : HasEntries text kept head rest lines counter) → length text ≤ 67108864 → 2 ^ 64 - 1 ≤ counter → ⊥
+    (has : HasEntries text kept head rest lines counter) → length text ≤ 4294967295 → 2 ^ 64 - 1 ≤ counter → ⊥
 entries_never text kept head rest lines counter has small over =
-    omega (arith, has.lines_are, at_within text (body (with_entries head has.entries)) rest lines has.at)
+    omega (arith, has.lines_are, at_few text (body (with_entries head has.entries)) rest lines has.at small)

@@ -25,7 +25,7 @@ use Rattle.report_lines.proofs.MachineLaws.{last_session_fits, session_starts, l
 use Rattle.report_lines.proofs.Grammar.{is_true, true_is}
 use Rattle.report_lines.proofs.Reports.{no_sessions}
 use Rattle.report_reading.specs.Steps.{At, NoneFollows, NoEntry, with_pairs, key_follows}
-use Rattle.report_reading.proofs.PlaceLemmas.{at_next, at_within, line_bad}
+use Rattle.report_reading.proofs.PlaceLemmas.{at_next, at_few, line_bad}
 use Rattle.report_reading.proofs.StepLemmas.{same_first}
 
 -- Keys that rise.
@@ -161,12 +161,12 @@ some_pairs ps p is = omega (arith, ap length is, length-append ps (p ∷ []))
 
 pub sessions_more : (text : List ℕ) (b : Body) (ps made : List Pair) (rest left : List ℕ)
     (before lines next counter : ℕ) (p : Pair) →
-    IsHead b.head → length text ≤ 67108864 → HasSessions text b ps rest before lines counter →
+    IsHead b.head → length text ≤ 4294967295 → HasSessions text b ps rest before lines counter →
     session_at rest ≡ Some (p, left) → follows_last ps p.key ≡ true → made ≡ ps ++ p ∷ [] →
     (lines + 1 < 2 ^ 32 → next ≡ lines + 1) → HasSessions text b made left before next (counter + 1)
 sessions_more text b ps made rest left before lines next counter p in_range small has read last is add =
     let found = session_is_line.takes rest p left read in
-    let within : lines ≤ length text = at_within text (body (with_pairs b ps)) rest lines has.at in
+    let few : lines + 6 ≤ 4294967295 = at_few text (body (with_pairs b ps)) rest lines has.at small in
     let added : next ≡ lines + 1 = add (omega arith) in
     let are : AreSessions (ps ++ p ∷ []) = sessions_push ps p has.are found.fits last in
     subst (λ (x : List Pair). HasSessions text b x left before next (counter + 1)) (sym is) (record {
@@ -181,7 +181,7 @@ sessions_more text b ps made rest left before lines next counter p in_range smal
 
 pub sessions_bad : (text : List ℕ) (b : Body) (ps : List Pair) (rest left : List ℕ) (before lines line counter : ℕ)
     (p : Pair) →
-    b.pairs ≡ [] → length text ≤ 67108864 → HasSessions text b ps rest before lines counter →
+    b.pairs ≡ [] → length text ≤ 4294967295 → HasSessions text b ps rest before lines counter →
     session_at rest ≡ Some (p, left) → follows_last ps p.key ≡ false → (lines + 1 < 2 ^ 32 → line ≡ lines + 1) →
     IsBadLine text line
 sessions_bad text b ps rest left before lines line counter p none small has read last add =
@@ -190,9 +190,9 @@ sessions_bad text b ps rest left before lines line counter p none small has read
     (λ are. true≢false (sym (sessions_last ps p are) ∙ last))) add
 
 pub sessions_never : (text : List ℕ) (b : Body) (ps : List Pair) (rest : List ℕ) (before lines counter : ℕ) →
-    HasSessions text b ps rest before lines counter → length text ≤ 67108864 → 2 ^ 64 - 1 ≤ counter → ⊥
+    HasSessions text b ps rest before lines counter → length text ≤ 4294967295 → 2 ^ 64 - 1 ≤ counter → ⊥
 sessions_never text b ps rest before lines counter has small over =
-    omega (arith, has.lines_are, at_within text (body (with_pairs b ps)) rest lines has.at)
+    omega (arith, has.lines_are, at_few text (body (with_pairs b ps)) rest lines has.at small)
 
 -- no entry stands behind entries and no pairs
 pub no_entry_pairs : (b : Body) (ps : List Pair) (rest : List ℕ) → b.pairs ≡ [] → (ps ≡ [] → NoEntry b rest) →

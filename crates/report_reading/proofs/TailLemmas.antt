@@ -17,17 +17,17 @@ use Rattle.report_lines.proofs.Machine.{head, entry, session, leaves, input, cou
 use Rattle.report_lines.proofs.MachineLaws.{last_session_fits, settings_of, settings_are}
 use Rattle.report_lines.proofs.Reports.{spelled_tells}
 use Rattle.report_reading.specs.Steps.{At, NoneFollows, NoEntry, TailRead}
-use Rattle.report_reading.proofs.PlaceLemmas.{at_bad, at_next, at_within}
+use Rattle.report_reading.proofs.PlaceLemmas.{at_bad, at_few, at_next}
 
 -- the bad line, as it is counted
 abbrev IsSum : (result lines more : ℕ) → Type 0
 IsSum result lines more = lines + more < 2 ^ 32 → result ≡ lines + more
 
 bad_line : (text : List ℕ) (s : State) (rest : List ℕ) (lines before more result : ℕ) → At text s rest before →
-    length text ≤ 67108864 → before + 1 ≡ lines + more → NoneFollows s rest → (rest ≡ [] → IsWholeState s → ⊥) →
+    length text ≤ 4294967295 → before + 1 ≡ lines + more → NoneFollows s rest → (rest ≡ [] → IsWholeState s → ⊥) →
     IsSum result lines more → IsBadLine text result
 bad_line text s rest lines before more result at small counted_so none unended sum =
-    let within : before ≤ length text = at_within text s rest before at in
+    let few : before + 6 ≤ 4294967295 = at_few text s rest before at small in
     let is : result ≡ before + 1 = sum (omega arith) ∙ sym counted_so in
     subst (IsBadLine text) (sym is) (at_bad text s rest before at none unended)
 
@@ -45,7 +45,7 @@ no_leaves b rest no_session no_entry none (count c) m more next cut = absurd nex
 no_leaves b rest no_session no_entry none (steps s) m more next cut = absurd next
 
 pub bad_leaves : (text : List ℕ) (b : Body) (rest : List ℕ) (lines result : ℕ) → At text (body b) rest lines →
-    length text ≤ 67108864 → session_at rest ≡ None → (b.pairs ≡ [] → NoEntry b rest) → leaves_at rest ≡ None →
+    length text ≤ 4294967295 → session_at rest ≡ None → (b.pairs ≡ [] → NoEntry b rest) → leaves_at rest ≡ None →
     IsSum result lines 1 → IsBadLine text result
 bad_leaves text b rest lines result at small no_session no_entry none sum =
     bad_line text (body b) rest lines lines 1 result at small refl (no_leaves b rest no_session no_entry none)
@@ -68,7 +68,7 @@ no_input b l rest none (count c) m more next cut = absurd next
 no_input b l rest none (steps s) m more next cut = absurd next
 
 pub bad_input : (text : List ℕ) (b : Body) (l : Leaves) (rest : List ℕ) (lines result : ℕ) →
-    At text (left b l) rest (lines + 1) → length text ≤ 67108864 → input_at rest ≡ None → IsSum result lines 2 →
+    At text (left b l) rest (lines + 1) → length text ≤ 4294967295 → input_at rest ≡ None → IsSum result lines 2 →
     IsBadLine text result
 bad_input text b l rest lines result at small none sum =
     bad_line text (left b l) rest lines (lines + 1) 2 result at small (omega arith) (no_input b l rest none)
@@ -92,8 +92,8 @@ no_count b l e rest none (input x) m more next cut = absurd next
 no_count b l e rest none (steps s) m more next cut = absurd next
 
 pub bad_count : (text : List ℕ) (b : Body) (l : Leaves) (e : Ending) (rest : List ℕ) (lines result : ℕ) →
-    At text (ended b l e) rest (lines + 1 + 1) → length text ≤ 67108864 → count_at rest ≡ None → IsSum result lines 3 →
-    IsBadLine text result
+    At text (ended b l e) rest (lines + 1 + 1) → length text ≤ 4294967295 → count_at rest ≡ None →
+    IsSum result lines 3 → IsBadLine text result
 bad_count text b l e rest lines result at small none sum =
     bad_line text (ended b l e) rest lines (lines + 1 + 1) 3 result at small (omega arith) (no_count b l e rest none)
     (λ nothing never. never) sum
@@ -120,7 +120,7 @@ no_steps b l e c rest none (input x) m more next cut = absurd next
 no_steps b l e c rest none (count x) m more next cut = absurd next
 
 pub bad_steps : (text : List ℕ) (b : Body) (l : Leaves) (e : Ending) (c : Counts) (rest : List ℕ) (lines result : ℕ) →
-    At text (counted b l e c) rest (lines + 1 + 1 + 1) → length text ≤ 67108864 → steps_at rest ≡ None →
+    At text (counted b l e c) rest (lines + 1 + 1 + 1) → length text ≤ 4294967295 → steps_at rest ≡ None →
     IsSum result lines 4 → IsBadLine text result
 bad_steps text b l e c rest lines result at small none sum =
     bad_line text (counted b l e c) rest lines (lines + 1 + 1 + 1) 4 result at small (omega arith)
@@ -128,7 +128,7 @@ bad_steps text b l e c rest lines result at small none sum =
 
 pub bad_bound : (text : List ℕ) (b : Body) (l : Leaves) (e : Ending) (c : Counts) (rest behind : List ℕ) (s : Steps)
     (lines bound result : ℕ) → (is : IsHead b.head) → At text (counted b l e c) rest (lines + 1 + 1 + 1) →
-    length text ≤ 67108864 → steps_at rest ≡ Some (s, behind) →
+    length text ≤ 4294967295 → steps_at rest ≡ Some (s, behind) →
     ((t : Settings) → IsSettingsOf b.head t → bound ≡ step_bound t) → (s.bound ≡ bound → ⊥) → IsSum result lines 4 →
     IsBadLine text result
 bad_bound text b l e c rest behind s lines bound result is at small read right other sum =
@@ -159,7 +159,7 @@ nothing_follows told rest (count x) m more next cut = absurd next
 nothing_follows told rest (steps x) m more next cut = absurd next
 
 pub bad_end : (text : List ℕ) (b : Body) (l : Leaves) (e : Ending) (c : Counts) (rest behind : List ℕ) (s : Steps)
-    (lines bound result : ℕ) → At text (counted b l e c) rest (lines + 1 + 1 + 1) → length text ≤ 67108864 →
+    (lines bound result : ℕ) → At text (counted b l e c) rest (lines + 1 + 1 + 1) → length text ≤ 4294967295 →
     steps_at rest ≡ Some (s, behind) → ((t : Settings) → IsSettingsOf b.head t → bound ≡ step_bound t) →
     s.bound ≡ bound → (behind ≡ [] → ⊥) → IsSum result lines 5 → IsBadLine text result
 bad_end text b l e c rest behind s lines bound result at small read right same more sum =

@@ -12,6 +12,3 @@ mod tail;
 
 pub use kept::Kept;
 pub use reading::{Reading, TEXT_LIMIT, read};
-
-#[cfg(test)]
-mod tests;

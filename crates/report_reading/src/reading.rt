@@ -25,7 +25,7 @@ use std::alloc::{AllocError, Global};
 use step_counts::{Settings, bound, need};
 
 /// The most bytes of a text that is read.
-pub const TEXT_LIMIT: usize = 67_108_864;
+pub const TEXT_LIMIT: usize = 4_294_967_295;
 
 /// What a text is.
 #[derive(Drop)]
@@ -50,7 +50,7 @@ pub fn read(alloc: Global, text: &[u8]) -> Result<Reading, AllocError>
 // Behind the head line.
 fn behind_head(alloc: Global, head: Head, bytes: &[u8]) -> Result<Reading, AllocError>
     ensures { (text : List ℕ) → IsHead head → At text (body (begun_with head)) bytes.now 1 →
-        length text ≤ 67108864 → IfOk result (IsReadingOf text) }
+        length text ≤ 4294967295 → IfOk result (IsReadingOf text) }
 {
     match Settings::new(head.seats, head.items, head.depth, head.start) {
         Ok(settings) => behind_settings(alloc, head, &settings, bytes),
@@ -66,7 +66,7 @@ fn behind_settings(
     bytes: &[u8],
 ) -> Result<Reading, AllocError>
     ensures { (text : List ℕ) → IsHead head → At text (body (begun_with head)) bytes.now 1 →
-        IsSettingsOf head settings.now → length text ≤ 67108864 → IfOk result (IsReadingOf text) }
+        IsSettingsOf head settings.now → length text ≤ 4294967295 → IfOk result (IsReadingOf text) }
 {
     let mut entries = Entries::new(alloc, head, need(settings));
     match entries.read(bytes, settings.seats)? {
@@ -86,7 +86,7 @@ fn behind_entries(
     ensures { (text : List ℕ) (head : AHead) (entries : List Entry) → Holds kept head entries →
         length entries < 2 ^ 32 - 1 →
         At text (body (with_entries head entries)) bytes.now lines → NoEntry (with_entries head entries) bytes.now →
-        ((s : ASettings) → IsSettingsOf head s → bound ≡ step_bound s) → length text ≤ 67108864 →
+        ((s : ASettings) → IsSettingsOf head s → bound ≡ step_bound s) → length text ≤ 4294967295 →
         IfOk result (IsReadingOf text) }
 {
     let mut pairs = Vec::new(alloc);
@@ -102,7 +102,7 @@ fn behind_sessions(kept: Entries, bound: u64, pairs: Vec<Pair>, bytes: &[u8], li
         length entries < 2 ^ 32 - 1 →
         At text (body (with_pairs (with_entries head entries) pairs.items)) bytes.now lines →
         session_at bytes.now ≡ None → (pairs.items ≡ [] → NoEntry (with_entries head entries) bytes.now) →
-        ((s : ASettings) → IsSettingsOf head s → bound ≡ step_bound s) → length text ≤ 67108864 →
+        ((s : ASettings) → IsSettingsOf head s → bound ≡ step_bound s) → length text ≤ 4294967295 →
         IsReadingOf text result }
 {
     match tail(bytes, lines, bound) {

@@ -17,7 +17,7 @@ pub(crate) fn sessions<'a>(
     pairs: &mut Vec<Pair>,
 ) -> Result<Part<'a>, AllocError>
     ensures { (text : List ℕ) (b : Body) → IsHead b.head → b.pairs ≡ [] → At text (body b) bytes.now before →
-        NoEntry b bytes.now → pairs.old.items ≡ [] → length text ≤ 67108864 →
+        NoEntry b bytes.now → pairs.old.items ≡ [] → length text ≤ 4294967295 →
         IfOk result (SessionsRead text b pairs.new.items) }
 {
     let mut rest = bytes;

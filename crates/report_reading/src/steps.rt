@@ -36,7 +36,7 @@ impl Entries {
     pub(crate) fn read<'a>(&mut self, bytes: &'a [u8], seats: u32) -> Result<Part<'a>, AllocError>
         requires { (1 ≤ seats) × (seats ≤ 8) }
         ensures { (text : List ℕ) (head : AHead) → At text (body (begun_with head)) bytes.now 1 →
-            Holds self.old head [] → seats ≡ head.seats → length text ≤ 67108864 →
+            Holds self.old head [] → seats ≡ head.seats → length text ≤ 4294967295 →
             IfOk result (EntriesRead text self.new head) }
     {
         let mut rest = bytes;

@@ -15,7 +15,7 @@ use report_lines::{count_line, input_line, leaves_line, steps_line};
 pub(crate) fn tail(bytes: &[u8], lines: u32, bound: u64) -> Result<(), u32>
     ensures { (text : List ℕ) (b : Body) → IsHead b.head → At text (body b) bytes.now lines →
         session_at bytes.now ≡ None → (b.pairs ≡ [] → NoEntry b bytes.now) →
-        ((s : Settings) → IsSettingsOf b.head s → bound ≡ step_bound s) → length text ≤ 67108864 →
+        ((s : Settings) → IsSettingsOf b.head s → bound ≡ step_bound s) → length text ≤ 4294967295 →
         MatchResult result (λ _. TailRead text b bound) (λ line. IsBadLine text line) }
 {
     let Some((_, rest)) = leaves_line(bytes) else {

@@ -16,7 +16,7 @@ use sim_steps::{Added, Totals};
 use std::alloc::AllocError;
 
 /// What the last lines of a report of totals tell.
-#[derive(Clone, Copy, Debug, PartialEq, Eq)]
+#[derive(Clone, Copy, PartialEq, Eq)]
 pub struct TotalsTail {
     pub totals: Totals,
     pub ending: Ending,

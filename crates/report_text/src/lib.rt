@@ -21,8 +21,3 @@ pub use parts::{Ending, Head, Tail};
 pub use session::session_text;
 pub use tail::tail_text;
 pub use trial::{Trial, trial_text};
-
-#[cfg(test)]
-mod tests;
-#[cfg(test)]
-mod totals_tests;

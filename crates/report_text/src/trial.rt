@@ -9,7 +9,7 @@ use crate::pieces::{append, begin_line, end_line, put_named, put_number, put_wor
 use std::alloc::AllocError;
 
 /// What a trial tells: its settings, how the calls of the made capture were answered, and what is left.
-#[derive(Clone, Copy, Debug, PartialEq, Eq)]
+#[derive(Clone, Copy, PartialEq, Eq)]
 pub struct Trial {
     /// What the capture was made of.
     pub number: u64,

@@ -3,7 +3,7 @@
 use plain_map::{Call, Full, Reply, Seen};
 
 /// How a call ended.
-#[derive(Clone, Copy, Debug, PartialEq, Eq)]
+#[derive(Clone, Copy, PartialEq, Eq)]
 pub enum Ended {
     /// It was answered, in so many atomic steps.
     Answered {
@@ -16,7 +16,7 @@ pub enum Ended {
 }
 
 /// The line of a call that ended.
-#[derive(Clone, Copy, Debug, PartialEq, Eq)]
+#[derive(Clone, Copy, PartialEq, Eq)]
 pub struct CallLine {
     pub packet: u32,
     pub seat: u32,
@@ -25,7 +25,7 @@ pub struct CallLine {
 }
 
 /// The line of a call that had begun and was not answered.
-#[derive(Clone, Copy, Debug, PartialEq, Eq)]
+#[derive(Clone, Copy, PartialEq, Eq)]
 pub struct PendingLine {
     pub packet: u32,
     pub seat: u32,

@@ -1,7 +1,7 @@
 //! What may be said of a text.
 
 /// Whether a report is right, or what is wrong with it first.
-#[derive(Clone, Copy, Debug, PartialEq, Eq)]
+#[derive(Clone, Copy, PartialEq, Eq)]
 pub enum Verdict {
     /// The report is right.
     Yes,

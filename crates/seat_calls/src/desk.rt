@@ -14,7 +14,7 @@ use step_counts::{DIRECTORY_HEAD_WORDS, SeatRows, bucket_row_words};
 use word_rows::{Layout, place_laws};
 
 /// Where the words lie, the hashing, and which seat it is.
-#[derive(Clone, Copy, Debug)]
+#[derive(Clone, Copy)]
 pub struct Desk {
     /// The word numbers of the table.
     pub layout: Layout,

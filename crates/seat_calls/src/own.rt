@@ -3,7 +3,7 @@
 use bucket_machine::Hashed;
 
 /// The number of an update, and its key, whose hash is made once a call.
-#[derive(Clone, Copy, Debug)]
+#[derive(Clone, Copy)]
 pub struct Own {
     pub number: u32,
     pub key: Hashed,

@@ -13,14 +13,14 @@ use step_counts::Settings;
 /// What one bucket try reads: the words of a row, and the ops that are announced.
 ///
 /// It is made once, since a function clears its own locals at each call.
-#[derive(Clone, Copy, Debug)]
+#[derive(Clone, Copy)]
 pub struct Buffers {
     pub words: [u64; MOST_WORDS],
     pub ops: [Option<Op>; MOST_SEATS],
 }
 
 /// Room for the tries of a call.
-#[derive(Debug, Drop)]
+#[derive(Drop)]
 pub struct Room {
     /// For a bucket try.
     pub buffers: Buffers,

@@ -16,7 +16,7 @@ use table_model::Put;
 use word_rows::Layout;
 
 /// A seat, with buffers that are made once.
-#[derive(Debug, Drop)]
+#[derive(Drop)]
 pub struct Machine {
     pub layout: Layout,
     pub hashing: Hashing,

@@ -21,7 +21,7 @@ use table_model::Ask;
 use word_rows::Layout;
 
 /// A seat: what it has published, how many calls it has answered, and its call in flight.
-#[derive(Debug, Drop)]
+#[derive(Drop)]
 pub struct SeatMachine {
     machine: Machine,
 }

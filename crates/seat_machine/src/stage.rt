@@ -4,7 +4,7 @@ use plain_map::Reply;
 use table_model::{Aim, Round};
 
 /// The phase of a seat without what the buffers hold. The numbers are those of the phase, in its order.
-#[derive(Clone, Copy, Debug)]
+#[derive(Clone, Copy)]
 pub enum Stage {
     Idle,
     SeeDone,

@@ -16,7 +16,7 @@ use word_rows::Layout;
 
 /// Words that are all 0, and rooms. An opening is written into the words, and its places are cleared again. Rooms are
 /// made again only where the settings are others.
-#[derive(Debug, Drop)]
+#[derive(Drop)]
 pub struct Blank {
     words: Vec<u64>,
     // For the settings of the last opening.

@@ -25,10 +25,3 @@ pub use laws::order_laws;
 pub use reader::Reader;
 pub use running::Running;
 pub use seat::Seat;
-
-#[cfg(test)]
-mod closing_tests;
-#[cfg(test)]
-mod desk_tests;
-#[cfg(test)]
-mod tests;

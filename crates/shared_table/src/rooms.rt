@@ -8,7 +8,7 @@ use std::alloc::{AllocError, Global};
 use step_counts::Settings;
 
 /// Rooms for seats of tables of the same settings.
-#[derive(Debug, Drop)]
+#[derive(Drop)]
 pub(crate) struct Rooms {
     settings: Settings,
     free: Vec<Room>,

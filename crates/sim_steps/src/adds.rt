@@ -1,7 +1,7 @@
 //! Adds to the totals of three classes, and what an adder answers.
 
 /// The totals of three classes of packets.
-#[derive(Clone, Copy, Debug, PartialEq, Eq)]
+#[derive(Clone, Copy, PartialEq, Eq)]
 pub struct Totals {
     /// How many packets each class has.
     pub counts: [u64; 3],
@@ -10,7 +10,7 @@ pub struct Totals {
 }
 
 /// One packet to be added to its class.
-#[derive(Clone, Copy, Debug, PartialEq, Eq)]
+#[derive(Clone, Copy, PartialEq, Eq)]
 pub struct Add {
     /// The packet's number, which no step reads.
     pub packet: u32,
@@ -21,7 +21,7 @@ pub struct Add {
 }
 
 /// What an adder answers of an add that has ended.
-#[derive(Clone, Copy, Debug, PartialEq, Eq)]
+#[derive(Clone, Copy, PartialEq, Eq)]
 pub struct Added {
     pub seat: u32,
     /// The add's number among those of its seat, from 1.
@@ -36,7 +36,7 @@ pub struct Added {
 }
 
 /// The three words of an op row, or zeros where a seat has announced nothing.
-#[derive(Clone, Copy, Debug, PartialEq, Eq)]
+#[derive(Clone, Copy, PartialEq, Eq)]
 pub struct Op {
     pub number: u64,
     pub class: u64,

@@ -7,8 +7,6 @@ mod machine;
 mod program;
 mod reading;
 mod rows;
-#[cfg(test)]
-mod tests;
 mod words;
 
 pub use adds::{Add, Added, Op, Totals};

@@ -4,7 +4,7 @@ ghost use Rattle.std.specs.Prelude.{◌≡◌, ◌+◌, ◌*◌, ◌^◌, ◌<�
 ghost use Rattle.sim_steps.specs.Layout.{IsAddress, place as place_at, words_of};
 
 /// What a seat knows of its table.
-#[derive(Clone, Copy, Debug, PartialEq, Eq)]
+#[derive(Clone, Copy, PartialEq, Eq)]
 pub struct Desk {
     /// How many seats there are.
     pub seats: u64,
@@ -16,7 +16,7 @@ pub struct Desk {
 }
 
 /// What a word of the table is.
-#[derive(Clone, Copy, Debug, PartialEq, Eq)]
+#[derive(Clone, Copy, PartialEq, Eq)]
 pub enum Address {
     Root,
     Announcement(u64),
@@ -26,7 +26,7 @@ pub enum Address {
 }
 
 /// One atomic step: a load, a store, or an exchange of the root.
-#[derive(Clone, Copy, Debug, PartialEq, Eq)]
+#[derive(Clone, Copy, PartialEq, Eq)]
 pub enum Ask {
     Load(Address),
     Store(Address, u64),

@@ -5,8 +5,6 @@ mod adder;
 mod rule;
 mod steps;
 mod table;
-#[cfg(test)]
-mod tests;
 mod view;
 
 pub use adder::Adder;

@@ -4,7 +4,7 @@ use plain_map::Call;
 use word_rows::Address;
 
 /// What a seat does next to the words of a table.
-#[derive(Clone, Copy, Debug, PartialEq, Eq)]
+#[derive(Clone, Copy, PartialEq, Eq)]
 pub enum Ask {
     /// Nothing: no call is going on.
     Nothing,
@@ -17,7 +17,7 @@ pub enum Ask {
 }
 
 /// The same, with words by their numbers. A word is given by its number.
-#[derive(Clone, Copy, Debug, PartialEq, Eq)]
+#[derive(Clone, Copy, PartialEq, Eq)]
 pub enum Action {
     /// Load this word.
     Load(u64),
@@ -30,14 +30,14 @@ pub enum Action {
 }
 
 /// A word, and where it is stored.
-#[derive(Clone, Copy, Debug, PartialEq, Eq)]
+#[derive(Clone, Copy, PartialEq, Eq)]
 pub struct Put {
     pub address: Address,
     pub word: u64,
 }
 
 /// One seat takes one step.
-#[derive(Clone, Copy, Debug, PartialEq, Eq)]
+#[derive(Clone, Copy, PartialEq, Eq)]
 pub struct Event {
     /// Below the number of seats.
     pub seat: u32,

@@ -6,6 +6,3 @@ mod rounds;
 
 pub use events::{Action, Ask, Event, Put};
 pub use rounds::{Aim, Round};
-
-#[cfg(test)]
-mod tests;

@@ -1,7 +1,7 @@
 //! What an update is about: why it finds a bucket, and in which round.
 
 /// What the bucket of a key is found for.
-#[derive(Clone, Copy, Debug, PartialEq, Eq)]
+#[derive(Clone, Copy, PartialEq, Eq)]
 pub enum Aim {
     /// To look the key up.
     ForLookup,
@@ -15,7 +15,7 @@ pub enum Aim {
 }
 
 /// A round of an update.
-#[derive(Clone, Copy, Debug, PartialEq, Eq)]
+#[derive(Clone, Copy, PartialEq, Eq)]
 pub struct Round {
     /// Which one, 1 or 2.
     pub turn: u64,

@@ -16,6 +16,3 @@ pub use counting::Counting;
 pub use frames::Frames;
 pub use laws::counted_laws;
 pub use running::count_input;
-
-#[cfg(test)]
-mod tests;

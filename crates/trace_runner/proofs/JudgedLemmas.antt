@@ -9,8 +9,8 @@ use Rattle.check_runner.specs.declared.checking.Checked.TheVariants.{Judged, Too
 use Rattle.check_runner.specs.declared.checking.Stop.{Stop}
 use Rattle.check_runner.specs.declared.checking.Stop.TheVariants.{Memory, NotPut, ReadFault}
 use Rattle.check_runner.specs.Checked.{Leaves}
-use Rattle.trace_runner.specs.declared.status.Status.{Status}
-use Rattle.trace_runner.specs.declared.status.Status.TheVariants as status
+use Rattle.mode_parts.specs.declared.status.Status.{Status}
+use Rattle.mode_parts.specs.declared.status.Status.TheVariants as status
 use Rattle.trace_runner.specs.Judged.{LeavesVerdict, status_of_check, status_of_text}
 
 -- the text decides the answer
@@ -31,5 +31,12 @@ pub check_nothing : (first before after : Option (List ℕ)) → Keeps before af
 check_nothing first before after keeps = (
   Err Memory,
   refl,
-  record { told = λ bytes is. keeps; taken = []; lost = Consumes-nil first; few = omega arith; took = keeps },
+  record {
+    told = λ bytes is. keeps;
+    taken = [];
+    lost = Consumes-nil first;
+    few = omega arith;
+    took = keeps;
+    all = λ v same. absurd (cc);
+  },
 )

@@ -13,11 +13,11 @@ use Rattle.capture_loop.specs.Leaves.{Leaves, Lines, Reports}
 use Rattle.capture_loop.proofs.LeavesLemmas.{leaves_nothing}
 use Rattle.command_line.specs.declared.plan.Plan.{Plan}
 use Rattle.totals_runner.specs.Told.{IsTotalsLines, IsTotalsReport}
-use Rattle.trace_runner.specs.declared.status.Status.{Status}
-use Rattle.trace_runner.specs.declared.status.Status.TheVariants as status
-use Rattle.trace_runner.specs.Headline.{status_by, status_for}
+use Rattle.mode_parts.specs.declared.status.Status.{Status}
+use Rattle.mode_parts.specs.declared.status.Status.TheVariants as status
+use Rattle.mode_parts.specs.Statuses.{status_by, status_for}
 use Rattle.trace_runner.specs.Totalled.{LeavesTotals}
-use Rattle.trace_runner.proofs.ExactLemmas.{few_packets, many_packets, same_status}
+use Rattle.mode_parts.proofs.ExactLemmas.{few_packets, many_packets, same_status}
 
 -- the input of the bytes is one, and decides the answer
 pub totals_exact : (lines : Lines) (report : Reports) (read_failed : Type 0) (bytes : List ℕ)

@@ -6,8 +6,8 @@ use Rattle.check_runner.specs.declared.checking.Checked.TheVariants.{Judged, Too
 use Rattle.check_runner.specs.declared.checking.Stop.{Stop}
 use Rattle.check_runner.specs.declared.checking.Stop.TheVariants.{Memory, NotPut, ReadFault}
 use Rattle.check_runner.specs.Checked.{LeavesChecked}
-use Rattle.trace_runner.specs.declared.status.Status.{Status}
-use Rattle.trace_runner.specs.declared.status.Status.TheVariants as status
+use Rattle.mode_parts.specs.declared.status.Status.{Status}
+use Rattle.mode_parts.specs.declared.status.Status.TheVariants as status
 
 -- the status of a check that ended so
 abbrev pub status_of_check : Result Checked Stop → Status

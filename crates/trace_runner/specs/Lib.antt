@@ -1,13 +1,3 @@
-pub mod PacketCalls
-pub mod Batches
-pub mod Reading
-pub mod Served
-pub mod Headline
 pub mod Judged
-pub mod Playing
-pub mod Progress
-pub mod Serving
-pub mod ServingLaws
-pub mod Trying
-pub mod TryingLaws
+pub mod Made
 pub mod Totalled

@@ -5,8 +5,8 @@ use Rattle.capture_loop.specs.declared.stop.Stop.{Stop}
 use Rattle.capture_loop.specs.Leaves.{LoopLeavesAll}
 use Rattle.command_line.specs.declared.plan.Plan.{Plan}
 use Rattle.totals_runner.specs.Told.{IsTotalsLines, IsTotalsReport}
-use Rattle.trace_runner.specs.declared.status.Status.{Status}
-use Rattle.trace_runner.specs.Headline.{status_by}
+use Rattle.mode_parts.specs.declared.status.Status.{Status}
+use Rattle.mode_parts.specs.Statuses.{status_by}
 
 -- The run ended so, by its input or before, and what is put is the report of the packets that were counted then, by as
 -- many seats as the plan says, or a part of it.

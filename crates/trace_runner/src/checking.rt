@@ -2,12 +2,12 @@
 
 ghost use Rattle.std.specs.Prelude.{◌≡◌, ◌≤◌};
 ghost use Rattle.edge_traits.specs.Edge.{Rose};
-ghost use Rattle.trace_runner.specs.Headline.{ReadsFailed, WritesFailed};
+ghost use Rattle.mode_parts.specs.Statuses.{ReadsFailed, WritesFailed};
 ghost use Rattle.trace_runner.specs.Judged.{LeavesVerdict};
 
-use crate::status::Status;
 use check_runner::{Checked, Stop, check_input};
 use edge_traits::{Sink, Source};
+use mode_parts::Status;
 use std::alloc::Global;
 
 /// Judges the report in the source, and puts the line of its verdict into the sink.

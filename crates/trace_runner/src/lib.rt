@@ -1,22 +1,13 @@
-//! The program behind its words: what is read, what is answered, what is printed.
+//! The program behind its words: each mode by its own crate, and one call that does what the words ask for.
 #![tactic(auto)]
 
 mod checking;
-mod laws;
 mod making;
-mod pile;
-mod playing;
-mod printing;
-mod progress;
 mod running;
-mod serving;
-mod status;
-mod steps;
 mod totals;
-mod trying;
 
 pub use capture_loop::{BATCH, PACKET_LIMIT};
-pub use laws::{playing_laws, serving_laws};
-pub use playing::PLAY_LIMIT;
+pub use mode_parts::Status;
+pub use play_mode::{PLAY_LIMIT, playing_laws};
 pub use running::run;
-pub use status::Status;
+pub use serve_modes::serving_laws;

@@ -2,11 +2,12 @@
 
 ghost use Rattle.std.specs.Prelude.{◌≡◌, ◌≤◌};
 ghost use Rattle.edge_traits.specs.Edge.{Rose};
-ghost use Rattle.trace_runner.specs.Headline.{LeavesMade, WritesFailed};
+ghost use Rattle.trace_runner.specs.Made.{LeavesMade};
+ghost use Rattle.mode_parts.specs.Statuses.{WritesFailed};
 
-use crate::status::Status;
 use command_line::Plan;
 use edge_traits::Sink;
+use mode_parts::Status;
 use pcap_reader::{MakeFault, put_made};
 use std::alloc::Global;
 

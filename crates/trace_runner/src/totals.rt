@@ -3,13 +3,13 @@
 ghost use Rattle.std.specs.Prelude.{◌≡◌, ◌≤◌};
 ghost use Rattle.edge_traits.specs.Edge.{Rose};
 ghost use Rattle.command_line.specs.Words.{IsInRange};
-ghost use Rattle.trace_runner.specs.Headline.{ReadsFailed, WritesFailed};
+ghost use Rattle.mode_parts.specs.Statuses.{ReadsFailed, WritesFailed};
 ghost use Rattle.trace_runner.specs.Totalled.{LeavesTotals};
 
-use crate::status::Status;
 use capture_loop::{Means, Stop};
 use command_line::Plan;
 use edge_traits::{Gate, Sink, Source};
+use mode_parts::Status;
 use std::thread::Threads;
 use totals_runner::count_input;
 

@@ -1,7 +1,7 @@
 //! The names of a table's words.
 
 /// What a word of a table is. Seats, buckets, rows and the words of a row are numbered from 0.
-#[derive(Clone, Copy, Debug, PartialEq, Eq)]
+#[derive(Clone, Copy, PartialEq, Eq)]
 pub enum Address {
     /// The number of the directory row in use.
     Root,

@@ -3,7 +3,7 @@
 use crate::Layout;
 
 /// Every word of a table that no caller works on any more.
-#[derive(Debug, Drop)]
+#[derive(Drop)]
 pub struct ClosedRows {
     pub layout: Layout,
     /// By their numbers.

@@ -11,7 +11,7 @@ use crate::Address;
 use step_counts::{DIRECTORY_HEAD_WORDS, OP_WORDS, SeatRows, Settings, bucket_row_words};
 
 /// The word numbers of one table.
-#[derive(Clone, Copy, Debug)]
+#[derive(Clone, Copy)]
 pub struct Layout {
     settings: Settings,
     /// Of each seat; from the last seat on they are none.

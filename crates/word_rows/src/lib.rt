@@ -14,8 +14,6 @@ mod ops;
 mod places;
 mod replies;
 mod rows;
-#[cfg(test)]
-mod tests;
 
 pub use addresses::Address;
 pub use closed::ClosedRows;

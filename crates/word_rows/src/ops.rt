@@ -17,7 +17,7 @@ pub const REMOVE: u64 = 2;
 pub const TALLY: u64 = 3;
 
 /// An update that a seat has announced.
-#[derive(Clone, Copy, Debug, PartialEq, Eq)]
+#[derive(Clone, Copy, PartialEq, Eq)]
 pub struct OpRow {
     /// Counts the seat's answered calls and this one, from 1.
     pub number: u32,

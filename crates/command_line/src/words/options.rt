@@ -3,7 +3,7 @@
 //! A new option is a row here, a row of `specs/Command.antt`, and a field of the plan.
 
 /// An option `--name` with a number in a range.
-#[derive(Clone, Copy, Debug)]
+#[derive(Clone, Copy)]
 pub struct NumberOption<'a> {
     pub name: &'a str,
     pub least: u64,

@@ -4,8 +4,8 @@ use Rattle.plain_map.specs.declared.calls.Call.{Call}
 use Rattle.plain_map.specs.declared.keys.Pair.{Pair}
 use Rattle.word_rows.specs.Shape.{Shape}
 use Rattle.shared_table.specs.Values.{TableValue}
-use Rattle.batch_runner.specs.declared.service.Service.{Service}
-use Rattle.batch_runner.specs.Served.{shares_of}
+use Rattle.batch_deals.specs.declared.service.Service.{Service}
+use Rattle.batch_deals.specs.Dealt.{shares_of}
 use Rattle.batch_runner.specs.Told.{IsClosedBatch}
 use Rattle.batch_runner.proofs.Ended.{all_of_table, all_seats, closed_batch}
 use Rattle.batch_runner.proofs.Working.{all_through}

@@ -6,10 +6,10 @@ use Rattle.plain_map.specs.declared.calls.Call.{Call}
 use Rattle.plain_map.specs.Serving.{IsAskable}
 use Rattle.shared_table.specs.Values.{TableValue, new_seats}
 use Rattle.shared_table.proofs.NewSeats.{length-new_seats}
-use Rattle.batch_runner.specs.declared.service.Service.{Service}
+use Rattle.batch_deals.specs.declared.service.Service.{Service}
 use Rattle.batch_runner.specs.declared.workers.SeatWorker.{SeatWorker}
 use Rattle.batch_runner.specs.Seats.{AreFresh}
-use Rattle.batch_runner.proofs.Deals.{dealt_hold, few_items, long_dealt, of_items}
+use Rattle.batch_deals.proofs.Deals.{dealt_hold, few_items, long_dealt, of_items}
 use Rattle.batch_runner.proofs.Working.{all_ready, all_short, many_fresh}
 use Rattle.batch_runner.proofs.batch.open_batch.Goals as goal
 

@@ -6,10 +6,10 @@ use Rattle.order_laws.proofs.Reopens.{no_pair_lacks_room}
 use Rattle.shared_table.specs.Values.{new_seats}
 use Rattle.batch_rows.specs.BatchRows.{rules_in}
 use Rattle.batch_rows.specs.declared.rows.TheConstants.{CALL_LIMIT}
-use Rattle.batch_runner.specs.declared.service.Service.{Service}
-use Rattle.batch_runner.specs.Served.{shares_of}
+use Rattle.batch_deals.specs.declared.service.Service.{Service}
+use Rattle.batch_deals.specs.Dealt.{shares_of}
 use Rattle.batch_runner.proofs.Alike.{alike}
-use Rattle.batch_runner.proofs.Deals.{few_updates, long_dealt, long_rows}
+use Rattle.batch_deals.proofs.Deals.{few_updates, long_dealt, long_rows}
 use Rattle.batch_runner.proofs.batch.opened.Goals as goal
 
 pub sizes_for-requires-clause-few : goal.sizes_for-requires-clause-few

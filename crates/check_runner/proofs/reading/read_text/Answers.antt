@@ -23,7 +23,7 @@ loop-text-preserved g c =
     let items : c.extend_from_slice.new.self.items ≡ text ++ take count buf =
     c.in_ok-extend_from_slice-in-Ok.ensures.items ∙ ap (λ (l : List ℕ). text ++ take count l) piece in
     let most : count ≤ 65536 = omega (arith, c.in-Ok.ensures.within, c.min-most.ensures) in
-    let more : count ≤ 67108865 - length text =
+    let more : count ≤ 4294967296 - length text =
     omega (arith, c.in-Ok.ensures.within, c.min-most.ensures, c.len-in-loop-text.ensures) in
     let came : length (take count buf) ≡ count = length-take-le count buf (omega (arith, most, long)) in
     record {
@@ -51,7 +51,7 @@ returns-in_err-extend_from_slice-in-Ok-clause-few g c =
     let long : length buf ≡ 65536 =
     omega (arith, c.read_front.auto.buf, ap length c.as_mut_slice.ensures.value, c.loop-text.invariant.piece) in
     let most : count ≤ 65536 = omega (arith, c.in-Ok.ensures.within, c.min-most.ensures) in
-    let more : count ≤ 67108865 - length text =
+    let more : count ≤ 4294967296 - length text =
     omega (arith, c.in-Ok.ensures.within, c.min-most.ensures, c.len-in-loop-text.ensures) in
     let came : length (take count buf) ≡ count = length-take-le count buf (omega (arith, most, long)) in (
       text ++ take count buf,

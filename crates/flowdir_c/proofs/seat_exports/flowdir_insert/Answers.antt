@@ -19,6 +19,7 @@ returns c = record {
   told = c.insert-told.result;
   became = subst (λ (k : Key). HasTold (Insert k c.args.value) c.deref_mut.result.now.calls c.deref_mut.result.now.seat
       c.insert-told.new.self.seat c.insert-told.result) c.to_key.ensures c.insert-told.ensures.told;
+  calls = c.insert-told.ensures.calls;
   same = c.insert-told.ensures.same;
   of_table = c.insert-told.ensures.directory;
   status_is = c.tell.ensures.status;

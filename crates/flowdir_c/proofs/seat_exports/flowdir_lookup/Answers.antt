@@ -19,6 +19,7 @@ returns c = record {
   told = c.lookup-told.result;
   became = subst (λ (k : Key). HasTold (Lookup k) c.deref_mut.result.now.calls c.deref_mut.result.now.seat
       c.lookup-told.new.self.seat c.lookup-told.result) c.to_key.ensures c.lookup-told.ensures.told;
+  calls = c.lookup-told.ensures.calls;
   same = c.lookup-told.ensures.same;
   of_table = c.lookup-told.ensures.directory;
   status_is = c.tell.ensures.status;

@@ -19,6 +19,7 @@ returns c = record {
   told = c.remove-told.result;
   became = subst (λ (k : Key). HasTold (Remove k) c.deref_mut.result.now.calls c.deref_mut.result.now.seat
       c.remove-told.new.self.seat c.remove-told.result) c.to_key.ensures c.remove-told.ensures.told;
+  calls = c.remove-told.ensures.calls;
   same = c.remove-told.ensures.same;
   of_table = c.remove-told.ensures.directory;
   status_is = c.tell.ensures.status;

@@ -19,6 +19,7 @@ returns c = record {
   told = c.tally-told.result;
   became = subst (λ (k : Key). HasTold (Tally k c.args.bytes) c.deref_mut.result.now.calls c.deref_mut.result.now.seat
       c.tally-told.new.self.seat c.tally-told.result) c.to_key.ensures c.tally-told.ensures.told;
+  calls = c.tally-told.ensures.calls;
   same = c.tally-told.ensures.same;
   of_table = c.tally-told.ensures.directory;
   status_is = c.tell.ensures.status;

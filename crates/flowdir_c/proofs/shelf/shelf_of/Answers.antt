@@ -1,4 +1,4 @@
-use Rattle.std.proofs.Common.{◌≡◌, ◌^◌, List, Err, sym, ap, ◌∙◌, subst}
+use Rattle.std.proofs.Common.{◌≡◌, ◌≤◌, ◌^◌, List, Err, arith, sym, ap, ◌∙◌, subst}
 use Rattle.std.specs.Prelude.{All, replicate}
 use Rattle.std.specs.List.{IsDistinct}
 use Rattle.std.specs.Arc.{arc_value}
@@ -8,7 +8,7 @@ use Rattle.step_counts.specs.declared.rows.SeatRows.{SeatRows}
 use Rattle.bucket_states.specs.Parts.{HasDistinctKeys}
 use Rattle.table_model.specs.Setup.{IsPair, seats_of}
 use Rattle.shared_table.specs.Openings.{setup_of}
-use Rattle.shared_table.specs.Values.{IsNew, IsOf, TableValue}
+use Rattle.shared_table.specs.Values.{IsOf, TableValue, new_seats}
 use Rattle.plain_map.specs.declared.leaves.OpenFault.{OpenFault}
 use Rattle.word_rows.specs.Shape.{AreBelow}
 use Rattle.flowdir_c.specs.Fit.{rules_with}
@@ -22,11 +22,13 @@ invariant_of-result c =
     let t : TableValue = arc_value c.in-Ok-new.directory in
     let same : t ≡ c.in-Ok-open_in.directory = c.in-Ok-new.ensures.ok in
     record {
-      new = subst (λ (u : TableValue). All (IsNew u) c.in-Ok-open_in.fresh.items) (sym same)
-          c.in-Ok-open_in.ensures.new;
+      new = c.in-Ok-open_in.ensures.seats ∙ ap (λ (u : TableValue). new_seats u 0 c.args.settings.now.seats) (sym same)
+          ∙ ap (new_seats t 0) (sym c.in-Ok-open_in.ensures.count);
       of = subst (All (IsOf t)) (sym c.in-Ok-with_capacity.ensures.items) (All-nil (IsOf t));
       all = sym (ap (λ (u : TableValue). seats_of u.setup) same ∙ ap seats_of c.in-Ok-open_in.ensures.setup);
+      room = omega (arith, c.in-Ok-with_capacity.ensures.exact);
       ran = tt;
+      listed = λ is. cc;
       kept = subst (All IsPair) (sym c.new-in-Ok-open_in.ensures.items) (All-nil IsPair);
       distinct = subst HasDistinctKeys (sym c.new-in-Ok-open_in.ensures.items) tt;
     }

@@ -1,4 +1,4 @@
-use Rattle.std.proofs.Common.{◌^◌, List, [], ◌∷◌, Err, map, ap, ◌∙◌, subst}
+use Rattle.std.proofs.Common.{◌≤◌, ◌^◌, List, [], ◌∷◌, Err, map, ap, ◌∙◌, subst}
 use Rattle.std.specs.Prelude.{IsSomeAnd}
 use Rattle.step_counts.specs.declared.rows.SeatRows.{SeatRows}
 use Rattle.step_counts.proofs.MadeLemmas.{made_in_range}
@@ -20,6 +20,12 @@ returns-in-Ok-shelf_of-clause-opened c = λ done. record {
   shelf = c.in-Ok-shelf_of.shelf;
   is = c.of_loose.ensures ∙ ap (λ v. v ∷ []) (c.of.ensures ∙ c.in-Ok-new.ensures.ok);
   free = c.in-Ok-shelf_of.ensures.seats ∙ c.in-Some.ensures.seats_are;
+  none_back = c.in-Ok-shelf_of.ensures.none_back;
+  none_left = c.in-Ok-shelf_of.ensures.none_left;
+  unlisted = c.in-Ok-shelf_of.ensures.unlisted;
+  none_listed = c.in-Ok-shelf_of.ensures.none_listed;
+  a_place_each = subst (λ n. n ≤ c.in-Ok-shelf_of.shelf.places) c.in-Some.ensures.seats_are
+      c.in-Ok-shelf_of.ensures.a_place_each;
   fit = record {
     numbers = made_in_range c.in-Some.settings _ _ _ _ c.in-Some.ensures;
     rows = subst (AreBelow (2 ^ 32)) c.to_rows.ensures c.in-Ok-shelf_of.ensures.small;

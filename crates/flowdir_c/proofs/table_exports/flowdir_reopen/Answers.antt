@@ -1,10 +1,11 @@
-use Rattle.std.proofs.Common.{◌^◌, List, [], ◌∷◌, sym, ap, ◌∙◌, subst}
+use Rattle.std.proofs.Common.{◌≤◌, ◌^◌, List, [], ◌∷◌, refl, sym, ap, ◌∙◌, subst}
 use Rattle.std.specs.Prelude.{IsSomeAnd}
 use Rattle.step_counts.specs.declared.rows.SeatRows.{SeatRows}
 use Rattle.step_counts.proofs.MadeLemmas.{made_in_range}
 use Rattle.plain_map.specs.declared.keys.Pair.{Pair}
 use Rattle.word_rows.specs.Shape.{AreBelow}
 use Rattle.shared_table.specs.Values.{TableValue}
+use Rattle.flowdir_c.specs.Shelves.{ArePairsOf, ShelfValue}
 use Rattle.flowdir_c.specs.Opened.{IsOpened}
 use Rattle.flowdir_c.proofs.table_exports.flowdir_reopen.Goals as goal
 
@@ -17,9 +18,17 @@ pub returns-in-Ok-clause-opened : goal.returns-in-Ok-clause-opened
 returns-in-Ok-clause-opened c = λ done. record {
   shelf = c.reopened-opened.new.self;
   next = c.in-Ok.next.value;
-  closed_is = c.of_loose.ensures ∙ ap (λ v. v ∷ []) c.of.ensures;
+  closed_is = c.of_loose-2.ensures ∙ ap (λ v. v ∷ []) c.of-2.ensures;
   opened_is = c.of_loose-in-Ok.ensures ∙ ap (λ v. v ∷ []) c.of-in-Ok.ensures;
+  listed = subst (λ (s : ShelfValue). IsSomeAnd s.left (λ left. ArePairsOf left s.pairs))
+      (c.deref.ensures ∙ sym c.deref_mut.ensures.value ∙ sym c.reopened-opened.ensures.same)
+      (c.if-not-is_listed.ensures.listed refl);
   free = c.in-Ok.ensures.seats ∙ c.in-Some.ensures.seats_are;
+  none_back = c.in-Ok.ensures.none_back;
+  none_left = c.in-Ok.ensures.none_left;
+  unlisted = c.in-Ok.ensures.unlisted;
+  none_listed = c.in-Ok.ensures.none_listed;
+  a_place_each = subst (λ n. n ≤ c.in-Ok.next.value.places) c.in-Some.ensures.seats_are c.in-Ok.ensures.a_place_each;
   fit = record {
     numbers = made_in_range c.in-Some.settings _ _ _ _ c.in-Some.ensures;
     rows = subst (AreBelow (2 ^ 32)) c.to_rows.ensures c.in-Ok.ensures.small;

@@ -26,4 +26,8 @@ returns-clause-risen c = λ done. record {
   back = c.keep.ensures.back
       ∙ ap (λ (v : ShelfValue). v.back ++ c.into_inner.result.seat ∷ []) c.deref_mut.ensures.value
       ∙ ap (λ (h : Holder). c.into_box-shelf.result.value.back ++ h.seat ∷ []) c.into_inner.ensures;
+  places = c.keep.ensures.places ∙ ap (λ (v : ShelfValue). v.places) c.deref_mut.ensures.value;
+  left = c.keep.ensures.left ∙ ap (λ (v : ShelfValue). v.left) c.deref_mut.ensures.value;
+  is_listed = c.keep.ensures.is_listed ∙ ap (λ (v : ShelfValue). v.is_listed) c.deref_mut.ensures.value;
+  pairs = c.keep.ensures.pairs ∙ ap (λ (v : ShelfValue). v.pairs) c.deref_mut.ensures.value;
 }

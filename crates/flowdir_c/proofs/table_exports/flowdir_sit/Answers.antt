@@ -19,6 +19,11 @@ returns-in-Ok-new-clause-seat c = λ done. record {
   same = c.take.ensures.table ∙ ap (λ (v : ShelfValue). v.table) c.deref_mut.ensures.value;
   one = c.in-Ok.ensures.one ∙ ap (λ (v : ShelfValue). v.free) c.deref_mut.ensures.value;
   back = c.take.ensures.back ∙ ap (λ (v : ShelfValue). v.back) c.deref_mut.ensures.value;
+  places = c.in-Ok.ensures.places ∙ ap (λ (v : ShelfValue). v.places) c.deref_mut.ensures.value;
+  left = c.in-Ok.ensures.left ∙ ap (λ (v : ShelfValue). v.left) c.deref_mut.ensures.value;
+  is_listed = c.in-Ok.ensures.is_listed ∙ ap (λ (v : ShelfValue). v.is_listed) c.deref_mut.ensures.value;
+  pairs = c.in-Ok.ensures.pairs ∙ ap (λ (v : ShelfValue). v.pairs) c.deref_mut.ensures.value;
   of_table = c.in-Ok.ensures.taken ∙ sym c.take.ensures.table;
   new = c.in-Ok.ensures.new;
+  unasked = c.in-Ok.ensures.unasked;
 }

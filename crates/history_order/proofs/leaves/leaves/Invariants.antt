@@ -1,6 +1,7 @@
 use Rattle.std.proofs.Common.{◌≡◌, ◌++◌, [], List, ℕ, drop, map}
 use Rattle.word_rows.specs.LayoutView.{shape_of}
-use Rattle.history_order.specs.Filling.{AreMet, leaves_from}
+use Rattle.closed_words.specs.Marks.{AreMet}
+use Rattle.history_order.specs.Filling.{leaves_from}
 use Rattle.history_order.proofs.leaves.leaves.Given as goal
 
 abbrev pub invariant-loop-row : goal.invariant-loop-row

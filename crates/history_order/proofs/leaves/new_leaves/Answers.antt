@@ -3,7 +3,8 @@ use Rattle.std.proofs.Common.{◌≡◌, ℕ, ◌-◌, ◌<◌, ◌++◌, List, 
 use Rattle.std.specs.Prelude.{slice_index_or, false}
 use Rattle.word_rows.specs.Shape.{Shape}
 use Rattle.word_rows.specs.LayoutView.{shape_of}
-use Rattle.history_order.specs.Filling.{AreMet, entries_of}
+use Rattle.closed_words.specs.Marks.{AreMet}
+use Rattle.history_order.specs.Filling.{entries_of}
 use Rattle.history_order.proofs.Loops.{picked, leaf_goes, leaf_stays}
 use Rattle.history_order.proofs.leaves.new_leaves.Goals.{then-not-was_met+in_ok-meet+in_ok-push, else-not-was_met}
 use Rattle.history_order.proofs.leaves.new_leaves.Goals as goal

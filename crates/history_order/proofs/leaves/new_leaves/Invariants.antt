@@ -1,6 +1,7 @@
 use Rattle.std.proofs.Common.{◌≡◌, ◌++◌, ◌-◌, ℕ, List, drop, reverse}
 use Rattle.word_rows.specs.LayoutView.{shape_of}
-use Rattle.history_order.specs.Filling.{AreMet, entries_of}
+use Rattle.closed_words.specs.Marks.{AreMet}
+use Rattle.history_order.specs.Filling.{entries_of}
 use Rattle.history_order.proofs.Loops.{picked}
 use Rattle.history_order.proofs.leaves.new_leaves.Given as goal
 

@@ -8,5 +8,5 @@ use Rattle.report_reading.proofs.sessions.sessions.Given as goal
 abbrev pub invariant-loop : goal.invariant-loop
 invariant-loop l =
     (text : List ℕ) (b : Body) → IsHead b.head → b.pairs ≡ [] → At text (body b) l.fn.bytes l.before →
-    NoEntry b l.fn.bytes → l.fn.pairs.items ≡ [] → length text ≤ 67108864 →
+    NoEntry b l.fn.bytes → l.fn.pairs.items ≡ [] → length text ≤ 4294967295 →
     HasSessions text b l.pairs.items l.rest l.before l.lines l.counter

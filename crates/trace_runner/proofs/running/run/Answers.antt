@@ -1,14 +1,15 @@
 use Rattle.std.proofs.Common.{◌≡◌, Some, None, ap, sym, subst, ◌∙◌}
 use Rattle.command_line.specs.declared.plan.Plan.{Plan}
-use Rattle.trace_runner.specs.Headline.{LeavesAll, LeavesMade, LeavesTried}
-use Rattle.trace_runner.specs.Playing.{LeavesPlayed}
+use Rattle.serve_modes.specs.Headline.{LeavesAll, LeavesTried}
+use Rattle.trace_runner.specs.Made.{LeavesMade}
+use Rattle.play_mode.specs.Playing.{LeavesPlayed}
 use Rattle.trace_runner.specs.Totalled.{LeavesTotals}
 use Rattle.edge_traits.specs.Edge.{Rose}
 use Rattle.capture_loop.proofs.LeavesLemmas.{Keeps-same}
-use Rattle.trace_runner.proofs.HeadlineLemmas.{leaves_nothing}
-use Rattle.trace_runner.proofs.ExactLemmas.{Leaves-exact}
+use Rattle.serve_modes.proofs.HeadlineLemmas.{leaves_nothing}
+use Rattle.serve_modes.proofs.ExactServes.{Leaves-exact}
 use Rattle.trace_runner.proofs.JudgedLemmas.{check_exact, check_nothing}
-use Rattle.trace_runner.proofs.PlayLemmas.{LeavesPlay-exact, LeavesPlayed-nothing}
+use Rattle.play_mode.proofs.PlayLemmas.{LeavesPlay-exact, LeavesPlayed-nothing}
 use Rattle.trace_runner.proofs.TotalsLemmas.{totals_exact, totals_nothing}
 use Rattle.trace_runner.proofs.TrialWords.{no_rows}
 use Rattle.trace_runner.proofs.running.run.Goals as goal

@@ -1,4 +1,4 @@
-use Rattle.std.proofs.Common.{sym, ap, ◌∙◌, subst}
+use Rattle.std.proofs.Common.{◌≤◌, vec_capacity, sym, ap, ◌∙◌, subst}
 use Rattle.std.specs.Prelude.{All}
 use Rattle.shared_table.specs.Values.{IsOf, TableValue}
 use Rattle.list_laws.proofs.Options.{some_same}
@@ -17,6 +17,10 @@ invariant_of-self c = record {
       (some_same (c.requires.own ∙ sym (ap (λ (v : ShelfValue). v.table) c.self.view_is) ∙ e)) c.args.holder.of))
       c.self.invariant.of;
   all = c.self.invariant.all;
+  room = if_some (λ (t : TableValue). c.self.inside.count ≤ vec_capacity c.self.inside.back)
+      (λ (t : TableValue). c.self.inside.count ≤ vec_capacity c.add.new.seats) (table_in c.self.inside.directory)
+      (λ t e old. subst (λ n. c.self.inside.count ≤ n) (sym c.add.ensures.places) old) c.self.invariant.room;
+  listed = c.self.invariant.listed;
   ran = c.self.invariant.ran;
   kept = c.self.invariant.kept;
   distinct = c.self.invariant.distinct;

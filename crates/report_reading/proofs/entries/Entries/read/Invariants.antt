@@ -9,4 +9,4 @@ use Rattle.report_reading.proofs.entries.Entries.read.Given as goal
 abbrev pub invariant-loop : goal.invariant-loop
 invariant-loop l =
     (text : List ℕ) (head : Head) → At text (body (begun_with head)) l.fn.bytes 1 → Holds l.fn.self head [] →
-    l.seats ≡ head.seats → length text ≤ 67108864 → HasEntries text l.self head l.rest l.lines l.counter
+    l.seats ≡ head.seats → length text ≤ 4294967295 → HasEntries text l.self head l.rest l.lines l.counter

@@ -1,0 +1,39 @@
+use Rattle.std.proofs.Common.{◌≡◌, ℕ, ◌^◌, List, take, replicate, refl, ap, ◌∙◌, subst, inl, arith}
+use Rattle.std.proofs.lemmas.List.{take-replicate}
+use Rattle.step_counts.specs.declared.rows.SeatRows.{SeatRows}
+use Rattle.step_counts.proofs.MadeLemmas.{made_in_range}
+use Rattle.word_rows.specs.LayoutView.{shape_of}
+use Rattle.word_rows.specs.Places.{word_count}
+use Rattle.word_rows.specs.Shape.{AreBelow, Shape}
+use Rattle.word_rows.proofs.Ranges.{words_few}
+use Rattle.flowdir_c.specs.Asked.{rows_of}
+use Rattle.flowdir_c.proofs.memory.flowdir_memory.Goals as goal
+
+-- a table's words are few
+pub overflow_mul-result : goal.overflow_mul-result
+overflow_mul-result c =
+    omega (arith, words_few (shape_of c.new-layout.result) c.new-layout.result.shaped, c.words.ensures)
+
+-- and they are those of a table of these options
+pub returns : goal.returns
+returns c =
+    let seats : ℕ = c.in-Some.settings.seats in
+    let rows : SeatRows = c.in-Some-rows_in_range.rows in
+    let same : rows ≡ rows_of c.args.options.now.rows = c.in-Some-rows_in_range.ensures.same ∙ c.to_rows.ensures in
+    let each : take seats (replicate 8 rows) ≡ replicate seats (rows_of c.args.options.now.rows) =
+    take-replicate seats 8 rows (omega (arith, c.in-Some.settings.seats_in_range)) ∙ ap (replicate seats) same in
+    let shape : List SeatRows → Shape = λ ranges. record { settings = c.in-Some.settings; ranges = ranges } in
+    let are = c.words.ensures ∙ ap word_count (c.new-layout.ensures ∙ ap shape each) in
+    inl (
+      record {
+        numbers = made_in_range c.in-Some.settings _ _ _ _ c.in-Some.ensures;
+        rows = subst (AreBelow (2 ^ 32)) same c.in-Some-rows_in_range.ensures.small;
+      },
+      (
+        c.words.result,
+        (
+          (c.in-Some.settings, (c.in-Some.ensures, are)),
+          refl,
+        ),
+      ),
+    )

@@ -1,0 +1,6 @@
+//! What holds in every run of a lasting table.
+#![tactic(auto)]
+
+mod laws;
+
+pub use laws::{hold_laws, peek_laws, pool_laws, shown_facts, step_laws};

@@ -1,0 +1,5 @@
+pub mod CallLemmas
+pub mod FittingCalls
+pub mod GoodCalls
+pub mod ExactLemmas
+pub mod PileLemmas

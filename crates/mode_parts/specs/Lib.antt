@@ -1,0 +1,5 @@
+pub mod PacketCalls
+pub mod Reading
+pub mod Statuses
+pub mod Planned
+pub mod Piles

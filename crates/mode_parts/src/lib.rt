@@ -1,0 +1,13 @@
+//! What the modes of the program share: how a run ended, the calls of packets, how a plan is served, lines of a report.
+#![tactic(auto)]
+
+mod pile;
+mod planned;
+mod printing;
+mod status;
+mod steps;
+
+pub use pile::CallPile;
+pub use planned::{head_of, service_of};
+pub use printing::put_sessions;
+pub use status::Status;

@@ -1,0 +1,64 @@
+//! The calls of a batch's packets, until they are served.
+
+ghost use Rattle.std.specs.Prelude.{◌≡◌, ◌≤◌, ◌+◌, ◌++◌, ◌∷◌, [], ℕ, List, length, IfOk, OnOk};
+ghost use Rattle.std.specs.Option.{ForSome};
+ghost use Rattle.mode_parts.specs.Piles.{HoldsCalls};
+
+use crate::steps::keep_call;
+use batch_deals::{Dealt, Service, deal_batch};
+use capture_loop::Pile;
+use plain_map::Call;
+use std::alloc::{AllocError, Global};
+
+/// The calls of a batch's packets. Those of a whole batch can be dealt before it is served.
+#[derive(Drop)]
+pub struct CallPile {
+    pub alloc: Global,
+    /// How they are dealt.
+    pub service: Service,
+    /// How many packets there are, those that make no call too.
+    pub packets: u32,
+    pub calls: Vec<(u32, Call)>,
+    pub dealt: Option<Dealt>,
+}
+
+impl CallPile {
+    /// An empty one, with room for so many calls.
+    pub fn with_room(alloc: Global, service: Service, calls: usize) -> Result<CallPile, AllocError>
+        ensures { IfOk result (λ pile. HoldsCalls pile 0 []) }
+    {
+        Ok(CallPile {
+            alloc,
+            service,
+            packets: 0,
+            calls: Vec::with_capacity(alloc, calls)?,
+            dealt: None,
+        })
+    }
+}
+
+impl Pile for CallPile {
+    ghost holds = { HoldsCalls };
+
+    fn take(&mut self, number: u32, packet: &[u8]) -> Result<(), AllocError> {
+        // Most often there is none, and it costs to give one up.
+        if self.dealt.is_some() {
+            self.dealt = None;
+        }
+        keep_call(packet, number, &mut self.calls)?;
+        self.packets += 1;
+        Ok(())
+    }
+
+    fn prepare(&mut self) -> Result<(), AllocError> {
+        let dealt = deal_batch(self.alloc, &self.service, &self.calls)?;
+        self.dealt = Some(dealt);
+        Ok(())
+    }
+
+    fn clear(&mut self, _before: u32) {
+        self.dealt = None;
+        self.calls.clear();
+        self.packets = 0;
+    }
+}

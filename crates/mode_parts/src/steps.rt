@@ -1,0 +1,47 @@
+//! The call of a packet.
+
+ghost use Rattle.std.specs.Prelude.{◌≡◌, ◌≤◌, ◌<◌, ◌-◌, ◌+◌, ◌^◌, ℕ, List, [], false, Option, Some, IfSome, IfNone, OnOk};
+ghost use Rattle.flow_keys.specs.FlowText.{HasText};
+ghost use Rattle.plain_map.specs.Calls.{key_in};
+ghost use Rattle.plain_map.specs.Serving.{IsAskable};
+ghost use Rattle.plain_map.specs.Keys.{IsKey};
+ghost use Rattle.mode_parts.specs.PacketCalls.{MakesCall};
+ghost use Rattle.mode_parts.specs.Reading.{AreBetween, TakesCall};
+
+use flow_keys::call_of;
+use packet_heads::heads;
+use plain_map::Call;
+use report_promises::call_laws;
+use std::alloc::AllocError;
+
+/// The call of the packet with this number, or `None` where it makes none.
+fn call_in(packet: &[u8], number: u32) -> Option<Call>
+    ensures made { MakesCall number packet.now result }
+    ensures fits { IfSome result (λ call. IsAskable call × HasText (key_in call) × IsKey (key_in call)) }
+{
+    call_laws();
+    match heads(packet) {
+        Some(heads) => {
+            let call = call_of(&heads, number);
+            call.key().has_words();
+            Some(call)
+        }
+        None => None,
+    }
+}
+
+/// Keeps the call of the packet with this number, where it makes one.
+pub(crate) fn keep_call(
+    packet: &[u8],
+    number: u32,
+    calls: &mut Vec<(u32, Call)>,
+) -> Result<(), AllocError>
+    ensures kept { OnOk result (TakesCall number packet.now calls.old.items calls.new.items) }
+    ensures between { OnOk result ((first last : ℕ) → AreBetween first last calls.old.items → number ≡ last + 1
+        → AreBetween first number calls.new.items) }
+{
+    if let Some(call) = call_in(packet, number) {
+        calls.push((number, call))?;
+    }
+    Ok(())
+}

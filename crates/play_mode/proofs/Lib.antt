@@ -1,0 +1,14 @@
+pub mod Permuted
+pub mod PacketOrder
+pub mod DealtLemmas
+pub mod AnsweredLemmas
+pub mod PlayTexts
+pub mod RightPlays
+pub mod PlayTurns
+pub mod UnrefusedPlays
+pub mod PlayLines
+pub mod PlayReports
+pub mod PlayPackets
+pub mod PlayEnds
+pub mod GoodPlays
+pub mod PlayLemmas

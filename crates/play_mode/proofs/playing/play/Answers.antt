@@ -1,0 +1,40 @@
+-- The report was put whole, or in part, or nothing was put.
+use Rattle.std.proofs.Common.{subst, sym}
+use Rattle.std.specs.Io.KnownBytes.{Appends}
+use Rattle.edge_traits.specs.Edge.{AppendsFront, Rose}
+use Rattle.play_mode.specs.Playing.{LeavesPlayed}
+use Rattle.capture_loop.proofs.LeavesLemmas.{Keeps-same}
+use Rattle.play_mode.proofs.PlayLemmas.{LeavesPlayed-front, LeavesPlayed-nothing, LeavesPlayed-whole}
+use Rattle.play_mode.proofs.playing.play.Goals as goal
+
+pub returns-in_default-clause-leaves : goal.returns-in_default-clause-leaves
+returns-in_default-clause-leaves g c =
+    let first = g.S.Source.left c.args.source.now in
+    let left = g.S.Source.left c.read_input.new.source in
+    let before = g.K.Sink.put c.args.sink.now in
+    let failed = Rose (g.S.Source.faults c.args.source.now) (g.S.Source.faults c.read_input.new.source) in
+    LeavesPlayed-nothing c.args.plan.now failed first left before before (Keeps-same before)
+
+pub returns-in-Ok-write_all-clause-leaves : goal.returns-in-Ok-write_all-clause-leaves
+returns-in-Ok-write_all-clause-leaves g c =
+    let first = g.S.Source.left c.args.source.now in
+    let left = g.S.Source.left c.read_input.new.source in
+    let before = g.K.Sink.put c.args.sink.now in
+    let after = g.K.Sink.put c.write_all.new.sink in
+    let failed = (Rose (g.S.Source.faults c.args.source.now) (g.S.Source.faults c.read_input.new.source)) in
+    subst (LeavesPlayed c.args.plan.now failed first left before after) (sym c.of_ending.ensures)
+    (LeavesPlayed-whole c.args.plan.now failed first left before after c.in-Ok.input.packets c.in-Ok.input.calls.items
+    c.in-Ok.input.ending c.in-Ok.ensures.ended c.in-Ok-report_of.text.items c.in-Ok-report_of.ensures
+    c.promise_laws.ensures (subst (Appends before after) c.deref.ensures.value c.in-Ok-write_all.ensures.ok))
+
+pub returns-in-Ok-report_of-clause-leaves : goal.returns-in-Ok-report_of-clause-leaves
+returns-in-Ok-report_of-clause-leaves g c =
+    let first = g.S.Source.left c.args.source.now in
+    let left = g.S.Source.left c.read_input.new.source in
+    let before = g.K.Sink.put c.args.sink.now in
+    let after = g.K.Sink.put c.write_all.new.sink in
+    let failed = (Rose (g.S.Source.faults c.args.source.now) (g.S.Source.faults c.read_input.new.source)) in
+    LeavesPlayed-front c.args.plan.now failed first left before after c.in-Ok.input.packets c.in-Ok.input.calls.items
+    c.in-Ok.input.ending c.in-Ok.ensures.ended c.in-Ok-report_of.text.items c.in-Ok-report_of.ensures
+    c.in-Ok.ensures.read_fault
+    (subst (AppendsFront before after) c.deref.ensures.value c.in-Err-write_all.ensures.prefix)

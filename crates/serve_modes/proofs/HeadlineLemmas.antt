@@ -1,0 +1,419 @@
+-- What the loop over batches of packets leaves is what `serve` leaves.
+use Rattle.std.proofs.Common.{◌≡◌, ◌≤◌, ◌<◌, ◌^◌, ℕ, ◌+◌, ◌*◌, suc, zero, List, [], ◌∷◌, ◌++◌, length, map, Option, Some, Result, Ok, Err, sym, ◌∙◌, ap, subst, refl, inl, inr, append_assoc, length-append, arith}
+use Rattle.std.specs.Prelude.{slice_index_or}
+use Rattle.std.specs.Io.KnownBytes.{Keeps}
+use Rattle.std.specs.Result.{IfOk, IsErr, IsErrAnd}
+use Rattle.std.proofs.KnownBytes.{Consumes-nil}
+use Rattle.std.specs.List.{All, AllByRecursion, flat_map}
+use Rattle.std.proofs.lemmas.List.{length-map, length-take-le, nil_from_length}
+use Rattle.plain_map.specs.declared.calls.Call.{Call}
+use Rattle.report_text.specs.declared.parts.Ending.{Ending}
+use Rattle.report_text.specs.declared.parts.Ending.TheVariants.{Done, ReadFault, Limit, Fault}
+use Rattle.report_text.specs.Report.{report_of}
+use Rattle.batch_deals.specs.declared.service.Service.{Service}
+use Rattle.batch_runner.specs.Served.{Served}
+use Rattle.capture_loop.specs.declared.stop.Stop.{Stop}
+use Rattle.capture_loop.specs.declared.stop.Stop.TheVariants.{Memory, NotPut}
+use Rattle.capture_loop.specs.Batches.{AreBatches, IsWhole, batch_length}
+use Rattle.capture_loop.specs.Leaves.{IsLoopFront, IsLoopReport, IsLoopTold, Leaves as LoopLeaves, LoopLeavesAll, PutsInput, ReportsInput, RunReads}
+use Rattle.capture_loop.specs.Input.{Serves, packet_limit}
+use Rattle.command_line.specs.declared.plan.Plan.{Plan}
+use Rattle.report_told.specs.Rules.{IsEndingTold, seed_in}
+use Rattle.report_told.specs.Verdicts.{Certified}
+use Rattle.report_promises.specs.Good.{GoodIsCertified}
+use Rattle.mode_parts.specs.declared.status.Status.TheVariants as status
+use Rattle.serve_modes.specs.Batches.{AreOfBatches, IsOfBatch, batch_count}
+use Rattle.mode_parts.specs.PacketCalls.{MakeCalls, numbered}
+use Rattle.mode_parts.specs.Reading.{AreBetween}
+use Rattle.serve_modes.specs.Served.{AreDone, ServedArePromised, run_report}
+use Rattle.serve_modes.specs.Serving.{AreServedOf, IsLines, IsServedSo, IsWholeReport, joined}
+use Rattle.serve_modes.specs.Headline.{IsFront, IsReport, IsTold, Leaves, LeavesAll, PutsReport, Reports}
+use Rattle.mode_parts.specs.Statuses.{ReadsFailed, status_by, status_of}
+use Rattle.serve_modes.proofs.EndLemmas.{between_is_batch, last_count}
+use Rattle.mode_parts.proofs.FittingCalls.{calls_fit}
+use Rattle.serve_modes.proofs.GoodServes.{serve_is_certified}
+
+-- ---- calls of batches
+
+abbrev calls_in : List Served → List (List (ℕ × Call))
+calls_in served = map (λ (batch : Served). batch.calls) served
+
+abbrev all_in : List Served → List (ℕ × Call)
+all_in served = flat_map (λ (calls : List (ℕ × Call)). calls) (calls_in served)
+
+-- packets behind packets make the calls of both
+MakeCalls-append : (packets : List (List ℕ)) (n : ℕ) (calls : List (ℕ × Call)) (others : List (List ℕ))
+    (more : List (ℕ × Call)) → MakeCalls n packets calls → MakeCalls (n + length packets) others more →
+    MakeCalls n (packets ++ others) (calls ++ more)
+MakeCalls-append [] n calls others more none behind =
+    let same : n + 0 ≡ n = omega arith in
+    subst (λ (l : List (ℕ × Call)). MakeCalls n others (l ++ more)) (sym none)
+    (subst (λ (k : ℕ). MakeCalls k others more) same behind)
+MakeCalls-append (packet ∷ packets) n calls others more made behind =
+    let same : n + length (packet ∷ packets) ≡ suc n + length packets = omega arith in (
+      made.0,
+      made.1 ++ more,
+      made.2,
+      MakeCalls-append packets (suc n) made.1 others more made.3
+          (subst (λ (k : ℕ). MakeCalls k others more) same behind),
+      ap (λ (l : List (ℕ × Call)). l ++ more) made.4 ∙ append_assoc (numbered n made.0) made.1 more,
+    )
+
+-- all packets make all calls
+calls_made : (batches : List (List (List ℕ))) (before : ℕ) (served : List Served) → AreServedOf batches before served →
+    MakeCalls (before + 1) (joined batches) (all_in served)
+calls_made [] before served none = ap all_in none
+calls_made (batch ∷ batches) before served are =
+    let same : before + length batch + 1 ≡ before + 1 + length batch = omega arith in
+    subst (λ (s : List Served). MakeCalls (before + 1) (batch ++ joined batches) (all_in s)) (sym are.2)
+    (MakeCalls-append batch (before + 1) are.0.calls (joined batches) (all_in are.1) are.3
+    (subst (λ (k : ℕ). MakeCalls k (joined batches) (all_in are.1)) same
+    (calls_made batches (before + length batch) are.1 are.5)))
+
+-- there are as many batches of calls
+same_count : (batches : List (List (List ℕ))) (before : ℕ) (served : List Served) → AreServedOf batches before served →
+    length served ≡ length batches
+same_count [] before served none = ap length none
+same_count (batch ∷ batches) before served are =
+    ap length are.2 ∙ ap suc (same_count batches (before + length batch) are.1 are.5)
+
+-- whole batches, but for the last
+abbrev AreCut : List (List (List ℕ)) → Type 0
+AreCut [] = Unit {0}
+AreCut (batch ∷ batches) = (length batch ≤ 2048) × (0 < length batches → length batch ≡ 2048) × AreCut batches
+
+cut_whole : (batches : List (List (List ℕ))) → AllByRecursion IsWhole batches → AreCut batches
+cut_whole [] each = tt
+cut_whole (batch ∷ batches) each = (omega (arith, each.0), λ more. each.0, cut_whole batches each.1)
+
+cut_last : (front : List (List (List ℕ))) (last : List (List ℕ)) → AllByRecursion IsWhole front →
+    length last ≤ 2048 → AreCut (front ++ last ∷ [])
+cut_last [] last each few = (few, λ more. absurd (omega (arith, more)), tt)
+cut_last (batch ∷ front) last each few = (omega (arith, each.0), λ more. each.0, cut_last front last each.1 few)
+
+-- each call is of its batch: of the first, or of one of the others
+batch_at : (j before : ℕ) (batch : List (List ℕ)) (batches : List (List (List ℕ))) (first : Served)
+    (others : List Served) → batch_length * j ≡ before → length batch ≤ 2048 →
+    (0 < length batches → length batch ≡ 2048) → AreBetween before (before + length batch) first.calls →
+    length others ≡ length batches →
+    (length batch ≡ 2048 → (m : ℕ) → m < length (calls_in others) →
+    All (IsOfBatch (j + 1 + m)) (slice_index_or (calls_in others) m [])) →
+    (k : ℕ) → k < length (first.calls ∷ calls_in others) →
+    All (IsOfBatch (j + k)) (slice_index_or (first.calls ∷ calls_in others) k [])
+batch_at j before batch batches first others whole few full between many next zero inside =
+    let same : j ≡ j + 0 = omega arith in
+    subst (λ (n : ℕ). All (IsOfBatch n) first.calls) same
+    (between_is_batch j before (length batch) first.calls whole few between)
+batch_at j before batch batches first others whole few full between many next (suc m) inside =
+    let same : j + 1 + m ≡ j + suc m = omega arith in
+    let some : 0 < length batches = omega (arith, inside, length-map others (λ (b : Served). b.calls), many) in
+    subst (λ (n : ℕ). All (IsOfBatch n) (slice_index_or (calls_in others) m [])) same
+    (next (full some) m (omega (arith, inside)))
+
+batch_of : (batches : List (List (List ℕ))) (j before : ℕ) (served : List Served) → AreServedOf batches before served →
+    batch_length * j ≡ before → AreCut batches → (k : ℕ) → k < length (calls_in served) →
+    All (IsOfBatch (j + k)) (slice_index_or (calls_in served) k [])
+batch_of [] j before served none whole cut k within =
+    absurd (omega (arith, within, ap (λ (s : List Served). length (calls_in s)) none))
+batch_of (batch ∷ batches) j before served are whole cut k within =
+    subst (λ (s : List Served). All (IsOfBatch (j + k)) (slice_index_or (calls_in s) k [])) (sym are.2)
+    (batch_at j before batch batches are.0 are.1 whole cut.0 cut.1 are.4
+    (same_count batches (before + length batch) are.1 are.5)
+    (λ full m inside.
+    batch_of batches (j + 1) (before + length batch) are.1 are.5 (omega (arith, whole, full)) cut.2 m inside) k
+    (subst (λ (s : List Served). k < length (calls_in s)) are.2 within))
+
+cut_of : (batches : List (List (List ℕ))) (served : List Served) → AreServedOf batches 0 served → AreCut batches →
+    AreOfBatches (all_in served) (calls_in served)
+cut_of batches served are cut =
+    record {
+      parts = refl;
+      each = λ k within.
+          let same : 0 + k ≡ k = omega arith in
+          subst (λ (n : ℕ). All (IsOfBatch n) (slice_index_or (calls_in served) k [])) same
+          (batch_of batches 0 0 served are (omega arith) cut k within);
+    }
+
+whole_length : (batches : List (List (List ℕ))) → AllByRecursion IsWhole batches →
+    length (joined batches) ≡ 2048 * length batches
+whole_length [] each = omega arith
+whole_length (batch ∷ batches) each =
+    omega (arith, length-append batch (joined batches), each.0, whole_length batches each.1)
+
+joined-append : (front : List (List (List ℕ))) (last : List (List ℕ)) →
+    length (joined (front ++ last ∷ [])) ≡ length (joined front) + length last
+joined-append [] last = omega (arith, length-append last [])
+joined-append (batch ∷ front) last =
+    omega (
+      arith,
+      length-append batch (joined (front ++ last ∷ [])),
+      length-append batch (joined front),
+      joined-append front last,
+    )
+
+-- how many batches there are of an input whose end is known
+all_count : (packets : List (List ℕ)) (batches : List (List (List ℕ))) → AreBatches packets batches →
+    length batches ≡ batch_count (length packets)
+all_count packets batches cut =
+    let many : length batches ≡ suc (length cut.front) =
+    omega (arith, ap length cut.parts, length-append cut.front (cut.last ∷ [])) in
+    let size : length packets ≡ length (joined cut.front) + length cut.last =
+    ap length (sym cut.all) ∙ ap (λ (bs : List (List (List ℕ))). length (joined bs)) cut.parts
+    ∙ joined-append cut.front cut.last in
+    let none : length cut.last ≡ 0 → length (joined cut.front) ≡ 0 = λ empty.
+    omega (arith, whole_length cut.front cut.whole, ap length (cut.begun (nil_from_length cut.last empty))) in
+    many
+    ∙ last_count (length (joined cut.front)) (length cut.last) (length cut.front)
+    (sym (whole_length cut.front cut.whole)) cut.few none
+    ∙ ap batch_count (sym size)
+
+-- ---- texts
+
+module _ (law : ServedArePromised) (plan : Plan) where
+  done : (service : Service) (batches : List (List (List ℕ))) (served : List Served) →
+      IsServedSo plan service batches served → AreCut batches → AreDone plan service (all_in served) served
+  done service batches served is cut =
+      record {
+        asks = is.asks;
+        cut = cut_of batches served is.of cut;
+        served = is.each;
+        promised = law service served is.each;
+      }
+
+  made : (packets : List (List ℕ)) (batches : List (List (List ℕ))) (served : List Served) →
+      joined batches ≡ packets → AreServedOf batches 0 served → MakeCalls 1 packets (all_in served)
+  made packets batches served is are =
+      subst (λ (ps : List (List ℕ)). MakeCalls 1 ps (all_in served)) is (calls_made batches 0 served are)
+
+  cut_batches : (packets : List (List ℕ)) (batches : List (List (List ℕ))) → AreBatches packets batches →
+      AreCut batches
+  cut_batches packets batches cut = subst AreCut (sym cut.parts) (cut_last cut.front cut.last cut.whole cut.few)
+
+  -- the calls of these packets were served in as many batches as these are
+  pub served_at : (packets : List (List ℕ)) (batches : List (List (List ℕ))) (service : Service)
+      (served : List Served) →
+      AreBatches packets batches → IsServedSo plan service batches served →
+      (calls : List (ℕ × Call)) × MakeCalls 1 packets calls × AreDone plan service calls served
+      × (length served ≡ batch_count (length packets))
+  served_at packets batches service served cut is = (
+    all_in served,
+    made packets batches served cut.all is.of,
+    done service batches served is (cut_batches packets batches cut),
+    same_count batches 0 served is.of ∙ all_count packets batches cut,
+  )
+
+  front_of : (packets : List (List ℕ)) (text : List ℕ) → IsLoopFront (IsLines plan) packets text →
+      IsFront plan packets text
+  front_of packets text front =
+      let batches : List (List (List ℕ)) = front.0 in
+      let whole = front.1 in
+      let lines = front.2 in (
+        all_in lines.1,
+        made packets batches lines.1 whole.parts lines.2.of,
+        (
+          lines.0,
+          lines.1,
+          done lines.0 batches lines.1 lines.2 (cut_whole batches whole.each),
+          omega (
+            arith,
+            same_count batches 0 lines.1 lines.2.of,
+            whole_length batches whole.each,
+            ap length whole.parts,
+          ),
+          lines.3,
+        ),
+      )
+
+  told_of : (packets : List (List ℕ)) (text : List ℕ) → IsLoopTold (IsLines plan) packets text →
+      IsTold plan packets text
+  told_of packets text told =
+      let lines = told.2 in
+      let at = served_at packets told.0 lines.0 lines.1 told.1 lines.2 in
+      (at.0, at.1, lines.0, lines.1, at.2, at.3, lines.3)
+
+  report_at : (packets : List (List ℕ)) (ending : Ending) (text : List ℕ) →
+      IsLoopReport (IsWholeReport plan) packets ending text → IsReport plan packets ending text
+  report_at packets ending text report =
+      let cut = report.1 in
+      let lines = report.2 in
+      let at = served_at packets report.0 lines.0 lines.1 cut lines.2 in (
+        at.0,
+        at.1,
+        (
+          lines.0,
+          lines.1,
+          at.2,
+          at.3,
+          lines.3
+              ∙ ap (λ (ps : List (List ℕ)). report_of (run_report plan lines.0 (length ps) lines.1 ending)) cut.all,
+        ),
+      )
+
+  -- ---- what is left
+
+  reports_at : (bytes : List ℕ) (left : Option (List ℕ)) (ending : Ending) (text : List ℕ) →
+      ReportsInput (IsWholeReport plan) bytes left ending text → Reports plan bytes left ending text
+  reports_at bytes left ending text reports = (reports.0, reports.1, report_at reports.0 ending text reports.2)
+
+  -- how many packets are served at most
+  few_served : (bytes : List ℕ) (left : Option (List ℕ)) (packets : List (List ℕ)) (ending : Ending) →
+      Serves bytes left packets ending → length packets ≤ packet_limit
+  few_served bytes left packets (Done rest) serves = serves.holds.0.1
+  few_served bytes left packets (Fault found) serves = serves.holds.1
+  few_served bytes left packets ReadFault serves = serves.holds.6.1
+  few_served bytes left packets (Limit limit) serves =
+      let all : List (List ℕ) = serves.holds.0.0 in
+      let long : packet_limit ≤ length all = omega (arith, serves.holds.0.3) in
+      omega (arith, ap length serves.holds.0.4, length-take-le packet_limit all long)
+
+  module _ (good : GoodIsCertified) (seed : seed_in plan.hashing < 2 ^ 64) where
+    -- the report of an input is certified, where its ending can be told
+    certified_at : (bytes : List ℕ) (left : Option (List ℕ)) (ending : Ending) (text : List ℕ) →
+        IsEndingTold ending → Reports plan bytes left ending text → Certified text
+    certified_at bytes left ending text told reports =
+        let packets : List (List ℕ) = reports.0 in
+        let calls : List (ℕ × Call) = reports.2.0 in
+        let makes : MakeCalls 1 packets calls = reports.2.1 in
+        let report = reports.2.2 in
+        subst Certified (sym report.4)
+        (serve_is_certified good plan report.0 packets calls report.1 ending makes report.2
+        (few_served bytes left packets ending reports.1) (calls_fit 1 packets calls makes) seed told)
+
+  module _ (read_failed : Type 0) (bytes : List ℕ) (left before after : Option (List ℕ)) where
+    put_whole : GoodIsCertified → seed_in plan.hashing < 2 ^ 64 → (ending : Ending) → IsEndingTold ending →
+        PutsInput (IsWholeReport plan) bytes left before after ending →
+        PutsReport plan bytes left before after ending
+    put_whole good seed ending told puts =
+        let reports : Reports plan bytes left ending puts.0 = reports_at bytes left ending puts.0 puts.1 in
+        (puts.0, (reports, certified_at good seed bytes left ending puts.0 told reports), puts.2)
+
+    of_ok : GoodIsCertified → seed_in plan.hashing < 2 ^ 64 → (ending : Ending) → IsEndingTold ending →
+        LoopLeaves (IsLines plan) (IsWholeReport plan) read_failed bytes left before after (Ok ending) →
+        Leaves plan read_failed bytes left before after (status_of ending)
+    of_ok good seed (Done rest) told leaves = (rest, put_whole good seed (Done rest) told leaves.1)
+    of_ok good seed ReadFault told leaves = put_whole good seed ReadFault told leaves.1
+    of_ok good seed (Limit limit) told leaves = (limit, put_whole good seed (Limit limit) told leaves.1)
+    of_ok good seed (Fault found) told leaves = (found, put_whole good seed (Fault found) told leaves.1)
+
+    of_not_put : LoopLeaves (IsLines plan) (IsWholeReport plan) read_failed bytes left before after (Err NotPut) →
+        Leaves plan read_failed bytes left before after status.WriteFault
+    of_not_put (inl ended) =
+        inl (
+          ended.0,
+          ended.1,
+          (ended.2.0, reports_at bytes left ended.0 ended.2.0 ended.2.1, ended.2.2),
+        )
+    of_not_put (inr begun) = inr (begun.0, begun.1, (begun.2.0, front_of begun.0 begun.2.0 begun.2.1, begun.2.2))
+
+    of_memory : LoopLeaves (IsLines plan) (IsWholeReport plan) read_failed bytes left before after (Err Memory) →
+        Leaves plan read_failed bytes left before after status.Memory
+    of_memory (inl kept) = inl kept
+    of_memory (inr (inl ended)) =
+        let told = ended.2.1 in
+        inr (inl (
+          ended.0,
+          ended.1,
+          (ended.2.0, (told.0, told.1, told_of told.0 ended.2.0 told.2), ended.2.2),
+        ))
+    of_memory (inr (inr begun)) =
+        inr (inr (begun.0, begun.1, (begun.2.0, front_of begun.0 begun.2.0 begun.2.1, begun.2.2)))
+
+  module _ (read_failed : Type 0) (first left before after : Option (List ℕ)) where
+    ok_at : GoodIsCertified → seed_in plan.hashing < 2 ^ 64 → (ending : Ending) → IsEndingTold ending →
+        LoopLeavesAll (IsLines plan) (IsWholeReport plan) read_failed first left before after (Ok ending) →
+        (bytes : List ℕ) → first ≡ Some bytes → Leaves plan read_failed bytes left before after (status_of ending)
+    ok_at good seed ending told leaves bytes is =
+        of_ok read_failed bytes left before after good seed ending told (leaves.told bytes is)
+
+    ok_all : GoodIsCertified → seed_in plan.hashing < 2 ^ 64 → (ending : Ending) → IsEndingTold ending →
+        LoopLeavesAll (IsLines plan) (IsWholeReport plan) read_failed first left before after (Ok ending) →
+        LeavesAll plan read_failed first left before after (status_of ending)
+    ok_all good seed (Done rest) told leaves =
+        record {
+          told = ok_at good seed (Done rest) told leaves;
+          took = (
+            leaves.took.0,
+            leaves.took.1,
+            of_ok read_failed leaves.took.0 (Some []) before after good seed (Done rest) told leaves.took.2,
+          );
+        }
+    ok_all good seed ReadFault told leaves =
+        record {
+          told = ok_at good seed ReadFault told leaves;
+          took = (
+            leaves.took.0,
+            leaves.took.1,
+            of_ok read_failed leaves.took.0 (Some []) before after good seed ReadFault told leaves.took.2,
+          );
+        }
+    ok_all good seed (Limit limit) told leaves =
+        record {
+          told = ok_at good seed (Limit limit) told leaves;
+          took = (
+            leaves.took.0,
+            leaves.took.1,
+            of_ok read_failed leaves.took.0 (Some []) before after good seed (Limit limit) told leaves.took.2,
+          );
+        }
+    ok_all good seed (Fault found) told leaves =
+        record {
+          told = ok_at good seed (Fault found) told leaves;
+          took = (
+            leaves.took.0,
+            leaves.took.1,
+            of_ok read_failed leaves.took.0 (Some []) before after good seed (Fault found) told leaves.took.2,
+          );
+        }
+
+    pub leaves_all : GoodIsCertified → seed_in plan.hashing < 2 ^ 64 → (result : Result Ending Stop) →
+        IfOk result IsEndingTold →
+        LoopLeavesAll (IsLines plan) (IsWholeReport plan) read_failed first left before after result →
+        LeavesAll plan read_failed first left before after (status_by result)
+    leaves_all good seed (Ok ending) told leaves = ok_all good seed ending told leaves
+    leaves_all good seed (Err NotPut) told leaves =
+        record {
+          told = λ bytes is. of_not_put read_failed bytes left before after (leaves.told bytes is);
+          took = (
+            leaves.took.0,
+            leaves.took.1,
+            of_not_put read_failed leaves.took.0 (Some []) before after leaves.took.2,
+          );
+        }
+    leaves_all good seed (Err Memory) told leaves =
+        record {
+          told = λ bytes is. of_memory read_failed bytes left before after (leaves.told bytes is);
+          took = (
+            leaves.took.0,
+            (
+              leaves.took.1.0,
+              leaves.took.1.1,
+              of_memory read_failed leaves.took.1.0 (Some []) before after leaves.took.1.2,
+            ),
+          );
+        }
+
+-- ---- devices
+
+pub reads_by : (result : Result Ending Stop) (before after : ℕ) → RunReads result before after →
+    ReadsFailed (status_by result) before after
+reads_by (Ok (Done rest)) before after failed = failed
+reads_by (Ok ReadFault) before after failed = failed
+reads_by (Ok (Limit limit)) before after failed = failed
+reads_by (Ok (Fault found)) before after failed = failed
+reads_by (Err Memory) before after failed = failed
+reads_by (Err NotPut) before after failed = failed
+
+-- nothing was read, and nothing put
+pub leaves_nothing : (plan : Plan) (read_failed : Type 0) (first left before after : Option (List ℕ)) →
+    Keeps before after → LeavesAll plan read_failed first left before after status.Memory
+leaves_nothing plan read_failed first left before after kept =
+    record { told = λ bytes told. inl kept; took = (first, ([], Consumes-nil first, inl kept)) }
+
+-- memory ran out before anything was read
+pub leaves_none : (plan : Plan) (read_failed : Type 0) (first left before after : Option (List ℕ))
+    (result : Result Ending Stop) → IsErr result × IsErrAnd result (λ (stop : Stop). stop ≡ Memory) →
+    Keeps before after → LeavesAll plan read_failed first left before after (status_by result)
+leaves_none plan read_failed first left before after (Ok ending) is kept = absurd (cc)
+leaves_none plan read_failed first left before after (Err stop) is kept =
+    subst (λ (s : Stop). LeavesAll plan read_failed first left before after (status_by (Err s))) (sym is.1)
+    (leaves_nothing plan read_failed first left before after kept)

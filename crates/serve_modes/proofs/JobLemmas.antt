@@ -1,0 +1,161 @@
+-- Batches of packets that were served: one more, and what is printed of them.
+use Rattle.std.proofs.Common.{◌≡◌, ℕ, ◌+◌, List, [], ◌∷◌, ◌++◌, length, sym, ◌∙◌, ap, subst, refl, append_assoc, append-nil, length-append, arith}
+use Rattle.std.specs.List.{flat_map}
+use Rattle.std.specs.Prelude.{false}
+use Rattle.std.proofs.lemmas.List.Elements.{All-weaker}
+use Rattle.flow_keys.specs.FlowText.{HasText}
+use Rattle.plain_map.specs.Calls.{key_in}
+use Rattle.trace_share.specs.declared.deals.Share.{Share}
+use Rattle.trace_share.specs.Deal.{dealt}
+use Rattle.batch_rows.specs.Demands.{IsDemandOf}
+use Rattle.shared_table.specs.Values.{TableValue}
+use Rattle.trace_share.specs.declared.outcome.Outcome.{Outcome}
+use Rattle.batch_runner.specs.declared.workers.SeatWorker.{SeatWorker}
+use Rattle.batch_deals.specs.declared.dealing.Dealt.{Dealt}
+use Rattle.batch_deals.specs.Dealt.{IsDealt, shares_of}
+use Rattle.plain_map.specs.declared.calls.Call.{Call}
+use Rattle.report_text.specs.declared.parts.Ending.{Ending}
+use Rattle.report_text.specs.Report.{batch_lines, head_line, report_of, session_line, tail_lines}
+use Rattle.batch_deals.specs.declared.service.Service.{Service}
+use Rattle.batch_runner.specs.Served.{Served}
+use Rattle.batch_runner.specs.Printed.{lines_of}
+use Rattle.command_line.specs.declared.plan.Plan.{Plan}
+use Rattle.serve_modes.specs.declared.serving.Serving.{Serving}
+use Rattle.mode_parts.specs.PacketCalls.{MakeCalls}
+use Rattle.serve_modes.specs.Progress.{HasServed, HasTexts}
+use Rattle.mode_parts.specs.Reading.{AreBetween, IsBetween}
+use Rattle.mode_parts.specs.Planned.{IsServiceOf, head_of}
+use Rattle.serve_modes.specs.Served.{lines_so_far, run_report, tail_with}
+use Rattle.serve_modes.specs.Serving.{AreServedOf, HasDone, HasOpenedFor, IsWholeReport, joined}
+use Rattle.serve_modes.proofs.PrintLemmas.{last_text, no_lines, section_of}
+
+-- ---- batches
+
+pub joined-more : (batches : List (List (List ℕ))) (batch : List (List ℕ)) →
+    joined (batches ++ batch ∷ []) ≡ joined batches ++ batch
+joined-more [] batch = append-nil batch
+joined-more (first ∷ batches) batch =
+    ap (λ (ps : List (List ℕ)). first ++ ps) (joined-more batches batch)
+    ∙ sym (append_assoc first (joined batches) batch)
+
+-- one more was served
+pub served_more : (batches : List (List (List ℕ))) (before : ℕ) (served : List Served) (batch : List (List ℕ))
+    (one : Served) (many : ℕ) → AreServedOf batches before served → many ≡ before + length (joined batches) →
+    MakeCalls (many + 1) batch one.calls → AreBetween many (many + length batch) one.calls →
+    AreServedOf (batches ++ batch ∷ []) before (served ++ one ∷ [])
+served_more [] before served batch one many none is make between =
+    let same : many ≡ before = omega (arith, is) in (
+      one,
+      [],
+      ap (λ (s : List Served). s ++ one ∷ []) none,
+      subst (λ (n : ℕ). MakeCalls (n + 1) batch one.calls) same make,
+      subst (λ (n : ℕ). AreBetween n (n + length batch) one.calls) same between,
+      refl,
+    )
+served_more (first ∷ batches) before served batch one many are is make between = (
+  are.0,
+  are.1 ++ one ∷ [],
+  ap (λ (s : List Served). s ++ one ∷ []) are.2,
+  are.3,
+  are.4,
+  served_more batches (before + length first) are.1 batch one many are.5
+      (omega (arith, is, length-append first (joined batches))) make between,
+)
+
+-- the keys of calls between two numbers have texts
+pub texts_between : (first last : ℕ) (calls : List (ℕ × Call)) → AreBetween first last calls → HasTexts calls
+texts_between first last calls between =
+    All-weaker (IsBetween first last) (λ (call : ℕ × Call). HasText (key_in call.1)) (λ (call : ℕ × Call) is. is.text)
+    calls between.each
+
+-- ---- the job
+
+-- so does a job's record of them
+pub done_more : {K : Type 0} {holds : K → List Outcome → Type 0} {room : K → ℕ} (plan : Plan) (old new : Serving)
+    (batches : List (List (List ℕ))) (put : List ℕ) (before : ℕ) (packets : List (List ℕ)) (t : TableValue)
+    (workers : List (SeatWorker K)) (many : ℕ) (one : Served) (text text_then : List ℕ) →
+    (done : HasDone old plan batches put) → old.packets ≡ before →
+    HasOpenedFor holds room old t workers many before packets → one.calls ≡ old.calls.items →
+    new.service ≡ old.service →
+    new.packets ≡ old.packets + many → HasServed old.service new.progress (done.served ++ one ∷ []) →
+    text_then ≡ text ++ batch_lines old.service.settings.seats (lines_of old.service old.progress.before one) →
+    (lines : List ℕ) × (text_then ≡ text ++ lines) × HasDone new plan (batches ++ packets ∷ []) (put ++ lines)
+done_more plan old new batches put before packets t workers many one text text_then done at opened calls
+    service count has is =
+    let lines : List ℕ = batch_lines old.service.settings.seats (lines_of old.service old.progress.before one) in
+    let behind : before ≡ 0 + length (joined batches) = omega (arith, at, done.count) in
+    let same : (s : Service) → s ≡ old.service →
+    put ++ lines ≡ lines_so_far plan s (done.served ++ one ∷ []) = λ s here.
+    section_of plan old.service old.progress done.served one put [] lines done.asks done.has
+    (append-nil put ∙ done.text) refl
+    ∙ ap (λ (t : Service). lines_so_far plan t (done.served ++ one ∷ [])) (sym here) in (
+      lines,
+      is,
+      record {
+        served = done.served ++ one ∷ [];
+        asks = subst (IsServiceOf plan) (sym service) done.asks;
+        has = subst (λ (s : Service). HasServed s new.progress (done.served ++ one ∷ [])) (sym service) has;
+        of = served_more batches 0 done.served packets one before done.of behind
+            (subst (MakeCalls (before + 1) packets) (sym calls) opened.make)
+            (subst (AreBetween before (before + length packets)) (sym calls) opened.between);
+        count = omega (
+          arith,
+          count,
+          done.count,
+          opened.count,
+          ap length (joined-more batches packets),
+          length-append (joined batches) packets,
+        );
+        text = same new.service service;
+      },
+    )
+
+-- before any batch
+pub done_none : (job : Serving) (plan : Plan) (text : List ℕ) → job.packets ≡ 0 → IsServiceOf plan job.service →
+    HasServed job.service job.progress [] → text ≡ head_line (head_of false plan) → HasDone job plan [] text
+done_none job plan text none asks has is =
+    record {
+      served = [];
+      asks = asks;
+      has = has;
+      of = refl;
+      count = none;
+      text = is ∙ no_lines plan job.service;
+    }
+
+-- the last lines make it whole
+pub done_whole : (job : Serving) (plan : Plan) (batches : List (List (List ℕ))) (put : List ℕ) (ending : Ending)
+    (packets : ℕ) (text text_then : List ℕ) → HasDone job plan batches put → job.packets ≡ packets →
+    text_then ≡ (text ++ flat_map session_line job.progress.pairs.items)
+    ++ tail_lines (tail_with job.service packets job.progress.totals job.progress.leaves job.progress.depth ending) →
+    (rest : List ℕ) × (text_then ≡ text ++ rest) × IsWholeReport plan batches ending (put ++ rest)
+done_whole job plan batches put ending packets text text_then done at is =
+    let sessions : List ℕ = flat_map session_line job.progress.pairs.items in
+    let tail : List ℕ =
+    tail_lines (tail_with job.service packets job.progress.totals job.progress.leaves job.progress.depth ending) in
+    let many : packets ≡ length (joined batches) = omega (arith, at, done.count) in
+    let whole : put ++ (sessions ++ tail) ≡ report_of (run_report plan job.service packets done.served ending) =
+    last_text plan job.service job.progress packets done.served ending put [] (sessions ++ tail) done.has
+    (append-nil put ∙ done.text) refl in (
+      sessions ++ tail,
+      is ∙ append_assoc text sessions tail,
+      (
+        job.service,
+        done.served,
+        record { asks = done.asks; each = done.has.served; of = done.of },
+        whole ∙ ap (λ (n : ℕ). report_of (run_report plan job.service n done.served ending)) many,
+      ),
+    )
+
+-- who deals alike deals the same
+pub dealt_alike : (one other : Service) (calls : List (ℕ × Call)) (deal : Dealt) →
+    (one.share ≡ other.share) × (one.settings.seats ≡ other.settings.seats) → IsDealt one calls deal →
+    IsDealt other calls deal
+dealt_alike one other calls deal same is =
+    let shares : shares_of one calls ≡ shares_of other calls =
+    ap (λ (share : Share). dealt share one.settings.seats calls) same.0
+    ∙ ap (λ (seats : ℕ). dealt other.share seats calls) same.1 in
+    record {
+      shares = is.shares ∙ shares;
+      demand = subst (λ (s : List (List (ℕ × Call))). IsDemandOf calls s deal.demand) shares is.demand;
+    }

@@ -1,0 +1,130 @@
+-- The text of a trial is that of the made capture.
+use Rattle.std.proofs.Common.{◌≡◌, ◌≤◌, ℕ, List, [], length, map, Option, Some, None, Result, Ok, Err, sym, ◌∙◌, ap, subst, refl, arith, inl, inr}
+use Rattle.std.specs.List.{All, range_with_len}
+use Rattle.std.proofs.lemmas.List.{length-map}
+use Rattle.std.proofs.lemmas.List.FromFn.{length-range_with_len}
+use Rattle.edge_traits.specs.Edge.{Rose}
+use Rattle.pcap_reader.specs.Capture.{Capture, Saved}
+use Rattle.pcap_reader.specs.Made.{HoldsMade, made_capture, made_saved}
+use Rattle.capture_faults.specs.declared.any_fault.AnyFault.{AnyFault}
+use Rattle.pcapng_reader.specs.Input.{Input, IsPcapng, packets_in}
+use Rattle.pcapng_reader.specs.Laws.{HasOneInput}
+use Rattle.pcapng_reader.proofs.InputFacts.{no_pcapng}
+use Rattle.report_text.specs.declared.parts.Ending.{Ending}
+use Rattle.report_text.specs.declared.parts.Ending.TheVariants.{Done, ReadFault, Limit, Fault}
+use Rattle.command_line.specs.declared.plan.Plan.{Plan}
+use Rattle.capture_loop.specs.Leaves.{IsLoopReport, Leaves, PutsInput, ReportsInput}
+use Rattle.capture_loop.specs.Input.{HoldsPackets, Serves, packet_limit}
+use Rattle.serve_modes.specs.Served.{ServedArePromised}
+use Rattle.serve_modes.specs.Headline.{IsTrial}
+use Rattle.serve_modes.specs.Trying.{IsNoText, IsTrialOf}
+use Rattle.serve_modes.proofs.HeadlineLemmas.{served_at}
+use Rattle.serve_modes.proofs.MadeCalls.{IsMadeFrame, made_calls, made_frames}
+use Rattle.serve_modes.proofs.TrialCounts.{trial-adds_up}
+
+-- a count that stays at 0 has not risen
+pub none_rose : Rose 0 0 → ⊥
+none_rose (inl more) = absurd (omega (arith, more))
+none_rose (inr most) = absurd (omega (arith, most))
+
+-- a fault is no ending without one
+is_ending : (ending : Result ℕ AnyFault) (fault : AnyFault) → ending ≡ Err fault → ending ≡ Ok 0 → ⊥
+is_ending (Ok rest) fault is ends = absurd (cc)
+is_ending (Err found) fault is ends = absurd (cc)
+
+-- the packets of the made capture
+made_in : (number made : ℕ) → List (List ℕ)
+made_in number made = packets_in (map (made_saved number) (range_with_len 1 made))
+
+-- it is an input
+made_input : (number made : ℕ) → HoldsMade number made → Input (made_capture number made) (made_in number made) (Ok 0)
+unfolding made_in
+made_input number made law =
+    inr (
+      not_pcapng (made_capture number made) law,
+      record {
+        records = map (made_saved number) (range_with_len 1 made);
+        kept = Ok 0;
+        capture = law;
+        packets_are = refl;
+        ends = refl;
+      },
+    )
+  where
+    not_pcapng : {records : List Saved} (bytes : List ℕ) → Capture bytes records (Ok 0) → IsPcapng bytes → ⊥
+    not_pcapng bytes (inl refused) pcapng = let not : Ok 0 ≡ Err refused.fault = refused.ends in absurd (cc)
+    not_pcapng bytes (inr (order, holds)) pcapng = no_pcapng order bytes holds.head pcapng
+
+-- where no read fails, the capture that was made is read to its end
+made_packets :
+    (number made : ℕ) (left : Option (List ℕ)) (packets : List (List ℕ)) (ending : Ending) →
+    HasOneInput (made_capture number made) → HoldsMade number made → made ≤ packet_limit →
+    (ending ≡ ReadFault → ⊥) → Serves (made_capture number made) left packets ending →
+    HoldsPackets (made_capture number made) packets (Ok 0)
+unfolding made_in
+made_packets number made left packets (Done rest) one law few no_fault serves =
+    let held = serves.holds.0 in
+    let same : Ok rest ≡ Ok 0 =
+    (one packets (made_in number made) (Ok rest) (Ok 0) held.0 (made_input number made law)).1 in
+    subst (HoldsPackets (made_capture number made) packets) same held
+made_packets number made left packets (Fault fault) one law few no_fault serves =
+    let held = serves.holds in
+    absurd (is_ending (Err fault) fault refl
+    (one packets (made_in number made) (Err fault) (Ok 0) held.0 (made_input number made law)).1)
+made_packets number made left packets (Limit limit) one law few no_fault serves =
+    let held = serves.holds.0 in
+    let records : List Saved = map (made_saved number) (range_with_len 1 made) in
+    let same : held.0 ≡ made_in number made =
+    (one held.0 (made_in number made) held.1 (Ok 0) held.2 (made_input number made law)).0 in
+    absurd (omega (
+      arith,
+      held.3,
+      ap length same,
+      length-map records (λ (saved : Saved). saved.packet),
+      length-map (range_with_len 1 made) (made_saved number),
+      length-range_with_len 1 made,
+      few,
+    ))
+made_packets number made left packets ReadFault one law few no_fault serves = absurd (no_fault refl)
+
+-- its packets are made
+frames_made : (number made : ℕ) (packets : List (List ℕ)) → HasOneInput (made_capture number made) →
+    HoldsMade number made → HoldsPackets (made_capture number made) packets (Ok 0) → All (IsMadeFrame number) packets
+unfolding made_in
+frames_made number made packets one law held =
+    let records : List Saved = map (made_saved number) (range_with_len 1 made) in
+    let same : packets ≡ made_in number made =
+    (one packets (made_in number made) (Ok 0) (Ok 0) held.0 (made_input number made law)).0 in
+    subst (All (IsMadeFrame number)) (sym same) (made_frames number made records refl)
+
+-- what the loop over its batches puts is its trial
+pub IsTrial-put :
+    (plan : Plan) (read_failed : Type 0) (left : Option (List ℕ)) (ending : Ending) (put : List ℕ) →
+    HasOneInput (made_capture plan.number plan.packets) → HoldsMade plan.number plan.packets →
+    plan.packets ≤ packet_limit → (read_failed → ⊥) → ServedArePromised → plan.rows ≡ None →
+    Leaves (IsNoText plan) (IsTrialOf plan) read_failed (made_capture plan.number plan.packets) left (Some [])
+    (Some put) (Ok ending) →
+    IsTrial plan put
+IsTrial-put plan read_failed left ending put one law few none_failed promised none leaves =
+    let bytes : List ℕ = made_capture plan.number plan.packets in
+    let puts : PutsInput (IsTrialOf plan) bytes left (Some []) (Some put) ending = leaves.1 in
+    let input : ReportsInput (IsTrialOf plan) bytes left ending puts.0 = puts.1 in
+    let packets : List (List ℕ) = input.0 in
+    let report : IsLoopReport (IsTrialOf plan) packets ending puts.0 = input.2 in
+    let trial : IsTrialOf plan report.0 ending puts.0 = report.2 in
+    let holds =
+    made_packets plan.number plan.packets left packets ending one law few (λ is. none_failed (leaves.0 is)) input.1 in
+    let at = served_at promised plan packets report.0 trial.0 trial.1 report.1 trial.2 in
+    let frames = frames_made plan.number plan.packets packets one law holds in (
+      packets,
+      at.0,
+      trial.0,
+      trial.1,
+      holds,
+      at.1,
+      at.2,
+      at.3,
+      trial-adds_up trial.0 trial.1 trial.2.each (promised trial.0 trial.1 trial.2.each) plan at.0 at.2.cut
+          (made_calls plan.number 1 packets at.0 frames at.1) (trial.2.asks.rows ∙ none),
+      puts.2 ∙ trial.3,
+    )

@@ -1,0 +1,57 @@
+-- The head line is held, and nothing was put.
+use Rattle.std.proofs.Common.{◌++◌, ◌<◌, ◌^◌, ap, subst, ◌∙◌}
+use Rattle.report_text.specs.declared.parts.Head.{Head}
+use Rattle.report_told.specs.Rules.{seed_in}
+use Rattle.report_text.specs.Report.{head_line}
+use Rattle.edge_traits.specs.Edge.{Rose}
+use Rattle.capture_loop.proofs.LeavesLemmas.{Keeps-same}
+use Rattle.serve_modes.proofs.HeadlineLemmas.{leaves_all, leaves_none}
+use Rattle.serve_modes.proofs.serving.serve_input.Goals as goal
+
+pub returns-clause-leaves : goal.returns-clause-leaves
+returns-clause-leaves g c =
+    leaves_all c.serving_laws.ensures c.args.plan.now
+    (Rose (g.S.Source.faults c.args.source.now) (g.S.Source.faults c.run_job-answer.new.source))
+    (g.S.Source.left c.args.source.now) (g.S.Source.left c.run_job-answer.new.source) (g.K.Sink.put c.args.sink.now)
+    (g.K.Sink.put c.run_job-answer.new.sink) c.promise_laws.ensures
+    (subst (λ (head : Head). seed_in head.hashing < 2 ^ 64) c.head_of-head.ensures c.head_fits.ensures.seed)
+    c.run_job-answer.result c.answer_fits.ensures
+    (c.run_job-answer.ensures.leaves c.args.plan.now
+    (c.in_ok-serving.ensures.done c.args.plan.now c.head_text.new.out.items c.service_of-service.ensures.asks
+    (c.in_ok-head_text.ensures.appended
+    ∙ ap (λ t. t ++ head_line c.head_of-head.result) c.in_ok-text.ensures.items ∙ ap head_line c.head_of-head.ensures)))
+
+pub returns-in_err-text-clause-leaves : goal.returns-in_err-text-clause-leaves
+returns-in_err-text-clause-leaves g c =
+    leaves_none c.args.plan.now (Rose (g.S.Source.faults c.args.source.now) (g.S.Source.faults c.args.source.now))
+    (g.S.Source.left c.args.source.now) (g.S.Source.left c.args.source.now) (g.K.Sink.put c.args.sink.now)
+    (g.K.Sink.put c.args.sink.now) c.from_residual.result c.from_residual.ensures
+    (Keeps-same (g.K.Sink.put c.args.sink.now))
+
+pub returns-in_err-head_text-clause-leaves : goal.returns-in_err-head_text-clause-leaves
+returns-in_err-head_text-clause-leaves g c =
+    leaves_none c.args.plan.now (Rose (g.S.Source.faults c.args.source.now) (g.S.Source.faults c.args.source.now))
+    (g.S.Source.left c.args.source.now) (g.S.Source.left c.args.source.now) (g.K.Sink.put c.args.sink.now)
+    (g.K.Sink.put c.args.sink.now) c.from_residual-in_err-head_text.result c.from_residual-in_err-head_text.ensures
+    (Keeps-same (g.K.Sink.put c.args.sink.now))
+
+pub returns-in_err-with_room-clause-leaves : goal.returns-in_err-with_room-clause-leaves
+returns-in_err-with_room-clause-leaves g c =
+    leaves_none c.args.plan.now (Rose (g.S.Source.faults c.args.source.now) (g.S.Source.faults c.args.source.now))
+    (g.S.Source.left c.args.source.now) (g.S.Source.left c.args.source.now) (g.K.Sink.put c.args.sink.now)
+    (g.K.Sink.put c.args.sink.now) c.from_residual-in_err-with_room.result c.from_residual-in_err-with_room.ensures
+    (Keeps-same (g.K.Sink.put c.args.sink.now))
+
+pub returns-in_err-with_room-2-clause-leaves : goal.returns-in_err-with_room-2-clause-leaves
+returns-in_err-with_room-2-clause-leaves g c =
+    leaves_none c.args.plan.now (Rose (g.S.Source.faults c.args.source.now) (g.S.Source.faults c.args.source.now))
+    (g.S.Source.left c.args.source.now) (g.S.Source.left c.args.source.now) (g.K.Sink.put c.args.sink.now)
+    (g.K.Sink.put c.args.sink.now) c.from_residual-in_err-with_room-2.result c.from_residual-in_err-with_room-2.ensures
+    (Keeps-same (g.K.Sink.put c.args.sink.now))
+
+pub returns-in_err-serving-clause-leaves : goal.returns-in_err-serving-clause-leaves
+returns-in_err-serving-clause-leaves g c =
+    leaves_none c.args.plan.now (Rose (g.S.Source.faults c.args.source.now) (g.S.Source.faults c.args.source.now))
+    (g.S.Source.left c.args.source.now) (g.S.Source.left c.args.source.now) (g.K.Sink.put c.args.sink.now)
+    (g.K.Sink.put c.args.sink.now) c.from_residual-in_err-serving.result c.from_residual-in_err-serving.ensures
+    (Keeps-same (g.K.Sink.put c.args.sink.now))

@@ -1,0 +1,279 @@
+//! Mode `serve`: a capture is read, served and printed batch by batch.
+
+ghost use Rattle.std.specs.Prelude.{◌≡◌, ◌≤◌, ◌<◌, ◌^◌, ◌+◌, ℕ, List, [], ◌∷◌, ◌++◌, All, Option, Ok, Some, false, true, length, map, IfOk, OnOk};
+ghost use Rattle.std.specs.List.{AllZip};
+ghost use Rattle.std.specs.Option.{ForSome};
+ghost use Rattle.edge_traits.specs.Edge.{Rose};
+ghost use Rattle.word_rows.specs.Shape.{AreBelow};
+ghost use Rattle.report_text.specs.Report.{IsEnding, head_line};
+ghost use Rattle.report_told.specs.Rules.{IsEndingTold};
+ghost use Rattle.trace_share.specs.Work.{IsLogOf};
+ghost use Rattle.batch_deals.specs.Dealt.{IsDealt};
+ghost use Rattle.batch_runner.specs.Seats.{HasWorked};
+ghost use Rattle.capture_loop.specs.declared.job.TheConstants.{BATCH, PACKET_LIMIT};
+ghost use Rattle.capture_loop.specs.Leaves.{RunReads, RunWrites};
+ghost use Rattle.capture_loop.specs.Looping.{OnNotPut};
+ghost use Rattle.command_line.specs.declared.plan.Plan.{Plan as APlan};
+ghost use Rattle.command_line.specs.Words.{IsInRange};
+ghost use Rattle.serve_modes.specs.Progress.{HasServed};
+ghost use Rattle.serve_modes.specs.Headline.{LeavesAll};
+ghost use Rattle.mode_parts.specs.Statuses.{ReadsFailed, WritesFailed, status_by};
+ghost use Rattle.mode_parts.specs.Planned.{IsServiceOf, head_of};
+ghost use Rattle.serve_modes.specs.Serving.{CallWorker, HasDone, HasOpened, IsLines, IsServing, IsWholeReport};
+
+use crate::laws::serving_laws;
+use crate::progress::Progress;
+use crate::telling::tail_with;
+use batch_deals::{Dealt, Service, deal_batch};
+use batch_runner::{
+    Asked, OpenBatch, SeatWorker, Workspace, close_printed, open_batch, served_laws,
+};
+use capture_loop::{BATCH, Job, Means, Opened, PACKET_LIMIT, Piles, Stop, run_job};
+use command_line::Plan;
+use edge_traits::{Gate, Sink, Source};
+use mode_parts::{CallPile, Status, head_of, put_sessions, service_of};
+use plain_map::{Call, session_laws};
+use report_promises::{ending_fits, head_fits, promise_laws};
+use report_text::{Ending, head_text, tail_text};
+use shared_table::Directory;
+use std::alloc::{AllocError, Global};
+use std::mem;
+use std::thread::Threads;
+use trace_share::Outcome;
+
+/// Room for the lines of a batch: 2,048 of calls, of up to about 200 bytes each, and those of its order.
+const TEXT_ROOM: usize = 450_000;
+
+/// The batches so far, and how they are served.
+#[derive(Drop)]
+pub(crate) struct Serving {
+    pub service: Service,
+    pub workspace: Workspace,
+    pub progress: Progress,
+    /// How many packets were served.
+    pub packets: u32,
+    /// The calls of the batch that is served.
+    pub calls: Vec<(u32, Call)>,
+}
+
+impl Serving {
+    /// None yet.
+    pub fn new(alloc: Global, service: Service) -> Result<Serving, AllocError>
+        requires given { ForSome service.rows (AreBelow (2 ^ 32)) }
+        ensures going { IfOk result (λ serving. IsServing serving 0) }
+        ensures done { IfOk result (λ serving. (plan : APlan) (text : List ℕ) → IsServiceOf plan service →
+            text ≡ head_line (head_of false plan) → HasDone serving plan [] text) }
+        ensures served { IfOk result (λ serving. HasServed service serving.progress []) }
+        ensures service { IfOk result (λ serving. serving.service ≡ service) }
+    {
+        let calls = Vec::with_capacity(alloc, BATCH as usize)?;
+        Ok(Serving {
+            service,
+            workspace: Workspace::new(alloc),
+            progress: Progress::new(alloc),
+            packets: 0,
+            calls,
+        })
+    }
+
+    /// The pile's calls as they were dealt before, or else dealt now. The only error is want of memory.
+    pub fn dealt_of(&self, pile: &mut CallPile) -> Result<Dealt, AllocError>
+        requires few { length pile.old.calls.items ≤ BATCH }
+        requires dealt { ForSome pile.old.dealt (IsDealt pile.old.service pile.old.calls.items) }
+        ensures dealt { IfOk result (IsDealt self.now.service pile.old.calls.items) }
+        ensures calls { pile.new.calls ≡ pile.old.calls }
+        ensures packets { pile.new.packets ≡ pile.old.packets }
+    {
+        let dealt = mem::replace(&mut pile.dealt, None);
+        if let Some(dealt) = dealt {
+            if deal_alike(&pile.service, &self.service) {
+                return Ok(dealt);
+            }
+        }
+        deal_batch(pile.alloc, &self.service, &pile.calls)
+    }
+}
+
+impl Job<Plan> for Serving {
+    ghost use Rattle.serve_modes.specs.ServingLaws.{done_begins, done_told};
+
+    type Pile = CallPile;
+
+    type Shared = Directory;
+
+    type Worker = SeatWorker<Vec<Outcome>>;
+
+    // How many packets the batch has.
+    type Kept = u32;
+
+    ghost lines = { IsLines };
+
+    ghost report = { IsWholeReport };
+
+    ghost going = { IsServing };
+
+    ghost done = { HasDone };
+
+    ghost opened = { HasOpened };
+
+    // The pile has the calls of the last batch then, which are no longer wanted.
+    fn open(
+        &mut self,
+        alloc: Global,
+        pile: &mut CallPile,
+    ) -> Result<Opened<Directory, SeatWorker<Vec<Outcome>>, u32>, AllocError> {
+        let Dealt { shares, demand } = self.dealt_of(pile)?;
+        mem::swap(&mut self.calls, &mut pile.calls);
+        let asked = Asked {
+            service: &self.service,
+            first: &self.progress.pairs,
+            calls: &self.calls,
+        };
+        let begun = open_batch(alloc, &asked, &mut self.workspace, shares, &demand)?;
+        Ok(Opened {
+            shared: begun.directory,
+            workers: begun.workers,
+            kept: pile.packets,
+        })
+    }
+
+    fn close<R: Threads>(
+        &mut self,
+        rt: &R,
+        alloc: Global,
+        made: Opened<Directory, SeatWorker<Vec<Outcome>>, u32>,
+        text: &mut Vec<u8>,
+    ) -> Result<(), AllocError>
+        requires going { (started : List CallWorker) × (before : ℕ) × (packets : List (List ℕ))
+            × IsServing self.old before × HasOpened self.old made.shared started made.kept before packets
+            × AllZip (HasWorked IsLogOf) started made.workers.items × (length packets ≤ BATCH)
+            × (before + length packets ≤ PACKET_LIMIT) }
+        ensures going { OnOk result ((started : List CallWorker) (before : ℕ) (packets : List (List ℕ)) →
+            IsServing self.old before → HasOpened self.old made.shared started made.kept before packets →
+            AllZip (HasWorked IsLogOf) started made.workers.items → IsServing self.new (before + length packets)) }
+        ensures served { OnOk result ((plan : APlan) (batches : List (List (List ℕ))) (put : List ℕ)
+            (started : List CallWorker) (before : ℕ) (packets : List (List ℕ)) → HasDone self.old plan batches put →
+            IsServing self.old before → HasOpened self.old made.shared started made.kept before packets →
+            AllZip (HasWorked IsLogOf) started made.workers.items →
+            (lines : List ℕ) × (text.new.items ≡ text.old.items ++ lines)
+            × HasDone self.new plan (batches ++ packets ∷ []) (put ++ lines)) }
+    {
+        let asked = Asked {
+            service: &self.service,
+            first: &self.progress.pairs,
+            calls: &self.calls,
+        };
+        let begun = OpenBatch {
+            directory: made.shared,
+            workers: made.workers,
+        };
+        let batch = close_printed(
+            rt,
+            alloc,
+            &asked,
+            &mut self.workspace,
+            begun,
+            &self.progress.before,
+            text,
+        )?;
+        self.progress.keep(&self.service, &self.calls, batch);
+        self.packets += made.kept;
+        Ok(())
+    }
+
+    fn finish(&self, packets: u32, ending: &Ending, text: &mut Vec<u8>) -> Result<(), AllocError> {
+        served_laws();
+        session_laws();
+        put_sessions(text, &self.progress.pairs)?;
+        let tail = tail_with(&self.service, &self.progress, packets, ending);
+        tail_text(text, &tail)
+    }
+
+    ghost told = { done_told };
+
+    ghost begins = { done_begins };
+}
+
+/// Whether both deal the same calls to the same seats.
+fn deal_alike(one: &Service, other: &Service) -> bool
+    ensures { result ≡ true → (one.now.share ≡ other.now.share)
+        × (one.now.settings.seats ≡ other.now.settings.seats) }
+{
+    one.share == other.share && one.settings.seats == other.settings.seats
+}
+
+/// Serves the source's packets as the plan says, and puts the report into the sink.
+pub fn serve<R: Threads + Sync, S: Source, K: Sink, G: Gate + Sync>(
+    means: &Means<R, G>,
+    plan: &Plan,
+    source: &mut S,
+    sink: &mut K,
+) -> Status
+    requires { IsInRange plan.now }
+    ensures leaves { LeavesAll plan.now (Rose (S.faults source.old) (S.faults source.new)) (S.left source.old)
+        (S.left source.new) (K.put sink.old) (K.put sink.new) result }
+    ensures read_fault { result ≡ Status.ReadFault → Rose (S.faults source.old) (S.faults source.new) }
+    ensures write_fault { result ≡ Status.WriteFault → Rose (K.faults sink.old) (K.faults sink.new) }
+    ensures reads { ReadsFailed result (S.failed source.old) (S.failed source.new) }
+    ensures writes { WritesFailed result (K.failed sink.old) (K.failed sink.new) }
+    ensures no_usage { result ≡ Status.Usage → ⊥ }
+    ensures counted { (S.faults source.old ≤ S.faults source.new) × (K.faults sink.old ≤ K.faults sink.new) }
+{
+    match serve_input(means, plan, source, sink) {
+        Ok(ending) => Status::of_ending(&ending),
+        Err(Stop::Memory) => Status::Memory,
+        Err(Stop::NotPut) => Status::WriteFault,
+    }
+}
+
+/// The same, up to the ending of the input. The text and the piles, which all
+/// batches use, are made before it is opened.
+fn serve_input<R: Threads + Sync, S: Source, K: Sink, G: Gate + Sync>(
+    means: &Means<R, G>,
+    plan: &Plan,
+    source: &mut S,
+    sink: &mut K,
+) -> Result<Ending, Stop>
+    requires { IsInRange plan.now }
+    ensures leaves { LeavesAll plan.now (Rose (S.faults source.old) (S.faults source.new)) (S.left source.old)
+        (S.left source.new) (K.put sink.old) (K.put sink.new) (status_by result) }
+    ensures read_fault { result ≡ Ok Ending.ReadFault → Rose (S.faults source.old) (S.faults source.new) }
+    ensures write_fault { OnNotPut result (Rose (K.faults sink.old) (K.faults sink.new)) }
+    ensures reads { RunReads result (S.failed source.old) (S.failed source.new) }
+    ensures writes { RunWrites result (K.failed sink.old) (K.failed sink.new) }
+    ensures counted { (S.faults source.old ≤ S.faults source.new) × (K.faults sink.old ≤ K.faults sink.new) }
+{
+    serving_laws();
+    promise_laws();
+    let service = service_of(plan);
+    let alloc = means.alloc;
+    let mut text = Vec::with_capacity(alloc, TEXT_ROOM)?;
+    let head = head_of(false, plan);
+    head_fits(&head, &service.settings);
+    head_text(&mut text, &head)?;
+    let mut piles = Piles {
+        now: CallPile::with_room(alloc, service, BATCH as usize)?,
+        next: CallPile::with_room(alloc, service, BATCH as usize)?,
+    };
+    let mut serving = Serving::new(alloc, service)?;
+    let answer = run_job::<R, S, K, G, Plan, Serving>(
+        means,
+        &mut serving,
+        &mut piles,
+        source,
+        &mut text,
+        sink,
+    );
+    answer_fits(&answer);
+    answer
+}
+
+/// The ending that a run answers can be told.
+fn answer_fits(answer: &Result<Ending, Stop>)
+    requires { IfOk answer.now IsEnding }
+    ensures { IfOk answer.now IsEndingTold }
+{
+    if let Ok(ending) = answer {
+        ending_fits(*ending);
+    }
+}

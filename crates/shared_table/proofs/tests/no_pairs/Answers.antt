@@ -1,6 +1,0 @@
-use Rattle.std.specs.List.{IsDistinct}
-use Rattle.shared_table.proofs.tests.no_pairs.Goals as goal
-
-pub returns-clause-distinct : goal.returns-clause-distinct
-unfolding IsDistinct
-returns-clause-distinct c = tt

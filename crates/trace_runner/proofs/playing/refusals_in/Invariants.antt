@@ -1,7 +1,0 @@
-use Rattle.std.proofs.Common.{◌≡◌, take}
-use Rattle.trace_runner.specs.Playing.{refusals_in}
-use Rattle.trace_runner.proofs.playing.refusals_in.Given as goal
-
--- those so far
-abbrev pub invariant-loop-ended : goal.invariant-loop-ended
-invariant-loop-ended l = l.refusals ≡ refusals_in (take l.ended-index l.outcomes)

@@ -1,8 +1,0 @@
-use Rattle.std.proofs.Common.{◌≡◌, map, take}
-use Rattle.play_runner.specs.Played.{as_segment}
-use Rattle.trace_runner.specs.Playing.{segment_in}
-use Rattle.trace_runner.proofs.playing.schedule_in.Given as goal
-
--- the segments so far
-abbrev pub invariant-loop-segment : goal.invariant-loop-segment
-invariant-loop-segment l = map as_segment l.segments.items ≡ map segment_in (take l.segment-index l.told)
