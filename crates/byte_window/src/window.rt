@@ -165,6 +165,7 @@ impl Window {
         ensures count { IfOk result (λ count. length self.old.unread + count ≡ length self.new.unread) }
         ensures end { IfOk result (λ count. count ≡ 0 → IsAtEnd (S.left source.old)) }
         ensures unread { OnErr result (self.new.unread ≡ self.old.unread) }
+        ensures forgotten { self.new.last ≡ [] }
         ensures failed { OnErr result (Rose (S.faults source.old) (S.faults source.new)) }
         ensures counted { S.faults source.old ≤ S.faults source.new }
         ensures one_failed { OnErr result (S.failed source.new ≡ count_after (S.failed source.old) 1) }

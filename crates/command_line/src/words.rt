@@ -61,7 +61,8 @@ fn parse<'a>(alloc: Global, words: &'a [String]) -> Result<ArgMatches<'a>, Words
 }
 
 fn fault_for(error: &Error) -> WordsFault
-    ensures { result ≡ WordsFault.Usage → kind_of error.now ≡ ErrorKind.OutOfMemory → ⊥ }
+    ensures memory { result ≡ WordsFault.Usage → kind_of error.now ≡ ErrorKind.OutOfMemory → ⊥ }
+    ensures usage { (kind_of error.now ≡ ErrorKind.OutOfMemory → ⊥) → result ≡ WordsFault.Usage }
 {
     match error.kind() {
         ErrorKind::OutOfMemory => WordsFault::Memory,
@@ -74,7 +75,7 @@ fn fault_for(error: &Error) -> WordsFault
 /// A number is what `clap`'s reader of a u64 takes, so a leading `+` or zeros pass. `--` ends the
 /// options, and an option that is given twice is not taken.
 ///
-/// Faults: `Usage`, exactly where the words ask for no plan; `Memory`.
+/// Faults: `Usage`, only where the words ask for no plan; `Memory`, where memory is wanting.
 pub fn read_words(alloc: Global, words: &[String]) -> Result<Plan, WordsFault>
     ensures answers { Answers (reads (map string_bytes words.now)) result }
     ensures fits { IfOk result IsInRange }

@@ -8,3 +8,4 @@ pub mod PutLemmas
 pub mod LeafLemmas
 pub mod ItemLemmas
 pub mod SeatLemmas
+mod ExchangeLemmas

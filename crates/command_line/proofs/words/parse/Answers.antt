@@ -39,6 +39,6 @@ returns-in-Err-clause-refused c usage none =
     let is = c.in_ok-command.ensures ∙ flowdir_made in
     let no_kind = ap (λ (a : App). fault_of a (map string_bytes c.args.words.now)) is ∙ none in
     elim (c.in-Err.ensures.kinds (ap is_simple_and_free is ∙ flowdir_is_free)) [
-      | inl memory ↦ c.fault_for.ensures usage memory
+      | inl memory ↦ c.fault_for.ensures.memory usage memory
       | inr among ↦ subst (IsAmong (kind_of c.in-Err.error)) no_kind among
     ]
