@@ -59,7 +59,7 @@ module _ (f : Going) (round : Round) (attempt : BucketTry) (found : List (Option
   -- it is lost
   pub row_lost : (word : ℕ) → word ≢ attempt.row →
       goes stored word
-          ≡ went f f.account.used (spent + size + 1) (TryWord round (attempt.turn + 1) (Some attempt.first))
+      ≡ went f f.account.used (spent + size + 1) (TryWord round (attempt.turn + 1) (Some attempt.first))
   row_lost word other =
       let same : eqb word attempt.row ≡ false = grind (arith, nat_tests) in
       let steps : f.flight.steps + (spent + size) + 1 ≡ f.flight.steps + (spent + size + 1) = omega arith in
