@@ -52,9 +52,10 @@ fn held_in(alloc: Global, input: &[u8]) -> Result<[bool; 3], AllocError> {
 fn held_packets_need_no_source(rt: HostRuntime) -> Result<(), Fail> {
     let mut parts = [Part::Syn(1); 4];
     parts[0] = Part::Bytes(&HEAD);
-    let saved = file_of(rt.alloc(), &parts)?;
+    let mut saved = file_of(rt.alloc(), &parts)?;
     assert_eq!(rt; held_in(rt.alloc(), &saved)?, [true, true, true]);
-    assert_eq!(rt; held_in(rt.alloc(), &saved[..233])?, [true, true, false]);
+    saved.pop();
+    assert_eq!(rt; held_in(rt.alloc(), &saved)?, [true, true, false]);
     assert_eq!(rt; held_in(rt.alloc(), &BLOCKS)?, [true, true, false]);
     Ok(())
 }
