@@ -22,8 +22,8 @@ pub enum CaptureFault {
     /// The version is not 2.4.
     #[error("version {major}.{minor} is not 2.4")]
     Version { major: u16, minor: u16 },
-    /// The low 16 bits of the link field are not those of Ethernet.
-    #[error("link type {found} is not Ethernet")]
+    /// The low 16 bits of the link field are not the link type that was asked for.
+    #[error("link type {found} is not the one that was asked for")]
     LinkType { found: u16 },
     /// The record that starts at `offset`, in bytes from the file's first, shows a captured length
     /// above 262,144.

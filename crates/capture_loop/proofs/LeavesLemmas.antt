@@ -143,25 +143,26 @@ AreBatches-whole all (batch ∷ batches) whole some =
 -- ---- the input
 
 -- the packets that were read are its first
-come_first : (first now : Option (List ℕ)) (reading : Reading) (packets : List (List ℕ)) (bytes : List ℕ) →
-    length packets ≤ packet_limit → (come : HaveCome first now reading packets) → first ≡ Some bytes →
-    IsFirst bytes packets
-come_first first now reading packets bytes few come is =
-    told_by (λ told left. IsFirst told packets) first now bytes come.0 is come.1
+come_first : (link : ℕ) (first now : Option (List ℕ)) (reading : Reading) (packets : List (List ℕ)) (bytes : List ℕ) →
+    length packets ≤ packet_limit → (come : HaveCome link first now reading packets) → first ≡ Some bytes →
+    IsFirst link bytes packets
+come_first link first now reading packets bytes few come is =
+    told_by (λ told left. IsFirst link told packets) first now bytes come.0 is come.1
     (λ others left.
-    first_read (come.0 ++ others) others reading packets few (read_longer come.0 [] others reading packets come.2))
+    first_read link (come.0 ++ others) others reading packets few
+    (read_longer link come.0 [] others reading packets come.2))
 
-pub HaveFirst-come : (first now : Option (List ℕ)) (reading : Reading) (packets : List (List ℕ)) →
-    length packets ≤ packet_limit → HaveCome first now reading packets → HaveFirst first packets
-HaveFirst-come first now reading packets few come =
+pub HaveFirst-come : (link : ℕ) (first now : Option (List ℕ)) (reading : Reading) (packets : List (List ℕ)) →
+    length packets ≤ packet_limit → HaveCome link first now reading packets → HaveFirst link first packets
+HaveFirst-come link first now reading packets few come =
     record {
-      told = λ bytes is. come_first first now reading packets bytes few come is;
-      took = (now, (come.0, come.1, first_read come.0 [] reading packets few come.2));
+      told = λ bytes is. come_first link first now reading packets bytes few come is;
+      took = (now, (come.0, come.1, first_read link come.0 [] reading packets few come.2));
     }
 
 -- no packets are the first of any input
-pub HaveFirst-none : (first : Option (List ℕ)) → HaveFirst first []
-HaveFirst-none first =
+pub HaveFirst-none : (link : ℕ) (first : Option (List ℕ)) → HaveFirst link first []
+HaveFirst-none link first =
     record {
       told = λ bytes is. (omega arith, inl refl);
       took = (first, ([], Consumes-nil first, (omega arith, inl refl)));
@@ -169,18 +170,20 @@ HaveFirst-none first =
 
 -- ---- what is left
 
-module _ (lines : Lines) (report : Reports) (read_failed : Type 0) (first left before after : Option (List ℕ)) where
+module _ (lines : Lines) (report : Reports) (read_failed : Type 0) (link : ℕ)
+    (first left before after : Option (List ℕ)) where
   -- nothing was put
-  pub leaves_nothing : Keeps before after → LoopLeavesAll lines report read_failed first left before after (Err Memory)
+  pub leaves_nothing : Keeps before after →
+      LoopLeavesAll lines report read_failed link first left before after (Err Memory)
   leaves_nothing kept =
       record { told = λ bytes told. inl kept; took = (first, ([], Consumes-nil first, inl kept)) }
 
   module _ (packets : List (List ℕ)) (batches : List (List (List ℕ))) (ending : Ending) (text : List ℕ)
-      (ended : HaveEnded packet_limit first left packets ending) (cut : AreBatches packets batches)
+      (ended : HaveEnded packet_limit link first left packets ending) (cut : AreBatches packets batches)
       (met : IsMet read_failed ending) where
     -- the whole report was put
     pub leaves_whole : report batches ending text → Appends before after text →
-        LoopLeavesAll lines report read_failed first left before after (Ok ending)
+        LoopLeavesAll lines report read_failed link first left before after (Ok ending)
     leaves_whole is put =
         record {
           told = λ bytes told. (met, (text, (packets, ended.told bytes told, (batches, cut, is)), put));
@@ -189,7 +192,7 @@ module _ (lines : Lines) (report : Reports) (read_failed : Type 0) (first left b
 
     -- or a front of it
     pub leaves_front : report batches ending text → AppendsFront before after text →
-        LoopLeavesAll lines report read_failed first left before after (Err NotPut)
+        LoopLeavesAll lines report read_failed link first left before after (Err NotPut)
     leaves_front is put =
         record {
           told = λ bytes told. inl (ending, met, (text, (packets, ended.told bytes told, (batches, cut, is)), put));
@@ -202,7 +205,7 @@ module _ (lines : Lines) (report : Reports) (read_failed : Type 0) (first left b
 
     -- or the lines of all batches
     pub leaves_less : lines batches text → Keeps before after ⊎ Appends before after text →
-        LoopLeavesAll lines report read_failed first left before after (Err Memory)
+        LoopLeavesAll lines report read_failed link first left before after (Err Memory)
     leaves_less is (inl kept) = leaves_nothing kept
     leaves_less is (inr put) =
         record {
@@ -220,9 +223,9 @@ module _ (lines : Lines) (report : Reports) (read_failed : Type 0) (first left b
 
   -- lines of whole batches were put, and how the input ends is not known
   pub leaves_before : (packets : List (List ℕ)) (batches : List (List (List ℕ))) (text : List ℕ) →
-      HaveFirst first packets → AreWhole packets batches → lines batches text →
+      HaveFirst link first packets → AreWhole packets batches → lines batches text →
       Keeps before after ⊎ Appends before after text →
-      LoopLeavesAll lines report read_failed first left before after (Err Memory)
+      LoopLeavesAll lines report read_failed link first left before after (Err Memory)
   leaves_before packets batches text firsts whole is (inl kept) = leaves_nothing kept
   leaves_before packets batches text firsts whole is (inr put) =
       record {
@@ -233,17 +236,17 @@ module _ (lines : Lines) (report : Reports) (read_failed : Type 0) (first left b
       }
 
   module _ (reading : Reading) (packets : List (List ℕ)) (batches : List (List (List ℕ)))
-      (text : List ℕ) (come : HaveCome first left reading packets) (few : length packets ≤ packet_limit)
+      (text : List ℕ) (come : HaveCome link first left reading packets) (few : length packets ≤ packet_limit)
       (whole : AreWhole packets batches) (is : lines batches text) where
     pub leaves_some : AppendsFront before after text →
-        LoopLeavesAll lines report read_failed first left before after (Err NotPut)
+        LoopLeavesAll lines report read_failed link first left before after (Err NotPut)
     leaves_some put =
         record {
           told = λ bytes told.
               inr (
                 packets,
-                told_by (λ all now. Begins all now packets) first left bytes come.0 told come.1
-                    (λ others now. begins_read come.0 others reading packets few come.2),
+                told_by (λ all now. Begins link all now packets) first left bytes come.0 told come.1
+                    (λ others now. begins_read link come.0 others reading packets few come.2),
                 (text, (batches, whole, is), put),
               );
           took = (
@@ -251,7 +254,8 @@ module _ (lines : Lines) (report : Reports) (read_failed : Type 0) (first left b
             come.1,
             inr (
               packets,
-              taken_by (λ all now. Begins all now packets) come.0 (begins_read come.0 [] reading packets few come.2),
+              taken_by (λ all now. Begins link all now packets) come.0
+                  (begins_read link come.0 [] reading packets few come.2),
               (text, (batches, whole, is), put),
             ),
           );
@@ -260,27 +264,29 @@ module _ (lines : Lines) (report : Reports) (read_failed : Type 0) (first left b
   -- a run that stops for want of memory
   pub leaves_memory : (result : Result Ending Stop) →
       IsErr result × IsErrAnd result (λ (stop : Stop). stop ≡ Memory) →
-      LoopLeavesAll lines report read_failed first left before after (Err Memory) →
-      LoopLeavesAll lines report read_failed first left before after result
+      LoopLeavesAll lines report read_failed link first left before after (Err Memory) →
+      LoopLeavesAll lines report read_failed link first left before after result
   leaves_memory (Ok ending) is leaves = absurd (cc)
   leaves_memory (Err stop) is leaves =
-      subst (λ (s : Stop). LoopLeavesAll lines report read_failed first left before after (Err s)) (sym is.1) leaves
+      subst (λ (s : Stop). LoopLeavesAll lines report read_failed link first left before after (Err s)) (sym is.1)
+      leaves
 
   -- and one that stops since a write failed
   pub leaves_not_put : (result : Result Ending Stop) →
       IsErr result × IsErrAnd result (λ (stop : Stop). stop ≡ NotPut) →
-      LoopLeavesAll lines report read_failed first left before after (Err NotPut) →
-      LoopLeavesAll lines report read_failed first left before after result
+      LoopLeavesAll lines report read_failed link first left before after (Err NotPut) →
+      LoopLeavesAll lines report read_failed link first left before after result
   leaves_not_put (Ok ending) is leaves = absurd (cc)
   leaves_not_put (Err stop) is leaves =
-      subst (λ (s : Stop). LoopLeavesAll lines report read_failed first left before after (Err s)) (sym is.1) leaves
+      subst (λ (s : Stop). LoopLeavesAll lines report read_failed link first left before after (Err s)) (sym is.1)
+      leaves
 
   -- a run that stops leaves what it leaves where a write failed, and where memory ran out
   pub leaves_stop : (stop : Stop) (A B : Type 0) →
       OnNotPut {T = Unit {0}} (Err stop) A → OnMemory {T = Unit {0}} (Err stop) B →
-      (A → LoopLeavesAll lines report read_failed first left before after (Err NotPut)) →
-      (B → LoopLeavesAll lines report read_failed first left before after (Err Memory)) →
-      LoopLeavesAll lines report read_failed first left before after (Err stop)
+      (A → LoopLeavesAll lines report read_failed link first left before after (Err NotPut)) →
+      (B → LoopLeavesAll lines report read_failed link first left before after (Err Memory)) →
+      LoopLeavesAll lines report read_failed link first left before after (Err stop)
   leaves_stop Memory A B a b on_a on_b = on_b b
   leaves_stop NotPut A B a b on_a on_b = on_a a
 

@@ -1,5 +1,5 @@
 -- What the last lines, and a batch that could not be served or put, make of what a run leaves.
-use Rattle.std.proofs.Common.{◌≡◌, ◌≤◌, ◌+◌, ◌⊎◌, ℕ, List, [], ◌∷◌, ◌++◌, length, Option, Some, None, MatchOption, IfNone, Result, Ok, Err, inl, inr, refl, sym, ap, subst, ◌∙◌, append_assoc, length-append, arith}
+use Rattle.std.proofs.Common.{◌≡◌, ◌≤◌, ◌+◌, ◌⊎◌, ℕ, List, [], ◌∷◌, ◌++◌, length, Option, Some, None, MatchOption, IfNone, IfOk, Result, Ok, Err, inl, inr, refl, sym, ap, subst, ◌∙◌, append_assoc, length-append, arith}
 use Rattle.std.specs.List.{flat_map}
 use Rattle.std.specs.Io.KnownBytes.{Appends}
 use Rattle.std.proofs.KnownBytes.{Appends-trans}
@@ -8,12 +8,13 @@ use Rattle.edge_traits.proofs.EdgeLemmas.{AppendsFront-longer}
 use Rattle.report_text.specs.declared.parts.Ending.{Ending}
 use Rattle.capture_loop.specs.declared.stop.Stop.{Stop}
 use Rattle.capture_loop.specs.declared.stop.Stop.TheVariants.{Memory, NotPut}
-use Rattle.capture_loop.specs.Endings.{HasFailed}
+use Rattle.report_text.specs.declared.parts.Ending.TheVariants.{Done, ReadFault, Limit, Fault}
+use Rattle.capture_loop.specs.Endings.{HasFailed, OnLimit}
 use Rattle.capture_loop.specs.Input.{packet_limit}
 use Rattle.pcapng_reader.specs.Reading.{Reading}
 use Rattle.capture_loop.specs.Reading.{HaveCome, HaveEnded}
 use Rattle.capture_loop.specs.Batches.{AreBatches, AreWhole}
-use Rattle.capture_loop.specs.Leaves.{IsMet, LoopLeavesAll, Lines, Reports}
+use Rattle.capture_loop.specs.Leaves.{IsMet, LoopLeavesAll, Lines, Marks, Reports}
 use Rattle.capture_loop.specs.Looping.{HasPut, OnNotPut, Stands}
 use Rattle.capture_loop.proofs.LeavesLemmas.{AreBatches-last, AreBatches-whole, AreWhole-more, AreWhole-none, HaveFirst-come, HaveFirst-none, HasPut-cut, HasPut-kept, leaves_before, leaves_front, leaves_less, leaves_whole}
 
@@ -37,46 +38,47 @@ none_whole all (batch ∷ batches) whole none =
 no_packets : (last : List (List ℕ)) → last ≡ [] → length last ≡ 0
 no_packets last none = ap length none
 
-module _ (lines : Lines) (report : Reports) (read_failed : Type 0) (first left before : Option (List ℕ))
+module _ (lines : Lines) (report : Reports) (read_failed : Type 0) (link : ℕ) (first left before : Option (List ℕ))
     (all : List (List ℕ)) (batches : List (List (List ℕ))) (ending : Ending)
-    (ended : HaveEnded packet_limit first left all ending) (cut : AreBatches all batches)
+    (ended : HaveEnded packet_limit link first left all ending) (cut : AreBatches all batches)
     (met : IsMet read_failed ending) where
   -- the last lines could not be made
   pub end_memory : (now : Option (List ℕ)) (held done : List ℕ) → HasPut before now held done → lines batches done →
-      LoopLeavesAll lines report read_failed first left before now (Err Memory)
+      LoopLeavesAll lines report read_failed link first left before now (Err Memory)
   end_memory now held done put is =
-      leaves_less lines report read_failed first left before now all batches ending done ended cut met is
+      leaves_less lines report read_failed link first left before now all batches ending done ended cut met is
       (HasPut-kept before now held done put)
 
   -- or not be put
   pub end_front : (mid after : Option (List ℕ)) (held done rest text : List ℕ) → HasPut before mid held done →
       text ≡ held ++ rest → report batches ending (done ++ rest) → AppendsFront mid after text →
-      LoopLeavesAll lines report read_failed first left before after (Err NotPut)
+      LoopLeavesAll lines report read_failed link first left before after (Err NotPut)
   end_front mid after held done rest text put is reported front =
-      leaves_front lines report read_failed first left before after all batches ending (done ++ rest) ended cut met
+      leaves_front lines report read_failed link first left before after all batches ending (done ++ rest) ended cut met
       reported (HasPut-cut before mid after held done rest put (subst (AppendsFront mid after) is front))
 
   pub end_whole : (mid after : Option (List ℕ)) (held done rest text : List ℕ) → HasPut before mid held done →
       text ≡ held ++ rest → report batches ending (done ++ rest) → Appends mid after text →
-      LoopLeavesAll lines report read_failed first left before after (Ok ending)
+      LoopLeavesAll lines report read_failed link first left before after (Ok ending)
   end_whole mid after held done rest text put is reported appended =
-      leaves_whole lines report read_failed first left before after all batches ending (done ++ rest) ended cut met
+      leaves_whole lines report read_failed link first left before after all batches ending (done ++ rest) ended cut met
       reported (Appends-more before mid after held done rest put (subst (Appends mid after) is appended))
 
   -- the lines of the last batch could not be put
   pub last_front : (after : Option (List ℕ)) (done : List ℕ) →
       ((rest : List ℕ) × report batches ending (done ++ rest)) → AppendsFront before after done →
-      LoopLeavesAll lines report read_failed first left before after (Err NotPut)
+      LoopLeavesAll lines report read_failed link first left before after (Err NotPut)
   last_front after done more front =
-      leaves_front lines report read_failed first left before after all batches ending (done ++ more.0) ended cut met
+      leaves_front lines report read_failed link first left before after all batches ending (done ++ more.0) ended cut
+      met
       more.1 (AppendsFront-longer before after done more.0 front)
 
 -- a last batch is begun where there are packets of it, or none at all
-pub last_cut : (served : List (List (List ℕ)) → List ℕ → Type 0) (first : Option (List ℕ)) (many packets : ℕ)
+pub last_cut : (served : List (List (List ℕ)) → List ℕ → Type 0) (link : ℕ) (first : Option (List ℕ)) (many packets : ℕ)
     (all last : List (List ℕ)) (before now : Option (List ℕ)) (held : List ℕ) →
-    (stands : Stands served first many all before now held) → length last ≡ packets → packets ≤ 2048 →
+    (stands : Stands served link first many all before now held) → length last ≡ packets → packets ≤ 2048 →
     (packets ≡ 0 → many ≡ 0) → AreBatches (all ++ last) (stands.batches ++ last ∷ [])
-last_cut served first many packets all last before now held stands count few begun =
+last_cut served link first many packets all last before now held stands count few begun =
     AreBatches-last all last stands.batches stands.whole (omega (arith, count, few))
     (λ none. none_whole all stands.batches stands.whole
     (stands.count ∙ begun (sym count ∙ no_packets last none)))
@@ -92,11 +94,12 @@ whole_cut all batches whole some = choose (AreBatches-whole all batches whole (o
 
 -- the last batch could not be served
 pub last_memory : (lines : Lines) (report : Reports) (read_failed : Type 0)
-    (served : List (List (List ℕ)) → List ℕ → Type 0) (first left : Option (List ℕ)) (many : ℕ) (all : List (List ℕ))
-    (before now : Option (List ℕ)) (held : List ℕ) → (stands : Stands served first many all before now held) →
-    lines stands.batches stands.text → LoopLeavesAll lines report read_failed first left before now (Err Memory)
-last_memory lines report read_failed served first left many all before now held stands is =
-    leaves_before lines report read_failed first left before now all stands.batches stands.text stands.firsts
+    (served : List (List (List ℕ)) → List ℕ → Type 0) (link : ℕ) (first left : Option (List ℕ)) (many : ℕ)
+    (all : List (List ℕ))
+    (before now : Option (List ℕ)) (held : List ℕ) → (stands : Stands served link first many all before now held) →
+    lines stands.batches stands.text → LoopLeavesAll lines report read_failed link first left before now (Err Memory)
+last_memory lines report read_failed served link first left many all before now held stands is =
+    leaves_before lines report read_failed link first left before now all stands.batches stands.text stands.firsts
     stands.whole is (HasPut-kept before now held stands.text stands.put)
 
 -- ---- a choice
@@ -120,35 +123,36 @@ OnNotPut-any (Err Memory) p = tt
 OnNotPut-any (Err NotPut) p = p
 
 -- before any batch the head line is held
-pub at_start : (served : List (List (List ℕ)) → List ℕ → Type 0) (first before now : Option (List ℕ))
-    (held : List ℕ) → served [] held → HasPut before now held held → Stands served first 0 [] before now held
-at_start served first before now held done put =
+pub at_start : (served : List (List (List ℕ)) → List ℕ → Type 0) (link : ℕ) (first before now : Option (List ℕ))
+    (held : List ℕ) → served [] held → HasPut before now held held → Stands served link first 0 [] before now held
+at_start served link first before now held done put =
     record {
       batches = [];
       text = held;
       count = refl;
-      firsts = HaveFirst-none first;
+      firsts = HaveFirst-none link first;
       whole = AreWhole-none;
       done = done;
       put = put;
     }
 
 -- one whole batch more
-pub Stands-more : (served served_then : List (List (List ℕ)) → List ℕ → Type 0) (first left : Option (List ℕ))
+pub Stands-more : (served served_then : List (List (List ℕ)) → List ℕ → Type 0) (link : ℕ)
+    (first left : Option (List ℕ))
     (reading : Reading) (many more : ℕ) (all last : List (List ℕ)) (before mid after : Option (List ℕ))
-    (held held_then lines : List ℕ) → (stands : Stands served first many all before mid held) →
-    HaveCome first left reading (all ++ last) → length last ≡ more → more ≡ 2048 → many + more ≤ packet_limit →
+    (held held_then lines : List ℕ) → (stands : Stands served link first many all before mid held) →
+    HaveCome link first left reading (all ++ last) → length last ≡ more → more ≡ 2048 → many + more ≤ packet_limit →
     served_then (stands.batches ++ last ∷ []) (stands.text ++ lines) →
     HasPut before after held_then (stands.text ++ lines) →
-    Stands served_then first (many + more) (all ++ last) before after held_then
-Stands-more served served_then first left reading many more all last before mid after held held_then lines stands come
-    size whole few done put =
+    Stands served_then link first (many + more) (all ++ last) before after held_then
+Stands-more served served_then link first left reading many more all last before mid after held held_then lines
+    stands come size whole few done put =
     let count : length (all ++ last) ≡ many + more = omega (arith, length-append all last, stands.count, size) in
     record {
       batches = stands.batches ++ last ∷ [];
       text = stands.text ++ lines;
       count = count;
-      firsts = HaveFirst-come first left reading (all ++ last) (omega (arith, count, few)) come;
+      firsts = HaveFirst-come link first left reading (all ++ last) (omega (arith, count, few)) come;
       whole = AreWhole-more all last stands.batches stands.whole (size ∙ whole);
       done = done;
       put = put;
@@ -158,3 +162,31 @@ Stands-more served served_then first left reading many more all last before mid 
 pub none_failed : (ending : Option Ending) (before after : ℕ) → ending ≡ None → HasFailed ending before after →
     after ≡ before
 none_failed ending before after is = subst (λ (o : Option Ending). HasFailed o before after) is
+
+-- ---- a packet too many
+
+-- an answer is the ending that was met
+pub limit_same : (answer : Result Ending Stop) (ending : Ending) (P : Type 0) → IfOk answer (λ is. is ≡ ending) →
+    OnLimit ending P → IfOk answer (λ is. OnLimit is P)
+limit_same (Ok is) ending P same limit = subst (λ (e : Ending). OnLimit e P) (sym same) limit
+limit_same (Err stop) ending P same limit = tt
+
+-- where the packet starts that was noted
+pub Marks-at : (answer : Result Ending Stop) (old mid new : Option ℕ) (start now : ℕ) (P : ℕ → Type 0) → mid ≡ old →
+    start ≡ now → Marks answer mid new (λ place. place ≡ start) → IfOk answer (λ is. OnLimit is (P now)) →
+    Marks answer old new P
+Marks-at (Ok (Limit limit)) old mid new start now P kept is marks at =
+    (marks.0, marks.1, subst P (sym (marks.2 ∙ is)) at)
+Marks-at (Ok (Done rest)) old mid new start now P kept is marks at = marks ∙ kept
+Marks-at (Ok ReadFault) old mid new start now P kept is marks at = marks ∙ kept
+Marks-at (Ok (Fault found)) old mid new start now P kept is marks at = marks ∙ kept
+Marks-at (Err stop) old mid new start now P kept is marks at = marks ∙ kept
+
+-- none was noted, and none is
+pub Marks-none : (answer : Result Ending Stop) (ending : Ending) (old : Option ℕ) (P : ℕ → Type 0) →
+    IfOk answer (λ is. is ≡ ending) → OnLimit ending ⊥ → Marks answer old old P
+Marks-none (Ok (Limit limit)) ending old P same none = absurd (subst (λ (e : Ending). OnLimit e ⊥) (sym same) none)
+Marks-none (Ok (Done rest)) ending old P same none = refl
+Marks-none (Ok ReadFault) ending old P same none = refl
+Marks-none (Ok (Fault found)) ending old P same none = refl
+Marks-none (Err stop) ending old P same none = refl

@@ -1,5 +1,5 @@
 -- No packet is longer than the limit.
-use Rattle.std.proofs.Common.{◌≡◌, ◌≤◌, ℕ, List, [], ◌∷◌, ◌++◌, length, drop, nat_eq, inl, inr, sym, ap, subst, arith, length-take}
+use Rattle.std.proofs.Common.{◌≡◌, ◌≤◌, ℕ, List, [], ◌∷◌, ◌++◌, length, drop, inl, inr, sym, ap, subst, arith, length-take}
 use Rattle.std.specs.List.{All}
 use Rattle.std.proofs.lemmas.Bool.{cases_lt}
 use Rattle.std.proofs.lemmas.List.Elements.{All-head, All-tail}
@@ -38,7 +38,7 @@ within captured at size not = elim (cases_lt 262144 captured) [
 given_within : (interface : AnInterface) (captured at size : ℕ) → (IsTooLong captured at size → ⊥) →
     given_length interface captured ≤ 262144
 given_within interface captured at size not =
-    omega (arith, within captured at size not, given_le (nat_eq interface.link 1) captured)
+    omega (arith, within captured at size not, given_le interface.is_asked captured)
 
 -- no more is given
 count_within : (state : State) (offset : ℕ) (order : Order) (kind : Kind) (size : ℕ) (bytes : List ℕ) (x : Seen) →

@@ -1,5 +1,5 @@
 -- How far an input has been read, one packet further, and how it ends.
-use Rattle.std.proofs.Common.{◌≡◌, ◌≤◌, ℕ, ◌+◌, List, [], ◌∷◌, ◌++◌, length, Option, Some, None, Ok, Err, sym, ◌∙◌, ap, subst, refl, append_assoc, append-nil, length-append, arith}
+use Rattle.std.proofs.Common.{◌≡◌, ◌≤◌, ℕ, ◌+◌, List, [], ◌∷◌, ◌++◌, length, Option, Some, None, Ok, Err, sym, ◌∙◌, ap, subst, refl, append_assoc, append-nil, length-append, length-take-le, arith}
 use Rattle.std.specs.Option.{IfSome}
 use Rattle.std.specs.Io.KnownBytes.{Consumes}
 use Rattle.std.proofs.KnownBytes.{Consumes-trans}
@@ -13,16 +13,16 @@ use Rattle.capture_faults.specs.declared.any_fault.AnyFault.{AnyFault}
 use Rattle.capture_faults.specs.declared.any_fault.AnyFault.TheVariants as fault
 use Rattle.pcapng_reader.specs.Input.{Input, IsPcapng}
 use Rattle.pcapng_reader.specs.Laws.{HasInput, HoldsFront}
-use Rattle.pcapng_reader.specs.Reading.{Answers, Form, GivesPacket, IsAtStart, IsEnd, IsOpenedOn, OfBlocks, OfRecords, OnRefused, Reading}
+use Rattle.pcapng_reader.specs.Reading.{Answers, Form, GivesPacket, HasRead, IsAtStart, IsEnd, IsOpenedOn, OfBlocks, OfRecords, OnRefused, Reading}
 use Rattle.pcapng_reader.proofs.AnswerFacts.{no_capture_fault}
 use Rattle.pcapng_reader.proofs.InputFacts.{input_refused}
-use Rattle.pcapng_reader.proofs.ReadFacts.{read_longer, read_more, read_start}
+use Rattle.pcapng_reader.proofs.ReadFacts.{read_longer, read_more, read_start, read_starts}
 use Rattle.report_text.specs.Report.{IsEnding}
 use Rattle.report_text.specs.declared.parts.Ending.{Ending}
 use Rattle.report_text.specs.declared.parts.Ending.TheVariants.{Done, ReadFault, Limit, Fault}
 use Rattle.list_laws.proofs.Options.{some_same}
-use Rattle.capture_loop.specs.Endings.{ending_at, ending_of}
-use Rattle.capture_loop.specs.Input.{ServesUpTo}
+use Rattle.capture_loop.specs.Endings.{ending_at, ending_of, OnLimit}
+use Rattle.capture_loop.specs.Input.{ServesUpTo, StopsAt}
 use Rattle.capture_loop.specs.Reading.{HaveCome, HaveEnded, MeetsEnd}
 use Rattle.capture_loop.proofs.ServingLemmas.{EndsBy, Serves-by, Serves-limit, Serves-none, Serves-refused, short_input}
 
@@ -65,18 +65,45 @@ none_left before after bytes taken others is left lost all =
 
 -- ---- one packet further
 
-pub HaveCome-more : (first before after : Option (List ℕ)) (old new : Reading) (packets : List (List ℕ)) →
-    HaveCome first before old packets → Took before after (GivesPacket old new) →
-    HaveCome first after new (packets ++ new.packet ∷ [])
-HaveCome-more first before after old new packets come took =
+pub HaveCome-more : (link : ℕ) (first before after : Option (List ℕ)) (old new : Reading) (packets : List (List ℕ)) →
+    HaveCome link first before old packets → Took before after (GivesPacket old new) →
+    HaveCome link first after new (packets ++ new.packet ∷ [])
+HaveCome-more link first before after old new packets come took =
     let front : List ℕ = come.0 in (
       front ++ took.0,
       Consumes-trans first before after front took.0 come.1 took.1,
-      read_more (front ++ took.0) old new (Some took.0) (Some []) packets
-          (read_longer front [] took.0 old packets come.2) (took.0, sym (append-nil took.0), took.2),
+      read_more link (front ++ took.0) old new (Some took.0) (Some []) packets
+          (read_longer link front [] took.0 old packets come.2) (took.0, sym (append-nil took.0), took.2),
+    )
+
+-- the packet that is given starts there
+pub Took-goes_on : (link : ℕ) (first before after : Option (List ℕ)) (old new : Reading) (packets : List (List ℕ)) →
+    HaveCome link first before old packets → Took before after (GivesPacket old new) →
+    StopsAt link (length packets) first after new.start
+Took-goes_on link first before after old new packets come took =
+    let front : List ℕ = come.0 in
+    let bytes : List ℕ = front ++ took.0 in (
+      bytes,
+      Consumes-trans first before after front took.0 come.1 took.1,
+      record {
+        packets = packets;
+        count = refl;
+        next = read_starts link bytes old new took.0 [] packets
+            (subst (λ (l : List ℕ). HasRead link bytes old (Some l) packets) (sym (append-nil took.0))
+            (read_longer link front [] took.0 old packets come.2))
+            took.2;
+      },
     )
 
 -- ---- the end
+
+-- an ending that is met is no limit
+pub OnLimit-none : (old new : Reading) (before after : Option (List ℕ)) (ending : Ending) (P : Type 0) →
+    MeetsEnd old new before after ending → OnLimit ending P
+OnLimit-none old new before after (Done rest) P meets = tt
+OnLimit-none old new before after ReadFault P meets = tt
+OnLimit-none old new before after (Limit limit) P meets = absurd meets
+OnLimit-none old new before after (Fault found) P meets = tt
 
 -- by what was taken
 ends_by : (old new : Reading) (before after : Option (List ℕ)) (ending : Ending) →
@@ -94,19 +121,19 @@ ends_by old new before after (Fault found) meets = (meets.0, meets.1, meets.2, �
 ends_by old new before after ReadFault meets = (meets.0, meets.1, meets.2, λ bytes others is left. meets.2)
 ends_by old new before after (Limit limit) meets = absurd meets
 
-pub HaveEnded-ended : (most : ℕ) (first before after : Option (List ℕ)) (old new : Reading)
-    (packets : List (List ℕ)) (ending : Ending) → HaveCome first before old packets → length packets ≤ most →
-    MeetsEnd old new before after ending → HaveEnded most first after packets ending
-HaveEnded-ended most first before after old new packets ending come few meets =
+pub HaveEnded-ended : (most : ℕ) (link : ℕ) (first before after : Option (List ℕ)) (old new : Reading)
+    (packets : List (List ℕ)) (ending : Ending) → HaveCome link first before old packets → length packets ≤ most →
+    MeetsEnd old new before after ending → HaveEnded most link first after packets ending
+HaveEnded-ended most link first before after old new packets ending come few meets =
     let front : List ℕ = come.0 in
     let ends = ends_by old new before after ending meets in
     let all : List ℕ = front ++ ends.0 in
     let lost : Consumes first after all = Consumes-trans first before after front ends.0 come.1 ends.1 in
-    let P : List ℕ → Option (List ℕ) → Type 0 = λ bytes left. ServesUpTo most bytes left packets ending in
+    let P : List ℕ → Option (List ℕ) → Type 0 = λ bytes left. ServesUpTo link most bytes left packets ending in
     let make : (others : List ℕ) → EndsBy old new ending ends.0 others → P (all ++ others) (Some others) =
     λ others met.
     subst (λ (l : List ℕ). P l (Some others)) (sym (append_assoc front ends.0 others))
-    (Serves-by most front ends.0 others old new packets come.2 few ending met) in
+    (Serves-by link most front ends.0 others old new packets come.2 few ending met) in
     record {
       told = λ bytes is.
           let still = still_told first before bytes front is come.1 in
@@ -116,19 +143,20 @@ HaveEnded-ended most first before after old new packets ending come few meets =
     }
 
 -- one packet more was given than are served
-pub HaveEnded-limit : (most : ℕ) (first before after : Option (List ℕ)) (old new : Reading)
-    (packets : List (List ℕ)) (limit : ℕ) → ((bytes : List ℕ) → HasInput bytes) →
-    ((bytes : List ℕ) → HoldsFront bytes) → HaveCome first before old packets → length packets ≡ most →
-    Took before after (GivesPacket old new) → limit ≡ most → HaveEnded most first after packets (Limit limit)
-HaveEnded-limit most first before after old new packets limit input front come all took is =
+pub HaveEnded-limit : (most : ℕ) (link : ℕ) (first before after : Option (List ℕ)) (old new : Reading)
+    (packets : List (List ℕ)) (limit : ℕ) → ((bytes : List ℕ) → HasInput link bytes) →
+    ((bytes : List ℕ) → HoldsFront link bytes) → HaveCome link first before old packets → length packets ≡ most →
+    Took before after (GivesPacket old new) → limit ≡ most → HaveEnded most link first after packets (Limit limit)
+HaveEnded-limit most link first before after old new packets limit input front come all took is =
     let begun : List ℕ = come.0 in
     let taken : List ℕ = begun ++ took.0 in
     let lost : Consumes first after taken = Consumes-trans first before after begun took.0 come.1 took.1 in
-    let P : List ℕ → Option (List ℕ) → Type 0 = λ bytes left. ServesUpTo most bytes left packets (Limit limit) in
+    let P : List ℕ → Option (List ℕ) → Type 0 = λ bytes left. ServesUpTo link most bytes left packets (Limit limit) in
     let make : (others : List ℕ) → P (taken ++ others) (Some others) = λ others.
     let bytes : List ℕ = begun ++ (took.0 ++ others) in
     subst (λ (l : List ℕ). P l (Some others)) (sym (append_assoc begun took.0 others))
-    (Serves-limit most begun took.0 others old new packets limit (input bytes) (front bytes) come.2 took.2 all is) in
+    (Serves-limit link most begun took.0 others old new packets limit (input bytes) (front bytes) come.2 took.2 all
+    is) in
     record {
       told = λ bytes told. told_by P first after bytes taken told lost (λ others left. make others);
       took = (taken, lost, taken_by P taken (make []));
@@ -185,19 +213,19 @@ answers_ending old new before after (fault.Blocks offset) met = tt
 
 -- ---- the start
 
-pub HaveCome-start : (first now : Option (List ℕ)) (reading : Reading) → IsAtStart reading →
-    Took first now (IsOpenedOn reading) → HaveCome first now reading []
-HaveCome-start first now reading start took = (took.0, took.1, read_start reading took.0 took.2 start)
+pub HaveCome-start : (link : ℕ) (first now : Option (List ℕ)) (reading : Reading) → IsAtStart reading →
+    Took first now (IsOpenedOn link reading) → HaveCome link first now reading []
+HaveCome-start link first now reading start took = (took.0, took.1, read_start link reading took.0 took.2 start)
 
 -- ---- an input that could not be opened
 
-module _ (most : ℕ) (first after : Option (List ℕ)) where
+module _ (most : ℕ) (link : ℕ) (first after : Option (List ℕ)) where
   -- it serves no packet, whatever follows
   refused : (taken : List ℕ) (ending : Ending) → Consumes first after taken →
-      ((others : List ℕ) → ServesUpTo most (taken ++ others) (Some others) [] ending) →
-      HaveEnded most first after [] ending
+      ((others : List ℕ) → ServesUpTo link most (taken ++ others) (Some others) [] ending) →
+      HaveEnded most link first after [] ending
   refused taken ending lost make =
-      let P : List ℕ → Option (List ℕ) → Type 0 = λ bytes left. ServesUpTo most bytes left [] ending in
+      let P : List ℕ → Option (List ℕ) → Type 0 = λ bytes left. ServesUpTo link most bytes left [] ending in
       record {
         told = λ bytes is. told_by P first after bytes taken is lost (λ others left. make others);
         took = (taken, lost, taken_by P taken (make []));
@@ -211,32 +239,32 @@ module _ (most : ℕ) (first after : Option (List ℕ)) where
       (record { whole = whole; begins = sym (take-append-le 4 taken others (omega (arith, whole))) ∙ pcapng.begins })
 
   -- its head shows a fault
-  shown : (found : CaptureFault) → ((taken : List ℕ) → ShowsFault taken found → file_head_length ≤ length taken) →
-      ((taken others : List ℕ) → ShowsFault taken found → ShowsFault (taken ++ others) found) →
-      Took first after (λ taken. (IsPcapng taken → ⊥) × ShowsFault taken found × (length taken ≤ buffer_length)) →
-      HaveEnded most first after [] (Fault (fault.Capture found))
+  shown : (found : CaptureFault) → ((taken : List ℕ) → ShowsFault link taken found → file_head_length ≤ length taken) →
+      ((taken others : List ℕ) → ShowsFault link taken found → ShowsFault link (taken ++ others) found) →
+      Took first after (λ taken. (IsPcapng taken → ⊥) × ShowsFault link taken found × (length taken ≤ buffer_length)) →
+      HaveEnded most link first after [] (Fault (fault.Capture found))
   shown found whole longer took =
       refused took.0 (Fault (fault.Capture found)) took.1
       (λ others.
-      Serves-refused most took.0 others (fault.Capture found)
-      (input_refused (took.0 ++ others) found (no_pcapng took.0 others (whole took.0 took.2.1) took.2.0)
+      Serves-refused link most took.0 others (fault.Capture found)
+      (input_refused link (took.0 ++ others) found (no_pcapng took.0 others (whole took.0 took.2.1) took.2.0)
       (longer took.0 others took.2.1)) took.2.2)
 
   -- it ended within its head
   short : (have : ℕ) →
       Took first after
-      (λ taken. ShowsFault taken (capture.ShortHeader have) × IfSome first (λ bytes. bytes ≡ taken)) →
-      HaveEnded most first after [] (Fault (fault.Capture (capture.ShortHeader have)))
+      (λ taken. ShowsFault link taken (capture.ShortHeader have) × IfSome first (λ bytes. bytes ≡ taken)) →
+      HaveEnded most link first after [] (Fault (fault.Capture (capture.ShortHeader have)))
   short have took =
       let ending : Ending = Fault (fault.Capture (capture.ShortHeader have)) in
       let taken : List ℕ = took.0 in
-      let P : List ℕ → Option (List ℕ) → Type 0 = λ bytes left. ServesUpTo most bytes left [] ending in
-      let here : Input taken [] (Err (fault.Capture (capture.ShortHeader have))) =
-      subst (λ (n : ℕ). Input taken [] (Err (fault.Capture (capture.ShortHeader n)))) (sym took.2.0.1)
-      (short_input taken took.2.0.0) in
+      let P : List ℕ → Option (List ℕ) → Type 0 = λ bytes left. ServesUpTo link most bytes left [] ending in
+      let here : Input link taken [] (Err (fault.Capture (capture.ShortHeader have))) =
+      subst (λ (n : ℕ). Input link taken [] (Err (fault.Capture (capture.ShortHeader n)))) (sym took.2.0.1)
+      (short_input link taken took.2.0.0) in
       let make : (others : List ℕ) → others ≡ [] → P (taken ++ others) (Some others) = λ others none.
-      Serves-refused most taken others (fault.Capture (capture.ShortHeader have))
-      (subst (λ (l : List ℕ). Input l [] (Err (fault.Capture (capture.ShortHeader have))))
+      Serves-refused link most taken others (fault.Capture (capture.ShortHeader have))
+      (subst (λ (l : List ℕ). Input link l [] (Err (fault.Capture (capture.ShortHeader have))))
       (sym (append-nil taken) ∙ ap (λ (l : List ℕ). taken ++ l) (sym none)) here)
       (omega (arith, took.2.0.0)) in
       record {
@@ -247,17 +275,17 @@ module _ (most : ℕ) (first after : Option (List ℕ)) where
       }
 
   of_fault : (found : AnyFault) (ending : Ending) → Some (Fault found) ≡ Some ending →
-      HaveEnded most first after [] (Fault found) → HaveEnded most first after [] ending
+      HaveEnded most link first after [] (Fault found) → HaveEnded most link first after [] ending
   of_fault found ending is ended =
       let same : Fault found ≡ ending = cc in
-      subst (HaveEnded most first after []) same ended
+      subst (HaveEnded most link first after []) same ended
 
   stopped : (found : CaptureFault) (ending : Ending) → ending_at (fault.Capture found) ≡ Some ending →
-      OnRefused (fault.Capture found) first after → HaveEnded most first after [] ending
+      OnRefused link (fault.Capture found) first after → HaveEnded most link first after [] ending
   stopped capture.ReadFault ending is takes =
       let same : ReadFault ≡ ending = cc in
-      subst (HaveEnded most first after []) same
-      (refused takes.taken ReadFault takes.told (λ others. Serves-none most takes.taken others takes.fewer))
+      subst (HaveEnded most link first after []) same
+      (refused takes.taken ReadFault takes.told (λ others. Serves-none link most takes.taken others takes.fewer))
   stopped capture.Memory ending is took = absurd (cc)
   stopped (capture.ShortHeader have) ending is took =
       of_fault (fault.Capture (capture.ShortHeader have)) ending is (short have took)
@@ -269,11 +297,11 @@ module _ (most : ℕ) (first after : Option (List ℕ)) where
       (shown (capture.Version major minor) (λ taken h. h.begins.whole) (refuses_version_front major minor) took)
   stopped (capture.LinkType found) ending is took =
       of_fault (fault.Capture (capture.LinkType found)) ending is
-      (shown (capture.LinkType found) (λ taken h. h.begins.whole) (refuses_link_front found) took)
+      (shown (capture.LinkType found) (λ taken h. h.begins.whole) (refuses_link_front link found) took)
   stopped (capture.RecordLength offset found) ending is took = absurd took.2.1
 
   pub HaveEnded-stopped : (found : AnyFault) (ending : Ending) → ending_at found ≡ Some ending →
-      OnRefused found first after → HaveEnded most first after [] ending
+      OnRefused link found first after → HaveEnded most link first after [] ending
   HaveEnded-stopped (fault.Capture found) ending is refused = stopped found ending is refused
   HaveEnded-stopped (fault.ByteOrder offset bytes) ending is refused = absurd refused
   HaveEnded-stopped (fault.BlockLength offset found) ending is refused = absurd refused
@@ -283,3 +311,20 @@ module _ (most : ℕ) (first after : Option (List ℕ)) where
   HaveEnded-stopped (fault.CapturedLength offset found) ending is refused = absurd refused
   HaveEnded-stopped (fault.Interfaces offset) ending is refused = absurd refused
   HaveEnded-stopped (fault.Blocks offset) ending is refused = absurd refused
+
+-- an input that could not be opened has no packet too many
+pub OnLimit-unopened : (link : ℕ) (first now : Option (List ℕ)) (ending : Ending) →
+    ((limit : ℕ) → HaveEnded limit link first now [] ending) → OnLimit ending ⊥
+OnLimit-unopened link first now (Done rest) ended = tt
+OnLimit-unopened link first now ReadFault ended = tt
+OnLimit-unopened link first now (Limit limit) ended =
+    let more = (ended 1).took.2.holds.0 in
+    omega (arith, ap length more.4, length-take-le 1 more.0 (omega (arith, more.3)))
+OnLimit-unopened link first now (Fault found) ended = tt
+
+-- what is never so
+pub OnLimit-any : (ending : Ending) (P : Type 0) → OnLimit ending ⊥ → OnLimit ending P
+OnLimit-any (Done rest) P none = tt
+OnLimit-any ReadFault P none = tt
+OnLimit-any (Limit limit) P none = absurd none
+OnLimit-any (Fault found) P none = tt

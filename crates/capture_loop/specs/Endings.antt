@@ -5,7 +5,7 @@ use Rattle.capture_faults.specs.declared.fault.CaptureFault.TheVariants as captu
 use Rattle.capture_faults.specs.declared.any_fault.AnyFault.{AnyFault}
 use Rattle.capture_faults.specs.declared.any_fault.AnyFault.TheVariants as fault
 use Rattle.report_text.specs.declared.parts.Ending.{Ending}
-use Rattle.report_text.specs.declared.parts.Ending.TheVariants.{ReadFault, Fault}
+use Rattle.report_text.specs.declared.parts.Ending.TheVariants.{Done, ReadFault, Limit, Fault}
 use Rattle.capture_loop.specs.declared.opening.Unopened.{Unopened}
 use Rattle.capture_loop.specs.declared.opening.Unopened.TheVariants.{Memory, Ends}
 
@@ -24,6 +24,13 @@ ending_of found = Fault found
 abbrev pub OnEnds : Unopened → (Ending → Type 0) → Type 0
 OnEnds Memory P = Unit {0}
 OnEnds (Ends ending) P = P ending
+
+-- a fact where the input has more packets than are taken
+abbrev pub OnLimit : Ending → Type 0 → Type 0
+OnLimit (Done rest) P = Unit {0}
+OnLimit ReadFault P = Unit {0}
+OnLimit (Limit limit) P = P
+OnLimit (Fault found) P = Unit {0}
 
 -- how many reads have failed where an input has this ending, or goes on: one more, where a failed read ended it
 abbrev pub HasFailed : Option Ending → (before after : ℕ) → Type 0

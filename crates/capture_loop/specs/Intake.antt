@@ -10,14 +10,15 @@ use Rattle.capture_loop.specs.Reading.{HaveCome, HaveEnded}
 abbrev pub IsRead : (most many : ℕ) → (before now : Option (List ℕ)) → (old new : Reading) →
     (taken more : List (List ℕ)) → Part → Type 0
 IsRead most many before now old new taken more part =
-    (first : Option (List ℕ)) (all : List (List ℕ)) → length all ≡ many → HaveCome first before old (all ++ taken) →
-    MatchOption part.ending (HaveCome first now new (all ++ (taken ++ more)))
-    (HaveEnded most first now (all ++ (taken ++ more)))
+    (link : ℕ) (first : Option (List ℕ)) (all : List (List ℕ)) → length all ≡ many →
+    HaveCome link first before old (all ++ taken) →
+    MatchOption part.ending (HaveCome link first now new (all ++ (taken ++ more)))
+    (HaveEnded most link first now (all ++ (taken ++ more)))
 
 -- So these were taken of what a reader held, whatever its source has left.
 pub record IsTaken (old new : Reading) (many : ℕ) (more : List (List ℕ)) : Type 0 where
-  pub come : (first now : Option (List ℕ)) (all : List (List ℕ)) → HaveCome first now old all →
-      HaveCome first now new (all ++ more)
+  pub come : (link : ℕ) (first now : Option (List ℕ)) (all : List (List ℕ)) → HaveCome link first now old all →
+      HaveCome link first now new (all ++ more)
   pub going : new.ended ≡ false
   pub given : new.given ≡ many + length more
   pub few : length more ≤ BATCH

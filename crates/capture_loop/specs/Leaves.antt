@@ -5,7 +5,7 @@ use Rattle.std.specs.Io.KnownBytes.{Appends, Keeps}
 use Rattle.edge_traits.specs.Edge.{AppendsFront, count_after}
 use Rattle.pcap_reader.specs.Reading.{Took}
 use Rattle.report_text.specs.declared.parts.Ending.{Ending}
-use Rattle.report_text.specs.declared.parts.Ending.TheVariants.{ReadFault}
+use Rattle.report_text.specs.declared.parts.Ending.TheVariants.{Done, Fault, Limit, ReadFault}
 use Rattle.capture_loop.specs.Endings.{HasFailed}
 use Rattle.capture_loop.specs.declared.stop.Stop.{Stop}
 use Rattle.capture_loop.specs.declared.stop.Stop.TheVariants.{Memory, NotPut}
@@ -33,14 +33,14 @@ IsLoopTold lines packets text =
     (batches : List (List (List ℕ))) × AreBatches packets batches × lines batches text
 
 -- of an input with these bytes, of which these are left, the text is the report, with this ending
-abbrev pub ReportsInput : Reports → List ℕ → Option (List ℕ) → Ending → List ℕ → Type 0
-ReportsInput report bytes left ending text =
-    (packets : List (List ℕ)) × Serves bytes left packets ending × IsLoopReport report packets ending text
+abbrev pub ReportsInput : ℕ → Reports → List ℕ → Option (List ℕ) → Ending → List ℕ → Type 0
+ReportsInput link report bytes left ending text =
+    (packets : List (List ℕ)) × Serves link bytes left packets ending × IsLoopReport report packets ending text
 
 -- and the text is the lines of all its batches
-abbrev pub TellsInput : Lines → List ℕ → Option (List ℕ) → Ending → List ℕ → Type 0
-TellsInput lines bytes left ending text =
-    (packets : List (List ℕ)) × Serves bytes left packets ending × IsLoopTold lines packets text
+abbrev pub TellsInput : ℕ → Lines → List ℕ → Option (List ℕ) → Ending → List ℕ → Type 0
+TellsInput link lines bytes left ending text =
+    (packets : List (List ℕ)) × Serves link bytes left packets ending × IsLoopTold lines packets text
 
 -- a front of a text was put
 abbrev pub PutsFront : (before after : Option (List ℕ)) → (List ℕ → Type 0) → Type 0
@@ -55,33 +55,35 @@ abbrev pub IsMet : (read_failed : Type 0) → Ending → Type 0
 IsMet read_failed ending = ending ≡ ReadFault → read_failed
 
 -- The whole report was put, with this ending.
-abbrev pub PutsInput : Reports → List ℕ → Option (List ℕ) → Option (List ℕ) → Option (List ℕ) → Ending → Type 0
-PutsInput report bytes left before after ending = PutsWhole before after (ReportsInput report bytes left ending)
+abbrev pub PutsInput : ℕ → Reports → List ℕ → Option (List ℕ) → Option (List ℕ) → Option (List ℕ) → Ending → Type 0
+PutsInput link report bytes left before after ending = PutsWhole before after
+    (ReportsInput link report bytes left ending)
 
 -- A front of the report was put, where the ending is known, and otherwise of the lines of the batches so far.
-abbrev pub PutsSome : Lines → Reports → Type 0 → List ℕ → Option (List ℕ) → Option (List ℕ) → Option (List ℕ) → Type 0
-PutsSome lines report read_failed bytes left before after =
-    ((ending : Ending) × IsMet read_failed ending × PutsFront before after (ReportsInput report bytes left ending))
-    ⊎ ((packets : List (List ℕ)) × Begins bytes left packets × PutsFront before after (IsLoopFront lines packets))
+abbrev pub PutsSome : ℕ → Lines → Reports → Type 0 → List ℕ → Option (List ℕ) → Option (List ℕ) → Option (List ℕ) →
+    Type 0
+PutsSome link lines report read_failed bytes left before after =
+    ((ending : Ending) × IsMet read_failed ending × PutsFront before after (ReportsInput link report bytes left ending))
+    ⊎ ((packets : List (List ℕ)) × Begins link bytes left packets × PutsFront before after (IsLoopFront lines packets))
 
 -- Where memory ran out, nothing was put, or the lines of all batches of an input whose ending is known, or the lines of
 -- the batches so far. More of the input may have been read.
-abbrev pub PutsLess : Lines → Type 0 → List ℕ → Option (List ℕ) → Option (List ℕ) → Option (List ℕ) → Type 0
-PutsLess lines read_failed bytes left before after =
+abbrev pub PutsLess : ℕ → Lines → Type 0 → List ℕ → Option (List ℕ) → Option (List ℕ) → Option (List ℕ) → Type 0
+PutsLess link lines read_failed bytes left before after =
     Keeps before after
-    ⊎ (((ending : Ending) × IsMet read_failed ending × PutsWhole before after (TellsInput lines bytes left ending))
-    ⊎ ((packets : List (List ℕ)) × IsFirst bytes packets × PutsWhole before after (IsLoopFront lines packets)))
+    ⊎ (((ending : Ending) × IsMet read_failed ending × PutsWhole before after (TellsInput link lines bytes left ending))
+    ⊎ ((packets : List (List ℕ)) × IsFirst link bytes packets × PutsWhole before after (IsLoopFront lines packets)))
 
 -- What a run leaves that ended so: of the input's bytes these are left, and the sink had taken `before` and has taken
 -- `after`.
-abbrev pub Leaves : Lines → Reports → Type 0 → List ℕ → Option (List ℕ) → Option (List ℕ) → Option (List ℕ) →
+abbrev pub Leaves : ℕ → Lines → Reports → Type 0 → List ℕ → Option (List ℕ) → Option (List ℕ) → Option (List ℕ) →
     Result Ending Stop → Type 0
-Leaves lines report read_failed bytes left before after (Ok ending) =
-    IsMet read_failed ending × PutsInput report bytes left before after ending
-Leaves lines report read_failed bytes left before after (Err NotPut) =
-    PutsSome lines report read_failed bytes left before after
-Leaves lines report read_failed bytes left before after (Err Memory) =
-    PutsLess lines read_failed bytes left before after
+Leaves link lines report read_failed bytes left before after (Ok ending) =
+    IsMet read_failed ending × PutsInput link report bytes left before after ending
+Leaves link lines report read_failed bytes left before after (Err NotPut) =
+    PutsSome link lines report read_failed bytes left before after
+Leaves link lines report read_failed bytes left before after (Err Memory) =
+    PutsLess link lines read_failed bytes left before after
 
 -- a fact of what was taken of a source; where memory ran out, of what had been taken at some moment of the run
 abbrev pub TookFor : Result Ending Stop → (first left : Option (List ℕ)) → (List ℕ → Type 0) → Type 0
@@ -93,9 +95,18 @@ TookFor (Err Memory) first left P = (between : Option (List ℕ)) × Took first 
 -- told just these: so these decide which answer it is. Of a source that tells nothing the second fact says only that
 -- there are some such bytes.
 pub record LoopLeavesAll (lines : Lines) (report : Reports) (read_failed : Type 0)
-    (first left before after : Option (List ℕ)) (answer : Result Ending Stop) : Type 0 where
-  pub told : (bytes : List ℕ) → first ≡ Some bytes → Leaves lines report read_failed bytes left before after answer
-  pub took : TookFor answer first left (λ taken. Leaves lines report read_failed taken (Some []) before after answer)
+    (link : ℕ) (first left before after : Option (List ℕ)) (answer : Result Ending Stop) : Type 0 where
+  pub told : (bytes : List ℕ) → first ≡ Some bytes → Leaves link lines report read_failed bytes left before after answer
+  pub took : TookFor answer first left
+      (λ taken. Leaves link lines report read_failed taken (Some []) before after answer)
+
+-- where the first packet starts that is too many: noted exactly if a run ended for that
+abbrev pub Marks : Result Ending Stop → (old new : Option ℕ) → (ℕ → Type 0) → Type 0
+Marks (Ok (Limit limit)) old new P = (place : ℕ) × (new ≡ Some place) × P place
+Marks (Ok (Done rest)) old new P = new ≡ old
+Marks (Ok ReadFault) old new P = new ≡ old
+Marks (Ok (Fault found)) old new P = new ≡ old
+Marks (Err stop) old new P = new ≡ old
 
 -- ---- devices that failed
 

@@ -16,17 +16,17 @@ pub record HasPut (before now : Option (List ℕ)) (held text : List ℕ) : Type
   pub whole : (done ≡ []) ⊎ (held ≡ [])
 
 -- these are the first packets of an input: where it tells its bytes, and by what was taken of it at some moment
-pub record HaveFirst (first : Option (List ℕ)) (packets : List (List ℕ)) : Type 0 where
-  pub told : (bytes : List ℕ) → first ≡ Some bytes → IsFirst bytes packets
-  pub took : (between : Option (List ℕ)) × Took first between (λ taken. IsFirst taken packets)
+pub record HaveFirst (link : ℕ) (first : Option (List ℕ)) (packets : List (List ℕ)) : Type 0 where
+  pub told : (bytes : List ℕ) → first ≡ Some bytes → IsFirst link bytes packets
+  pub took : (between : Option (List ℕ)) × Took first between (λ taken. IsFirst link taken packets)
 
 -- so many packets, which are these, were served in whole batches, and the text was put or is held
-pub record Stands (served : List (List (List ℕ)) → List ℕ → Type 0) (first : Option (List ℕ)) (many : ℕ)
+pub record Stands (served : List (List (List ℕ)) → List ℕ → Type 0) (link : ℕ) (first : Option (List ℕ)) (many : ℕ)
     (all : List (List ℕ)) (before now : Option (List ℕ)) (held : List ℕ) : Type 0 where
   pub batches : List (List (List ℕ))
   pub text : List ℕ
   pub count : length all ≡ many
-  pub firsts : HaveFirst first all
+  pub firsts : HaveFirst link first all
   pub whole : AreWhole all batches
   pub done : served batches text
   pub put : HasPut before now held text

@@ -9,8 +9,8 @@ use Rattle.capture_loop.specs.Input.{ServesUpTo}
 
 -- So far has an input been read, by what was taken of its source, which had these bytes left at first, and has these
 -- now, where it tells them. So it is then for the bytes that it told, too.
-abbrev pub HaveCome : (first now : Option (List ℕ)) → Reading → List (List ℕ) → Type 0
-HaveCome first now reading packets = Took first now (λ taken. HasRead taken reading (Some []) packets)
+abbrev pub HaveCome : (link : ℕ) (first now : Option (List ℕ)) → Reading → List (List ℕ) → Type 0
+HaveCome link first now reading packets = Took first now (λ taken. HasRead link taken reading (Some []) packets)
 
 -- A reader that stood at `old` met this ending, of what was taken of its source: `before` and `after` are the bytes
 -- that it had left, where it tells them. Behind an end nothing is left.
@@ -23,7 +23,7 @@ MeetsEnd old new before after (Limit limit) = ⊥
 
 -- and so it ended behind these packets, where no more than `most` are taken: where the source tells its bytes, and by
 -- what was taken of them
-pub record HaveEnded (most : ℕ) (first now : Option (List ℕ)) (packets : List (List ℕ)) (ending : Ending) :
+pub record HaveEnded (most : ℕ) (link : ℕ) (first now : Option (List ℕ)) (packets : List (List ℕ)) (ending : Ending) :
     Type 0 where
-  pub told : (bytes : List ℕ) → first ≡ Some bytes → ServesUpTo most bytes now packets ending
-  pub took : Took first now (λ taken. ServesUpTo most taken (Some []) packets ending)
+  pub told : (bytes : List ℕ) → first ≡ Some bytes → ServesUpTo link most bytes now packets ending
+  pub took : Took first now (λ taken. ServesUpTo link most taken (Some []) packets ending)

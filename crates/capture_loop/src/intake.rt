@@ -3,7 +3,9 @@
 ghost use Rattle.std.specs.Prelude.{◌≡◌, ◌<◌, ◌≤◌, ◌+◌, ℕ, List, [], ◌++◌, false, length, Option, Some, MatchOption, IfOk, IfSome, IfNone, OnErr};
 ghost use Rattle.edge_traits.specs.Edge.{Rose};
 ghost use Rattle.report_text.specs.Report.{IsEnding};
-ghost use Rattle.capture_loop.specs.Endings.{HasFailed};
+ghost use Rattle.capture_loop.specs.Endings.{HasFailed, OnLimit};
+ghost use Rattle.capture_loop.specs.Input.{StopsAt};
+ghost use Rattle.capture_loop.specs.Reading.{HaveCome};
 ghost use Rattle.capture_loop.specs.Intake.{IsRead, IsTaken};
 
 use crate::job::{BATCH, PACKET_LIMIT, Pile};
@@ -41,9 +43,15 @@ pub fn read_rest<S: Source, P: Pile>(
     ensures read { IfOk result (λ part. (old : List (List ℕ)) → P.holds pile.old before old → length old ≡ taken →
         (more : List (List ℕ)) × P.holds pile.new before (old ++ more) × (length (old ++ more) ≡ part.packets)
         × IsRead limit before (S.left source.old) (S.left source.new) reader.old reader.new old more part) }
+    ensures way { P.way pile.new ≡ P.way pile.old }
     ensures goes_on { IfOk result (λ part. IfNone part.ending ((reader.new.ended ≡ false)
         × (reader.new.given ≡ before + part.packets) × (part.packets ≡ BATCH)
         × (before + part.packets < limit))) }
+    ensures beyond { IfOk result (λ part. (old : List (List ℕ)) → P.holds pile.old before old →
+        length old ≡ taken → (link : ℕ) (first : Option (List ℕ)) (all : List (List ℕ)) → length all ≡ before →
+        HaveCome link first (S.left source.old) reader.old (all ++ old) →
+        IfSome part.ending (λ ending. OnLimit ending
+        (StopsAt link limit first (S.left source.new) reader.new.start))) }
     ensures few_packets { IfOk result (λ part. (part.packets ≤ BATCH) × (before + part.packets ≤ limit)) }
     ensures ending { IfOk result (λ part. IfSome part.ending IsEnding) }
     ensures read_fault { IfOk result (λ part. part.ending ≡ Some Ending.ReadFault →
@@ -85,7 +93,8 @@ pub fn take_held<P: Pile>(
     requires given { reader.old.given ≡ before }
     requires few { before < PACKET_LIMIT }
     requires none { P.holds pile.old before [] }
-    ensures { IfOk result (λ packets. (more : List (List ℕ)) × P.holds pile.new before more
+    ensures way { P.way pile.new ≡ P.way pile.old }
+    ensures taken { IfOk result (λ packets. (more : List (List ℕ)) × P.holds pile.new before more
         × (length more ≡ packets) × IsTaken reader.old reader.new before more) }
 {
     let most = BATCH.min(PACKET_LIMIT - before);

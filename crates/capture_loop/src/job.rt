@@ -27,6 +27,8 @@ pub struct Means<'a, R: Threads + Sync, G: Gate + Sync> {
 pub struct Piles<P: Pile> {
     pub now: P,
     pub next: P,
+    /// Where the first packet starts that is too many, in bytes from the input's first, where there is one.
+    pub beyond: Option<u64>,
 }
 
 /// How many packets a batch has; the last one may have fewer.
@@ -40,23 +42,29 @@ pub trait Pile {
     // It has these packets, which stand behind so many others.
     ghost holds: { Self → ℕ → List (List ℕ) → Type 0 };
 
+    // How it takes packets, as numbers, which no call changes.
+    ghost way: { Self → List ℕ };
+
     /// Takes the packet with this number, from 1.
     fn take(&mut self, number: u32, packet: &[u8]) -> Result<(), AllocError>
         requires some { (before : ℕ) × (packets : List (List ℕ)) × holds self.old before packets
             × (number ≡ before + length packets + 1) × (length packets + 1 ≤ BATCH) }
         requires short { length packet.now ≤ 262144 }
-        ensures { OnOk result ((before : ℕ) (packets : List (List ℕ)) → holds self.old before packets →
+        ensures way { way self.new ≡ way self.old }
+        ensures holds { OnOk result ((before : ℕ) (packets : List (List ℕ)) → holds self.old before packets →
             number ≡ before + length packets + 1 → holds self.new before (packets ++ packet.now ∷ [])) };
 
     /// Does what can be done of a whole batch before it is served.
     fn prepare(&mut self) -> Result<(), AllocError>
         requires some { (before : ℕ) × (packets : List (List ℕ)) × holds self.old before packets }
-        ensures { OnOk result ((before : ℕ) (packets : List (List ℕ)) → holds self.old before packets →
+        ensures way { way self.new ≡ way self.old }
+        ensures holds { OnOk result ((before : ℕ) (packets : List (List ℕ)) → holds self.old before packets →
             holds self.new before packets) };
 
     /// Gives up all its packets; the next one stands behind so many.
     fn clear(&mut self, before: u32)
-        ensures { holds self.new before [] };
+        ensures way { way self.new ≡ way self.old }
+        ensures none { holds self.new before [] };
 }
 
 /// What a batch is served with.
@@ -91,6 +99,9 @@ pub trait Job<P> {
 
     ghost report: { P → List (List (List ℕ)) → AnEnding → List ℕ → Type 0 };
 
+    // How its piles take packets, as numbers, which no call changes.
+    ghost way: { Self → List ℕ };
+
     // So many packets were served.
     ghost going: { Self → ℕ → Type 0 };
 
@@ -109,8 +120,10 @@ pub trait Job<P> {
         requires going { (before : ℕ) × (packets : List (List ℕ)) × going self.old before
             × Self.Pile.holds pile.old before packets × (length packets ≤ BATCH)
             × (before + length packets ≤ PACKET_LIMIT) }
+        requires way { Self.Pile.way pile.old ≡ way self.old }
         ensures few { IfOk result (λ made. vec_len made.workers ≤ 8) }
         ensures ready { IfOk result (λ made. All (Self.Worker.ready made.shared) made.workers.items) }
+        ensures ways { OnOk result ((way self.new ≡ way self.old) × (Self.Pile.way pile.new ≡ Self.Pile.way pile.old)) }
         ensures going { OnOk result ((before : ℕ) → going self.old before → going self.new before) }
         ensures done { OnOk result ((plan : P) (batches : List (List (List ℕ))) (put : List ℕ) →
             done self.old plan batches put → done self.new plan batches put) }
@@ -131,6 +144,7 @@ pub trait Job<P> {
             × opened self.old made.shared started made.kept before packets
             × AllZip (Self.Worker.done made.shared) started made.workers.items × (length packets ≤ BATCH)
             × (before + length packets ≤ PACKET_LIMIT) }
+        ensures way { OnOk result (way self.new ≡ way self.old) }
         ensures going { OnOk result ((started : List Self.Worker) (before : ℕ) (packets : List (List ℕ)) →
             going self.old before → opened self.old made.shared started made.kept before packets →
             AllZip (Self.Worker.done made.shared) started made.workers.items →

@@ -10,6 +10,6 @@ mod stop;
 
 pub use intake::{Part, read_rest, take_held};
 pub use job::{BATCH, Job, Means, Opened, PACKET_LIMIT, Pile, Piles};
-pub use looping::run_job;
+pub use looping::{mark, run_job};
 pub use opening::{Unopened, open, read_on, read_past};
 pub use stop::Stop;

@@ -7,10 +7,11 @@ ghost use Rattle.pcapng_reader.specs.Reading.{IsAtStart};
 ghost use Rattle.report_text.specs.Report.{IsEnding};
 ghost use Rattle.capture_loop.specs.Batches.{AreBatches};
 ghost use Rattle.capture_loop.specs.Intake.{IsTaken};
-ghost use Rattle.capture_loop.specs.Leaves.{IsMet, LoopLeavesAll, RunReads, RunWrites};
+ghost use Rattle.capture_loop.specs.Leaves.{IsMet, LoopLeavesAll, Marks, RunReads, RunWrites};
 ghost use Rattle.capture_loop.specs.Looping.{HasPut, OnMemory, OnNotPut, Stands};
 ghost use Rattle.capture_loop.specs.Reading.{HaveCome, HaveEnded};
-ghost use Rattle.capture_loop.specs.Input.{packet_limit};
+ghost use Rattle.capture_loop.specs.Endings.{OnLimit};
+ghost use Rattle.capture_loop.specs.Input.{StopsAt, packet_limit};
 
 use crate::intake::{read_rest, take_held};
 use crate::job::{BATCH, Job, Means, Opened, PACKET_LIMIT, Pile, Piles};
@@ -24,13 +25,14 @@ use std::mem;
 use std::thread::Threads;
 use trace_share::serve_on;
 
-/// Goes through the source's packets batch by batch, as the job does, and puts its report into the sink. The text holds
-/// the head line, and the first pile is empty.
+/// Goes through the source's packets of this link type batch by batch, as the job does, and puts its report into the
+/// sink. The text holds the head line, and the first pile is empty.
 ///
 /// While a batch is served, packets of the next one that the reader holds are taken into the other pile; the source is
 /// read only behind the lines of the batch. A read that fails is the input's end, and a write that fails ends the run.
 pub fn run_job<R: Threads + Sync, S: Source, K: Sink, G: Gate + Sync, P, J: Job<P>>(
     means: &Means<R, G>,
+    link: u16,
     job: &mut J,
     piles: &mut Piles<J::Pile>,
     source: &mut S,
@@ -39,9 +41,15 @@ pub fn run_job<R: Threads + Sync, S: Source, K: Sink, G: Gate + Sync, P, J: Job<
 ) -> Result<Ending, Stop>
     requires going { J.going job.old 0 }
     requires none { J.Pile.holds piles.old.now 0 [] }
+    requires ways { (J.Pile.way piles.old.now ≡ J.way job.old) × (J.Pile.way piles.old.next ≡ J.way job.old) }
     ensures leaves { (plan : P) → J.done job.old plan [] text.old.items → LoopLeavesAll (J.lines plan) (J.report plan)
         (Rose (S.faults source.old) (S.faults source.new))
-        (S.left source.old) (S.left source.new) (K.put sink.old) (K.put sink.new) result }
+        link (S.left source.old) (S.left source.new) (K.put sink.old) (K.put sink.new) result }
+
+    // Where the first packet starts that is not served, exactly if there were more than are taken.
+    ensures beyond { (plan : P) → J.done job.old plan [] text.old.items →
+        Marks result piles.old.beyond piles.new.beyond
+        (StopsAt link packet_limit (S.left source.old) (S.left source.new)) }
 
     // A device failed, and each that did is answered.
     ensures ending { IfOk result IsEnding }
@@ -51,8 +59,12 @@ pub fn run_job<R: Threads + Sync, S: Source, K: Sink, G: Gate + Sync, P, J: Job<
     ensures writes { RunWrites result (K.failed sink.old) (K.failed sink.new) }
     ensures counted { (S.faults source.old ≤ S.faults source.new) × (K.faults sink.old ≤ K.faults sink.new) }
 {
-    match open(means.alloc, source) {
-        Ok(mut reader) => go_through(means, job, piles, &mut reader, source, text, sink),
+    match open(means.alloc, link, source) {
+        Ok(mut reader) => {
+            let answer = go_through(means, job, piles, &mut reader, source, text, sink);
+            mark(&answer, reader.start(), &mut piles.beyond);
+            answer
+        }
         Err(unopened) => match unopened {
             Unopened::Ends(ending) => {
                 let last = Last { packets: 0, ending };
@@ -60,6 +72,15 @@ pub fn run_job<R: Threads + Sync, S: Source, K: Sink, G: Gate + Sync, P, J: Job<
             }
             Unopened::Memory => Err(Stop::Memory),
         },
+    }
+}
+
+/// Notes where the first packet starts that is too many, if a run ended for that.
+pub fn mark(answer: &Result<Ending, Stop>, start: u64, beyond: &mut Option<u64>)
+    ensures { Marks answer.now beyond.old beyond.new (λ place. place ≡ start) }
+{
+    if let Ok(Ending::Limit { .. }) = answer {
+        *beyond = Some(start);
     }
 }
 
@@ -84,11 +105,18 @@ fn go_through<R: Threads + Sync, S: Source, K: Sink, G: Gate + Sync, P, J: Job<P
     requires start { IsAtStart reader.old }
     requires going { J.going job.old 0 }
     requires none { J.Pile.holds piles.old.now 0 [] }
-    ensures leaves { (plan : P) (first before : Option (List ℕ)) (faults : ℕ) → faults ≤ S.faults source.old →
+    requires ways { (J.Pile.way piles.old.now ≡ J.way job.old) × (J.Pile.way piles.old.next ≡ J.way job.old) }
+    ensures leaves { (plan : P) (link : ℕ) (first before : Option (List ℕ)) (faults : ℕ) →
+        faults ≤ S.faults source.old →
         J.done job.old plan [] text.old.items → HasPut before (K.put sink.old) text.old.items text.old.items →
-        HaveCome first (S.left source.old) reader.old [] →
-        LoopLeavesAll (J.lines plan) (J.report plan) (Rose faults (S.faults source.new)) first (S.left source.new)
+        HaveCome link first (S.left source.old) reader.old [] →
+        LoopLeavesAll (J.lines plan) (J.report plan) (Rose faults (S.faults source.new)) link first (S.left source.new)
         before (K.put sink.new) result }
+    ensures beyond { (plan : P) (link : ℕ) (first before : Option (List ℕ)) →
+        J.done job.old plan [] text.old.items → HasPut before (K.put sink.old) text.old.items text.old.items →
+        HaveCome link first (S.left source.old) reader.old [] → IfOk result (λ ending. OnLimit ending
+        (StopsAt link packet_limit first (S.left source.new) reader.new.start)) }
+    ensures kept { piles.new.beyond ≡ piles.old.beyond }
     ensures ending { IfOk result IsEnding }
     ensures read_fault { result ≡ Ok Ending.ReadFault → Rose (S.faults source.old) (S.faults source.new) }
     ensures write_fault { OnNotPut result (Rose (K.faults sink.old) (K.faults sink.new)) }
@@ -137,7 +165,9 @@ fn serve<R: Threads + Sync, G: Gate + Sync, P, J: Job<P>, F: FnMut() -> A, A: Dr
     requires going { (before : ℕ) × (packets : List (List ℕ)) × J.going job.old before
         × J.Pile.holds pile.old before packets × (length packets ≤ BATCH)
         × (before + length packets ≤ PACKET_LIMIT) }
+    requires way { J.Pile.way pile.old ≡ J.way job.old }
     requires beside { F.pre beside.old }
+    ensures ways { OnOk result ((J.way job.new ≡ J.way job.old) × (J.Pile.way pile.new ≡ J.Pile.way pile.old)) }
     ensures going { OnOk result ((before : ℕ) (packets : List (List ℕ)) → J.going job.old before →
         J.Pile.holds pile.old before packets → J.going job.new (before + length packets)) }
     ensures served { OnOk result ((plan : P) (batches : List (List (List ℕ))) (put : List ℕ) (before : ℕ)
@@ -184,6 +214,9 @@ fn serve_ahead<R: Threads + Sync, G: Gate + Sync, P, J: Job<P>>(
     requires stands { reader.old.given ≡ before }
     requires room { before < PACKET_LIMIT }
     requires none { J.Pile.holds next.old before [] }
+    requires way { J.Pile.way pile.old ≡ J.way job.old }
+    ensures ways { OnOk result ((J.way job.new ≡ J.way job.old) × (J.Pile.way pile.new ≡ J.Pile.way pile.old)
+        × (J.Pile.way next.new ≡ J.Pile.way next.old)) }
     ensures going { OnOk result ((many : ℕ) (packets : List (List ℕ)) → J.going job.old many →
         J.Pile.holds pile.old many packets → J.going job.new (many + length packets)) }
     ensures served { OnOk result ((plan : P) (batches : List (List (List ℕ))) (put : List ℕ) (many : ℕ)
@@ -201,7 +234,8 @@ fn serve_ahead<R: Threads + Sync, G: Gate + Sync, P, J: Job<P>>(
         &mut || -> Result<u32, AllocError>
             requires { (reader.now.ended ≡ false) × (reader.now.given ≡ before) × (before < PACKET_LIMIT)
                 × J.Pile.holds next.now before [] }
-            ensures { IfOk result (λ packets. (more : List (List ℕ)) × J.Pile.holds next.exit.now before more
+            ensures { (J.Pile.way next.exit.now ≡ J.Pile.way next.entry.now)
+                × IfOk result (λ packets. (more : List (List ℕ)) × J.Pile.holds next.exit.now before more
                 × (length more ≡ packets) × IsTaken reader.entry.now reader.exit.now before more) }
         { take_held(reader, before, next) },
     )
@@ -232,6 +266,7 @@ fn serve_one<R: Threads + Sync, K: Sink, G: Gate + Sync, P, J: Job<P>>(
 ) -> Result<(), Stop>
     requires going { (many : ℕ) × (packets : List (List ℕ)) × J.going job.old many
         × J.Pile.holds pile.old many packets × (length packets ≤ BATCH) × (many + length packets ≤ PACKET_LIMIT) }
+    requires way { J.Pile.way pile.old ≡ J.way job.old }
     ensures going { OnOk result ((many : ℕ) (packets : List (List ℕ)) → J.going job.old many →
         J.Pile.holds pile.old many packets → J.going job.new (many + length packets)) }
     ensures served { OnOk result ((plan : P) (batches : List (List (List ℕ))) (done : List ℕ)
@@ -270,13 +305,15 @@ fn serve_last<R: Threads + Sync, K: Sink, G: Gate + Sync, P, J: Job<P>>(
     requires going { J.going job.old many }
     requires piled { (packets : List (List ℕ)) × J.Pile.holds pile.old many packets
         × (length packets ≡ last.packets) }
+    requires way { J.Pile.way pile.old ≡ J.way job.old }
     requires few { (last.packets ≤ BATCH) × (many + last.packets ≤ PACKET_LIMIT) }
     requires ending { IsEnding last.ending }
-    ensures leaves { (plan : P) (faults now : ℕ) (first left before : Option (List ℕ)) (all packets : List (List ℕ)) →
-        Stands (J.done job.old plan) first many all before (K.put sink.old) text.old.items →
+    ensures leaves { (plan : P) (faults now : ℕ) (link : ℕ) (first left before : Option (List ℕ))
+        (all packets : List (List ℕ)) →
+        Stands (J.done job.old plan) link first many all before (K.put sink.old) text.old.items →
         J.Pile.holds pile.old many packets → length packets ≡ last.packets →
-        HaveEnded packet_limit first left (all ++ packets) last.ending → IsMet (Rose faults now) last.ending →
-        LoopLeavesAll (J.lines plan) (J.report plan) (Rose faults now) first left before (K.put sink.new) result }
+        HaveEnded packet_limit link first left (all ++ packets) last.ending → IsMet (Rose faults now) last.ending →
+        LoopLeavesAll (J.lines plan) (J.report plan) (Rose faults now) link first left before (K.put sink.new) result }
     ensures same { IfOk result (λ ending. ending ≡ last.ending) }
     ensures write_fault { OnNotPut result (Rose (K.faults sink.old) (K.faults sink.new)) }
     ensures writes { RunWrites result (K.failed sink.old) (K.failed sink.new) }
@@ -301,11 +338,11 @@ fn end_run<K: Sink, P, J: Job<P>>(
 ) -> Result<Ending, Stop>
     requires going { J.going job.now packets }
     requires ending { IsEnding ending }
-    ensures leaves { (plan : P) (faults now : ℕ) (first left before : Option (List ℕ)) (all : List (List ℕ))
+    ensures leaves { (plan : P) (faults now : ℕ) (link : ℕ) (first left before : Option (List ℕ)) (all : List (List ℕ))
         (batches : List (List (List ℕ))) (done : List ℕ) → J.done job.now plan batches done →
         AreBatches all batches → HasPut before (K.put sink.old) text.old.items done →
-        HaveEnded packet_limit first left all ending → IsMet (Rose faults now) ending →
-        LoopLeavesAll (J.lines plan) (J.report plan) (Rose faults now) first left before (K.put sink.new) result }
+        HaveEnded packet_limit link first left all ending → IsMet (Rose faults now) ending →
+        LoopLeavesAll (J.lines plan) (J.report plan) (Rose faults now) link first left before (K.put sink.new) result }
     ensures same { IfOk result (λ last. last ≡ ending) }
     ensures write_fault { OnNotPut result (Rose (K.faults sink.old) (K.faults sink.new)) }
     ensures writes { RunWrites result (K.failed sink.old) (K.failed sink.new) }

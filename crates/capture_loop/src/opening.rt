@@ -5,7 +5,8 @@ ghost use Rattle.edge_traits.specs.Edge.{Rose};
 ghost use Rattle.pcap_reader.specs.Reading.{Took};
 ghost use Rattle.pcapng_reader.specs.Reading.{GivesPacket, IsAtStart};
 ghost use Rattle.report_text.specs.Report.{IsEnding};
-ghost use Rattle.capture_loop.specs.Endings.{ending_at, ending_of, HasFailed, OnEnds};
+ghost use Rattle.capture_loop.specs.Endings.{ending_at, ending_of, HasFailed, OnEnds, OnLimit};
+ghost use Rattle.capture_loop.specs.Input.{StopsAt};
 ghost use Rattle.capture_loop.specs.Reading.{HaveCome, HaveEnded, MeetsEnd};
 
 use capture_faults::{AnyFault, CaptureFault};
@@ -23,13 +24,13 @@ pub enum Unopened {
     Ends(Ending),
 }
 
-/// Reads the head of an input. Memory runs out before anything is read.
-pub fn open<S: Source>(alloc: Global, source: &mut S) -> Result<AnyReader, Unopened>
+/// Reads the head of an input, of which packets of this link type are looked at. If memory runs out, nothing is read.
+pub fn open<S: Source>(alloc: Global, link: u16, source: &mut S) -> Result<AnyReader, Unopened>
     ensures start { IfOk result IsAtStart }
-    ensures come { IfOk result (λ reader. HaveCome (S.left source.old) (S.left source.new) reader []) }
+    ensures come { IfOk result (λ reader. HaveCome link (S.left source.old) (S.left source.new) reader []) }
     ensures ending { IfErr result (λ fault. OnEnds fault IsEnding) }
     ensures ended { IfErr result (λ fault. OnEnds fault (λ ending. (limit : ℕ) →
-        HaveEnded limit (S.left source.old) (S.left source.new) [] ending)) }
+        HaveEnded limit link (S.left source.old) (S.left source.new) [] ending)) }
     ensures memory { result ≡ Err Unopened.Memory → source.new ≡ source.old }
     ensures read_fault { result ≡ Err (Unopened.Ends Ending.ReadFault) →
         Rose (S.faults source.old) (S.faults source.new) }
@@ -38,7 +39,7 @@ pub fn open<S: Source>(alloc: Global, source: &mut S) -> Result<AnyReader, Unope
     ensures failed { IfErr result (λ fault. OnEnds fault (λ ending.
         HasFailed (Some ending) (S.failed source.old) (S.failed source.new))) }
 {
-    match AnyReader::open(alloc, source) {
+    match AnyReader::open(alloc, link, source) {
         Ok(reader) => Ok(reader),
         Err(fault) => match ending_at(fault) {
             Some(ending) => Err(Unopened::Ends(ending)),
@@ -92,9 +93,12 @@ fn ending_of(fault: AnyFault) -> Ending
 pub fn read_past<S: Source>(reader: &mut AnyReader, source: &mut S, limit: u32) -> Ending
     requires going { reader.old.ended ≡ false }
     requires few { reader.old.given < 2 ^ 32 - 1 }
-    ensures ended { (first : Option (List ℕ)) (packets : List (List ℕ)) →
-        HaveCome first (S.left source.old) reader.old packets → length packets ≡ limit →
-        HaveEnded limit first (S.left source.new) packets result }
+    ensures ended { (link : ℕ) (first : Option (List ℕ)) (packets : List (List ℕ)) →
+        HaveCome link first (S.left source.old) reader.old packets → length packets ≡ limit →
+        HaveEnded limit link first (S.left source.new) packets result }
+    ensures beyond { (link : ℕ) (first : Option (List ℕ)) (packets : List (List ℕ)) →
+        HaveCome link first (S.left source.old) reader.old packets → length packets ≡ limit →
+        OnLimit result (StopsAt link limit first (S.left source.new) reader.new.start) }
     ensures ending { IsEnding result }
     ensures read_fault { result ≡ Ending.ReadFault → Rose (S.faults source.old) (S.faults source.new) }
     ensures counted { S.faults source.old ≤ S.faults source.new }

@@ -3,7 +3,7 @@ use Rattle.std.proofs.Common.{◌≡◌, ◌∙◌, ◌<◌, ◌≤◌, ◌^◌,
 use Rattle.std.proofs.Common.{IfSome, ap, ap₂, refl, arith}
 use Rattle.std.specs.Fmt.{decimal as written}
 use Rattle.std.specs.List.{list_all}
-use Rattle.std.specs.Option.{option_map}
+use Rattle.std.specs.Option.{option_map, option_map_or}
 use Rattle.std.specs.Prelude.{replicate}
 use Rattle.std.specs.Str.Parse.{IsNumeral, digits_value, without_leading_plus}
 use Rattle.std.proofs.lemmas.Fmt.{decimal_is_IsNumeral}
@@ -14,14 +14,18 @@ use Rattle.hash_bits.specs.declared.hashing.Hashing.TheVariants.{Mix, Ports}
 use Rattle.step_counts.specs.declared.rows.SeatRows.{SeatRows}
 use Rattle.trace_share.specs.declared.deals.Share.{Share}
 use Rattle.trace_share.specs.declared.deals.Share.TheVariants.{Round, Block, Flow}
-use Rattle.command_line.specs.Command.{Number, capture_number, depth, items, packets, seats, seed, start}
-use Rattle.command_line.specs.CommandLines.{IsAskable, as_used, asked, default_plan, given_of, hash_text, is_in}
+use Rattle.packet_heads.specs.declared.framing.Link.{Link}
+use Rattle.packet_heads.specs.declared.framing.Link.TheVariants as link
+use Rattle.packet_heads.specs.Heads.{plain_framing}
+use Rattle.command_line.specs.Command.{Number, capture_number, depth, extensions, items, packets, seats, seed, start}
+use Rattle.command_line.specs.Command.{tags}
+use Rattle.command_line.specs.CommandLines.{IsAskable, as_used, asked, asked_framing, default_plan, given_of, hash_text, is_in}
 use Rattle.command_line.specs.CommandLines.{line_of}
-use Rattle.command_line.specs.CommandLines.{lists_of, rows_text, seed_of, share_text, tests}
+use Rattle.command_line.specs.CommandLines.{link_text, lists_of, rows_text, seed_of, share_text, tests}
 use Rattle.command_line.specs.Texts.{AreRowsInRange}
 use Rattle.line_fields.specs.Reading.{◌>>=◌}
 use Rattle.command_line.specs.Words.{asked_rows, asked_schedule, asked_stops, decimal, hashing_of, reads, share_of}
-use Rattle.command_line.specs.Words.{start_below}
+use Rattle.command_line.specs.Words.{link_of, start_below}
 use Rattle.command_line.specs.declared.plan.Mode.{Mode}
 use Rattle.command_line.specs.declared.plan.Mode.TheVariants.{Serve, Play, Make, Trial, Totals, Check}
 use Rattle.command_line.specs.declared.plan.Plan.{Plan}
@@ -57,10 +61,41 @@ rows_back : (rows : Option SeatRows) → IfSome rows AreRowsInRange → asked_ro
 rows_back None h = refl
 rows_back (Some rows) h = ap (option_map (λ (r : SeatRows). Some r)) (rows_text_back rows h)
 
+link_back : (l : Link) → link_of (link_text l) ≡ Some l
+link_back link.Null = refl
+link_back link.Ethernet = refl
+link_back link.Ppp = refl
+link_back link.Raw12 = refl
+link_back link.Raw14 = refl
+link_back link.Raw = refl
+link_back link.Loop = refl
+link_back link.LinuxSll = refl
+link_back link.Ipv4 = refl
+link_back link.Ipv6 = refl
+link_back link.LinuxSll2 = refl
+
+tags_back : (given : Option ℕ) → IfSome given (λ most. most ≤ tags.most) →
+    option_map decimal (option_map written given) ≡ given
+tags_back None h = refl
+tags_back (Some most) h = ap (λ n. Some n) (read_back most (omega (arith, h)))
+
+framing_back : (p : Plan) → IsAskable p → asked_framing (given_of p) (lists_of p) ≡ Some p.framing
+framing_back p h =
+    let l = link_back p.framing.link in
+    let t = tags_back p.framing.tags h.tags in
+    let e = read_back p.framing.extensions (omega (arith, h.extensions)) in
+    λ i. (l i) >>= (λ link. Some (record { link = link; tags = t i; extensions = e i }))
+
 and : {a b : Bool} → a ≡ true → b ≡ true → (a && b) ≡ true
 and e f = ap₂ (λ x y. x && y) e f
 
-all_pass : (p : Plan) → IsAskable p → list_all (λ b. b) (tests (given_of p)) ≡ true
+-- so are tags, where they are given
+tags_pass : (given : Option ℕ) → IfSome given (λ most. most ≤ tags.most) →
+    option_map_or (is_in tags) (option_map written given) true ≡ true
+tags_pass None h = refl
+tags_pass (Some most) h = passes tags most (omega arith) h (omega (arith, h))
+
+all_pass : (p : Plan) → IsAskable p → list_all (λ b. b) (tests (given_of p) (lists_of p)) ≡ true
 all_pass p h =
     let r = h.range.settings in
     and (passes seats p.seats r.seats_in_range.0 r.seats_in_range.1 (omega arith))
@@ -69,7 +104,9 @@ all_pass p h =
     (and (passes start p.start (omega arith) (omega arith) (omega arith))
     (and (passes seed (seed_of p.hashing) (omega arith) (omega arith) h.seed)
     (and (passes capture_number p.number (omega arith) (omega arith) h.number)
-    (and (passes packets p.packets (omega arith) h.range.packets (omega arith)) refl))))))
+    (and (passes packets p.packets (omega arith) h.range.packets (omega arith))
+    (and (passes extensions p.framing.extensions (omega arith) h.extensions (omega (arith, h.extensions)))
+    (and (tags_pass p.framing.tags h.tags) refl))))))))
 
 serve_back : (p : Plan) → IsAskable p → asked Serve (given_of p) (lists_of p) ≡ Some (as_used p Serve)
 serve_back p h =
@@ -81,7 +118,9 @@ serve_back p h =
     let hs = hash_back p.hashing h.seed in
     let sh = share_back p.share in
     let rs = rows_back p.rows h.range.rows in
-    λ i. (rs i) >>= (λ rows. (s i) >>= (λ start. (hs i) >>= (λ hashing. (sh i) >>= (λ share. Some (record {
+    let fr = framing_back p h in
+    λ i. (rs i) >>= (λ rows. (s i) >>= (λ start. (hs i) >>= (λ hashing. (sh i) >>= (λ share. (fr i) >>= (λ framing.
+    Some (record {
       mode = Serve;
       seats = n i;
       items = b i;
@@ -94,7 +133,8 @@ serve_back p h =
       stops = replicate (n i) None;
       number = 0;
       packets = 1000;
-    })))))
+      framing = framing;
+    }))))))
 
 play_back : (p : Plan) → IsAskable p → asked Play (given_of p) (lists_of p) ≡ Some (as_used p Play)
 play_back p h =
@@ -110,8 +150,9 @@ play_back p h =
     let sc = ap (λ n. asked_schedule n (lists_of p).schedule) n
     ∙ schedule_back p.seats few p.schedule h.segments h.few in
     let st = ap (λ n. asked_stops n (lists_of p).stop) n ∙ stops_back p.seats few p.stops h.one_each h.stops in
+    let fr = framing_back p h in
     λ i. (rs i) >>= (λ rows. (sc i) >>= (λ schedule. (st i) >>= (λ stops. (s i) >>= (λ start.
-    (hs i) >>= (λ hashing. (sh i) >>= (λ share. Some (record {
+    (hs i) >>= (λ hashing. (sh i) >>= (λ share. (fr i) >>= (λ framing. Some (record {
       mode = Play;
       seats = n i;
       items = b i;
@@ -124,7 +165,8 @@ play_back p h =
       stops = stops;
       number = 0;
       packets = 1000;
-    })))))))
+      framing = framing;
+    }))))))))
 
 make_back : (p : Plan) → IsAskable p → asked Make (given_of p) (lists_of p) ≡ Some (as_used p Make)
 make_back p h =
@@ -155,13 +197,20 @@ trial_back p h =
       stops = replicate (n i) None;
       number = x i;
       packets = k i;
+      framing = plain_framing;
     }))
 
 totals_back : (p : Plan) → IsAskable p → asked Totals (given_of p) (lists_of p) ≡ Some (as_used p Totals)
 totals_back p h =
     let few : p.seats ≤ 8 = omega (arith, h.range.settings.seats_in_range) in
     let n = read_back p.seats (omega arith) in
-    λ i. Some (record default_plan { mode = Totals; seats = n i; stops = replicate (n i) None })
+    let fr = framing_back p h in
+    λ i. (fr i) >>= (λ framing. Some (record default_plan {
+      mode = Totals;
+      seats = n i;
+      stops = replicate (n i) None;
+      framing = framing;
+    }))
 
 asked_back : (p : Plan) → IsAskable p → (mode : Mode)
     → asked mode (given_of p) (lists_of p) ≡ Some (as_used p mode)

@@ -85,11 +85,19 @@ capture_number = number (codes "number") 0 (2 ^ 64 - 1) 0
 abbrev pub packets : Number
 packets = number (codes "packets") 0 4000000 1000
 
+-- it has no default: where it is not given, another rule holds
+abbrev pub tags : Number
+tags = number (codes "tags") 0 4 0
+
+-- the most extension heads of IPv6 that a packet is looked behind
+abbrev pub extensions : Number
+extensions = number (codes "extensions") 0 8 0
+
 abbrev pub numbers : List Number
-numbers = seats ∷ items ∷ depth ∷ start ∷ seed ∷ capture_number ∷ packets ∷ []
+numbers = seats ∷ items ∷ depth ∷ start ∷ seed ∷ capture_number ∷ packets ∷ tags ∷ extensions ∷ []
 
 abbrev pub texts : List Text
-texts = codes "hash" ∷ codes "share" ∷ codes "rows" ∷ codes "schedule" ∷ codes "stop" ∷ []
+texts = codes "hash" ∷ codes "share" ∷ codes "rows" ∷ codes "schedule" ∷ codes "stop" ∷ codes "link" ∷ []
 
 -- the command of the program
 unfoldable pub flowdir_app : App

@@ -1,7 +1,7 @@
 -- Some command lines: one with each option, and the line that asks for a given plan.
-use Rattle.std.specs.Prelude.{ℕ, ◌<◌, ◌^◌, Bool, List, [], ◌∷◌, ◌++◌, Option, Some, None, codes}
+use Rattle.std.specs.Prelude.{ℕ, ◌<◌, ◌^◌, Bool, true, List, [], ◌∷◌, ◌++◌, Option, Some, None, codes}
 use Rattle.std.specs.Fmt.{decimal as written}
-use Rattle.std.specs.Option.{option_map}
+use Rattle.std.specs.Option.{option_map, option_map_or}
 use Rattle.clap.specs.Faults.{fault_of}
 use Rattle.clap.specs.Kinds.{Kinds}
 use Rattle.clap.specs.ValueTests.{is_unsigned_in}
@@ -11,12 +11,17 @@ use Rattle.hash_bits.specs.declared.hashing.Hashing.TheVariants.{Mix, Ports}
 use Rattle.step_counts.specs.declared.rows.SeatRows.{SeatRows}
 use Rattle.trace_share.specs.declared.deals.Share.{Share}
 use Rattle.trace_share.specs.declared.deals.Share.TheVariants.{Round, Block, Flow}
-use Rattle.command_line.specs.Command.{Number, capture_number, depth, flowdir_app, items, packets, seats, seed, start}
+use Rattle.packet_heads.specs.declared.framing.Framing.{Framing}
+use Rattle.packet_heads.specs.declared.framing.Link.{Link}
+use Rattle.packet_heads.specs.declared.framing.Link.TheVariants as link
+use Rattle.packet_heads.specs.Heads.{plain_framing}
+use Rattle.command_line.specs.Command.{Number, capture_number, depth, extensions, flowdir_app, items, packets, seats}
+use Rattle.command_line.specs.Command.{seed, start, tags}
 use Rattle.command_line.specs.Plays.{colon, most_segments, most_slots, most_steps, star}
 use Rattle.command_line.specs.Texts.{comma}
 use Rattle.line_fields.specs.Reading.{◌>>=◌}
 use Rattle.command_line.specs.Words.{IsInRange, asked_rows, asked_schedule, asked_stops, decimal, hashing_of}
-use Rattle.command_line.specs.Words.{share_of, start_below}
+use Rattle.command_line.specs.Words.{link_of, share_of, start_below}
 use Rattle.command_line.specs.declared.plan.Mode.{Mode}
 use Rattle.command_line.specs.declared.plan.Mode.TheVariants.{Serve, Play, Make, Trial, Totals, Check}
 use Rattle.command_line.specs.declared.plan.Plan.{Plan}
@@ -40,6 +45,7 @@ default_plan = record {
   stops = None ∷ None ∷ [];
   number = 0;
   packets = 1000;
+  framing = plain_framing;
 }
 
 -- what the command finds wrong in the words
@@ -58,6 +64,8 @@ pub record Given : Type 0 where
   pub share : Text
   pub number : Text
   pub packets : Text
+  pub link : Text
+  pub extensions : Text
 
 abbrev pub mode_text : Mode → Text
 mode_text Serve = codes "serve"
@@ -71,13 +79,15 @@ abbrev pub line_with : Mode → Given → List Text → List Text
 line_with mode g more = mode_text mode ∷ (codes "--seats=" ++ g.seats) ∷ (codes "--items=" ++ g.items)
     ∷ (codes "--depth=" ++ g.depth) ∷ (codes "--start=" ++ g.start) ∷ (codes "--hash=" ++ g.hash)
     ∷ (codes "--seed=" ++ g.seed) ∷ (codes "--share=" ++ g.share) ∷ (codes "--number=" ++ g.number)
-    ∷ (codes "--packets=" ++ g.packets) ∷ more
+    ∷ (codes "--packets=" ++ g.packets) ∷ (codes "--link=" ++ g.link)
+    ∷ (codes "--extensions=" ++ g.extensions) ∷ more
 
 -- the texts that have no default
 pub record Lists : Type 0 where
   pub rows : Option Text
   pub schedule : Option Text
   pub stop : Option Text
+  pub tags : Option Text
 
 -- an option and its text, or nothing
 abbrev pub words_of : Text → Option Text → List Text
@@ -87,15 +97,23 @@ words_of name (Some text) = (name ++ text) ∷ []
 abbrev pub line : Mode → Given → Lists → List Text
 line mode g lists =
     line_with mode g (words_of (codes "--rows=") lists.rows ++ (words_of (codes "--schedule=") lists.schedule
-    ++ words_of (codes "--stop=") lists.stop))
+    ++ (words_of (codes "--stop=") lists.stop ++ words_of (codes "--tags=") lists.tags)))
 
 abbrev pub is_in : Number → Text → Bool
 is_in n text = is_unsigned_in n.least n.most text
 
 -- is each number one in its range?
-abbrev pub tests : Given → List Bool
-tests g = is_in seats g.seats ∷ is_in items g.items ∷ is_in depth g.depth ∷ is_in start g.start ∷ is_in seed g.seed
-    ∷ is_in capture_number g.number ∷ is_in packets g.packets ∷ []
+abbrev pub tests : Given → Lists → List Bool
+tests g lists = is_in seats g.seats ∷ is_in items g.items ∷ is_in depth g.depth ∷ is_in start g.start ∷ is_in seed
+    g.seed
+    ∷ is_in capture_number g.number ∷ is_in packets g.packets ∷ is_in extensions g.extensions
+    ∷ option_map_or (is_in tags) lists.tags true ∷ []
+
+-- how the packets of a capture are framed, by the texts
+abbrev pub asked_framing : Given → Lists → Option Framing
+asked_framing g lists = do
+  link ← link_of g.link
+  Some (record { link = link; tags = option_map decimal lists.tags; extensions = decimal g.extensions })
 
 -- the plan of the texts: of those that the mode uses alone
 abbrev pub asked : Mode → Given → Lists → Option Plan
@@ -104,6 +122,7 @@ asked Serve g lists = do
   start ← start_below (decimal g.depth) (decimal g.start)
   hashing ← hashing_of g.hash (decimal g.seed)
   share ← share_of g.share
+  framing ← asked_framing g lists
   Some (record {
     mode = Serve;
     seats = decimal g.seats;
@@ -117,6 +136,7 @@ asked Serve g lists = do
     stops = replicate (decimal g.seats) None;
     number = 0;
     packets = 1000;
+    framing = framing;
   })
 asked Play g lists = do
   rows ← asked_rows lists.rows
@@ -125,6 +145,7 @@ asked Play g lists = do
   start ← start_below (decimal g.depth) (decimal g.start)
   hashing ← hashing_of g.hash (decimal g.seed)
   share ← share_of g.share
+  framing ← asked_framing g lists
   Some (record {
     mode = Play;
     seats = decimal g.seats;
@@ -138,6 +159,7 @@ asked Play g lists = do
     stops = stops;
     number = 0;
     packets = 1000;
+    framing = framing;
   })
 asked Make g lists = Some (record default_plan {
   mode = Make;
@@ -159,12 +181,16 @@ asked Trial g lists = do
     stops = replicate (decimal g.seats) None;
     number = decimal g.number;
     packets = decimal g.packets;
+    framing = plain_framing;
   })
-asked Totals g lists = Some (record default_plan {
-  mode = Totals;
-  seats = decimal g.seats;
-  stops = replicate (decimal g.seats) None;
-})
+asked Totals g lists = do
+  framing ← asked_framing g lists
+  Some (record default_plan {
+    mode = Totals;
+    seats = decimal g.seats;
+    stops = replicate (decimal g.seats) None;
+    framing = framing;
+  })
 asked Check g lists = Some (record default_plan { mode = Check })
 
 -- ---- the line that asks for a plan
@@ -182,6 +208,19 @@ share_text Round = codes "round"
 share_text Block = codes "block"
 share_text Flow = codes "flow"
 
+abbrev pub link_text : Link → Text
+link_text link.Null = codes "0"
+link_text link.Ethernet = codes "1"
+link_text link.Ppp = codes "9"
+link_text link.Raw12 = codes "12"
+link_text link.Raw14 = codes "14"
+link_text link.Raw = codes "101"
+link_text link.Loop = codes "108"
+link_text link.LinuxSll = codes "113"
+link_text link.Ipv4 = codes "228"
+link_text link.Ipv6 = codes "229"
+link_text link.LinuxSll2 = codes "276"
+
 abbrev pub given_of : Plan → Given
 given_of p = record {
   seats = written p.seats;
@@ -193,6 +232,8 @@ given_of p = record {
   share = share_text p.share;
   number = written p.number;
   packets = written p.packets;
+  link = link_text p.framing.link;
+  extensions = written p.framing.extensions;
 }
 
 -- four numbers with commas between
@@ -228,6 +269,7 @@ lists_of p = record {
   rows = option_map rows_text p.rows;
   schedule = joined (map segment_text p.schedule);
   stop = joined (map stop_text (stopped_from 0 p.stops));
+  tags = option_map written p.framing.tags;
 }
 
 abbrev pub line_of : Plan → List Text
@@ -243,6 +285,8 @@ pub record IsAskable (p : Plan) : Type 0 where
   pub range : IsInRange p
   pub seed : seed_of p.hashing < 2 ^ 64
   pub number : p.number < 2 ^ 64
+  pub tags : IfSome p.framing.tags (λ most. most ≤ tags.most)
+  pub extensions : p.framing.extensions ≤ extensions.most
   pub segments : All (IsAskedSegment p.seats) p.schedule
   pub few : length p.schedule ≤ most_segments
   pub one_each : length p.stops ≡ p.seats
@@ -263,6 +307,7 @@ as_used p Serve = record {
   stops = replicate p.seats None;
   number = 0;
   packets = 1000;
+  framing = p.framing;
 }
 as_used p Play = record {
   mode = Play;
@@ -277,6 +322,7 @@ as_used p Play = record {
   stops = p.stops;
   number = 0;
   packets = 1000;
+  framing = p.framing;
 }
 as_used p Make = record default_plan { mode = Make; number = p.number; packets = p.packets }
 as_used p Trial = record {
@@ -292,6 +338,12 @@ as_used p Trial = record {
   stops = replicate p.seats None;
   number = p.number;
   packets = p.packets;
+  framing = plain_framing;
 }
-as_used p Totals = record default_plan { mode = Totals; seats = p.seats; stops = replicate p.seats None }
+as_used p Totals = record default_plan {
+  mode = Totals;
+  seats = p.seats;
+  stops = replicate p.seats None;
+  framing = p.framing;
+}
 as_used p Check = record default_plan { mode = Check }

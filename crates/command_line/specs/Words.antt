@@ -18,7 +18,10 @@ use Rattle.step_counts.specs.Ranges.{AreInRange}
 use Rattle.step_counts.specs.declared.rows.SeatRows.{SeatRows}
 use Rattle.trace_share.specs.declared.deals.Share.{Share}
 use Rattle.trace_share.specs.declared.deals.Share.TheVariants.{Round, Block, Flow}
-use Rattle.command_line.specs.Command.{Number, capture_number, depth, flowdir_app, items, packets, seats, seed, start}
+use Rattle.packet_heads.specs.declared.framing.Framing.{Framing}
+use Rattle.packet_heads.specs.declared.framing.Link.{Link}
+use Rattle.packet_heads.specs.declared.framing.Link.TheVariants as link
+use Rattle.command_line.specs.Command.{Number, capture_number, depth, extensions, flowdir_app, items, packets, seats, seed, start}
 use Rattle.command_line.specs.Plays.{schedule_of, stops_of}
 use Rattle.command_line.specs.Texts.{AreRowsInRange, at_most, rows_of}
 use Rattle.line_fields.specs.Reading.{◌>>=◌}
@@ -82,6 +85,15 @@ makes_capture mode.Trial = true
 makes_capture mode.Totals = false
 makes_capture mode.Check = false
 
+-- the mode reads a capture: it uses `link`, `tags` and `extensions`
+abbrev pub reads_capture : Mode → Bool
+reads_capture mode.Serve = true
+reads_capture mode.Play = true
+reads_capture mode.Make = false
+reads_capture mode.Trial = false
+reads_capture mode.Totals = true
+reads_capture mode.Check = false
+
 -- the number of an option that may be used, or its default
 abbrev pub number_if : Bool → Values → Number → ℕ
 number_if uses given n = if uses then number_in given n else n.default
@@ -118,6 +130,42 @@ share_in mode.Make given = Some Round
 share_in mode.Trial given = Some Flow
 share_in mode.Totals given = Some Round
 share_in mode.Check given = Some Round
+
+-- the link type of a number, as it stands
+abbrev pub link_of : Text → Option Link
+link_of text = if bytes_eq text (codes "0") then Some link.Null
+    else (if bytes_eq text (codes "1") then Some link.Ethernet
+    else (if bytes_eq text (codes "9") then Some link.Ppp
+    else (if bytes_eq text (codes "12") then Some link.Raw12
+    else (if bytes_eq text (codes "14") then Some link.Raw14
+    else (if bytes_eq text (codes "101") then Some link.Raw
+    else (if bytes_eq text (codes "108") then Some link.Loop
+    else (if bytes_eq text (codes "113") then Some link.LinuxSll
+    else (if bytes_eq text (codes "228") then Some link.Ipv4
+    else (if bytes_eq text (codes "229") then Some link.Ipv6
+    else (if bytes_eq text (codes "276") then Some link.LinuxSll2 else None))))))))))
+
+abbrev pub link_in : Mode → Values → Option Link
+link_in mode.Serve given = link_of (text_in given (codes "link") (codes "1"))
+link_in mode.Play given = link_of (text_in given (codes "link") (codes "1"))
+link_in mode.Make given = Some link.Ethernet
+link_in mode.Trial given = Some link.Ethernet
+link_in mode.Totals given = link_of (text_in given (codes "link") (codes "1"))
+link_in mode.Check given = Some link.Ethernet
+
+-- how many tags may stand there, where it is given
+abbrev pub tags_in : Mode → Values → Option ℕ
+tags_in mode given = if reads_capture mode then option_map decimal (given (codes "tags")) else None
+
+-- how the packets of a capture are framed
+abbrev pub framing_in : Mode → Values → Option Framing
+framing_in mode given = do
+  link ← link_in mode given
+  Some (record {
+    link = link;
+    tags = tags_in mode given;
+    extensions = number_if (reads_capture mode) given extensions;
+  })
 
 -- the rows of a text, automatic where there is no text
 abbrev pub asked_rows : Option Text → Option (Option SeatRows)
@@ -167,6 +215,7 @@ plan_with mode rows schedule stops given = do
   start ← start_in mode given
   hashing ← hashing_in mode given
   share ← share_in mode given
+  framing ← framing_in mode given
   Some (record {
     mode = mode;
     seats = seats_in mode given;
@@ -180,6 +229,7 @@ plan_with mode rows schedule stops given = do
     stops = stops;
     number = number_if (makes_capture mode) given capture_number;
     packets = number_if (makes_capture mode) given packets;
+    framing = framing;
   })
 
 -- the plan of what the words give, where each text that the mode uses is one of the words for it

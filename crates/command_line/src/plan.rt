@@ -2,6 +2,7 @@
 
 use crate::plays::{Schedule, Stops};
 use hash_bits::Hashing;
+use packet_heads::Framing;
 use step_counts::SeatRows;
 use trace_share::Share;
 
@@ -16,7 +17,8 @@ pub enum Mode {
     Make,
     /// Serves the made capture, with share `flow` and hash `mix`, and prints a summary; reads nothing.
     Trial,
-    /// Counts the packets of a capture by class, by adders that share one table. It uses the number of seats alone.
+    /// Counts the packets of a capture by class, by adders that share one table. It uses the number of seats, and how
+    /// packets are framed.
     Totals,
     /// Reads a report and says whether it is right, or what is wrong with it first. It uses no option.
     Check,
@@ -47,4 +49,6 @@ pub struct Plan {
     pub number: u64,
     /// How many packets the made capture has, 0 to 4,000,000.
     pub packets: u32,
+    /// The link type of the capture that is read, and what is looked through in its packets.
+    pub framing: Framing,
 }

@@ -1,26 +1,36 @@
 //! `flowdir MODE [options]`: reads a packet capture on standard input, and reports on standard output.
 #![tactic(auto)]
 
+use crate::complaints::complain;
 use edge_traits::{OpenGate, StdSink, StdSource};
 use std::process::ExitCode;
 use std::{env, io};
 use trace_runner::{Status, run};
 
+mod complaints;
 #[cfg(test)]
 mod tests;
 
 fn main(rt: HostRuntime) -> ExitCode {
+    let mut beyond = None;
     let status = match words_of(&rt) {
         Ok(words) => {
             let mut source = StdSource::new(rt.stdin());
             let mut sink = StdSink::new(rt.stdout());
-            run(&rt, rt.alloc(), &words, &mut source, &mut sink, &OpenGate)
+            run(
+                &rt,
+                rt.alloc(),
+                &words,
+                &mut source,
+                &mut sink,
+                &OpenGate,
+                &mut beyond,
+            )
         }
         Err(status) => status,
     };
-    if let Some(complaint) = status.complaint() {
-        let _ = eprintln!(rt; "{complaint}");
-    }
+    // What cannot be said there is not.
+    let _ = complain(&rt, status, beyond);
     ExitCode::from(status.code())
 }
 

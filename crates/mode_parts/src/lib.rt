@@ -10,4 +10,4 @@ mod steps;
 pub use pile::CallPile;
 pub use planned::{head_of, service_of};
 pub use printing::put_sessions;
-pub use status::Status;
+pub use status::{Complaint, Status};

@@ -2,11 +2,13 @@
 
 ghost use Rattle.std.specs.Prelude.{◌≡◌, ◌≤◌, ◌+◌, ◌++◌, ◌∷◌, [], ℕ, List, length, IfOk, OnOk};
 ghost use Rattle.std.specs.Option.{ForSome};
+ghost use Rattle.packet_heads.specs.Links.{way_of};
 ghost use Rattle.mode_parts.specs.Piles.{HoldsCalls};
 
 use crate::steps::keep_call;
 use batch_deals::{Dealt, Service, deal_batch};
 use capture_loop::Pile;
+use packet_heads::Framing;
 use plain_map::Call;
 use std::alloc::{AllocError, Global};
 
@@ -16,6 +18,8 @@ pub struct CallPile {
     pub alloc: Global,
     /// How they are dealt.
     pub service: Service,
+    /// How packets are framed.
+    pub framing: Framing,
     /// How many packets there are, those that make no call too.
     pub packets: u32,
     pub calls: Vec<(u32, Call)>,
@@ -23,13 +27,20 @@ pub struct CallPile {
 }
 
 impl CallPile {
-    /// An empty one, with room for so many calls.
-    pub fn with_room(alloc: Global, service: Service, calls: usize) -> Result<CallPile, AllocError>
-        ensures { IfOk result (λ pile. HoldsCalls pile 0 []) }
+    /// An empty one of packets that are framed so, with room for so many calls.
+    pub fn with_room(
+        alloc: Global,
+        service: Service,
+        framing: Framing,
+        calls: usize,
+    ) -> Result<CallPile, AllocError>
+        ensures holds { IfOk result (λ pile. HoldsCalls pile 0 []) }
+        ensures framing { IfOk result (λ pile. pile.framing ≡ framing) }
     {
         Ok(CallPile {
             alloc,
             service,
+            framing,
             packets: 0,
             calls: Vec::with_capacity(alloc, calls)?,
             dealt: None,
@@ -40,12 +51,14 @@ impl CallPile {
 impl Pile for CallPile {
     ghost holds = { HoldsCalls };
 
+    ghost way = { λ pile. way_of pile.framing };
+
     fn take(&mut self, number: u32, packet: &[u8]) -> Result<(), AllocError> {
         // Most often there is none, and it costs to give one up.
         if self.dealt.is_some() {
             self.dealt = None;
         }
-        keep_call(packet, number, &mut self.calls)?;
+        keep_call(&self.framing, packet, number, &mut self.calls)?;
         self.packets += 1;
         Ok(())
     }

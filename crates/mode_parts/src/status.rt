@@ -1,5 +1,10 @@
 //! How a run ended.
 
+ghost use Rattle.std.specs.Prelude.{◌≡◌};
+ghost use Rattle.mode_parts.specs.Statuses.{other_link};
+
+use capture_faults::{AnyFault, CaptureFault};
+use packet_heads::Link;
 use report_text::Ending;
 
 /// How a run ended, and so the program's exit status.
@@ -15,15 +20,15 @@ pub enum Status {
     ReadFault,
     /// A write failed. What was put is a front of what the mode writes.
     WriteFault,
-    /// The capture has a fault. The packets before it are served.
-    BadCapture,
+    /// The capture has this fault. The packets before it are served.
+    BadCapture { fault: AnyFault },
     /// A packet follows the last one that is allowed. The packets before it are served.
     Limit,
 }
 
 impl Status {
     ghost use Rattle.std.specs.Prelude.{◌≡◌, option_map};
-    ghost use Rattle.mode_parts.specs.Statuses.{code_of, complaint_of, status_of};
+    ghost use Rattle.mode_parts.specs.Statuses.{Says, code_of, status_of, text_of};
 
     /// The program's exit status.
     pub fn code(self) -> u8
@@ -35,23 +40,28 @@ impl Status {
             Status::Usage => 2,
             Status::ReadFault => 3,
             Status::WriteFault => 4,
-            Status::BadCapture => 5,
+            Status::BadCapture { .. } => 5,
             Status::Limit => 6,
         }
     }
 
-    /// What the program says of it on standard error, where it says anything.
-    pub fn complaint(self) -> Option<&'static str>
-        ensures { option_map (λ text. text.now) result ≡ complaint_of self }
+    /// What the program says of it on standard error, where it says anything. Of a fault of the capture it is what to
+    /// give for another link type, and else nothing: the fault has a text of its own.
+    pub fn complaint(self) -> Option<Complaint>
+        ensures { Says self (option_map text_of result) }
     {
         match self {
-            Status::Memory => Some("flowdir: out of memory"),
-            Status::Usage => Some(
+            Status::Memory => Some(Complaint::of("flowdir: out of memory")),
+            Status::Usage => Some(Complaint::of(
                 "flowdir: usage: flowdir serve|play|make|trial|check|totals [options]",
-            ),
-            Status::ReadFault => Some("flowdir: read fault"),
-            Status::WriteFault => Some("flowdir: write fault"),
-            Status::Done | Status::BadCapture | Status::Limit => None,
+            )),
+            Status::ReadFault => Some(Complaint::of("flowdir: read fault")),
+            Status::WriteFault => Some(Complaint::of("flowdir: write fault")),
+            Status::BadCapture { fault } => match other_link(&fault) {
+                Some(found) => Some(Complaint::of_link(found)),
+                None => None,
+            },
+            Status::Done | Status::Limit => None,
         }
     }
 
@@ -63,7 +73,59 @@ impl Status {
             Ending::Done { .. } => Status::Done,
             Ending::ReadFault => Status::ReadFault,
             Ending::Limit { .. } => Status::Limit,
-            Ending::Fault(_) => Status::BadCapture,
+            Ending::Fault(fault) => Status::BadCapture { fault: *fault },
+        }
+    }
+}
+
+/// The link type of a savefile, where that is its fault.
+fn other_link(fault: &AnyFault) -> Option<u16>
+    ensures { result ≡ other_link fault.now }
+{
+    match fault {
+        AnyFault::Capture(CaptureFault::LinkType { found }) => Some(*found),
+        _ => None,
+    }
+}
+
+/// What is said on standard error: a text, a number in decimal digits where there is one, and what stands behind it.
+#[derive(Clone, Copy)]
+pub struct Complaint {
+    pub text: &'static str,
+    pub number: Option<u16>,
+    pub rest: &'static str,
+}
+
+impl Complaint {
+    ghost use Rattle.std.specs.Prelude.{◌≡◌};
+    ghost use Rattle.mode_parts.specs.Statuses.{SaysLink, text_of};
+
+    /// One without a number.
+    fn of(text: &'static str) -> Complaint
+        ensures { text_of result ≡ text.entry.now }
+    {
+        Complaint {
+            text,
+            number: None,
+            rest: "",
+        }
+    }
+
+    /// One of a savefile with this link type, which was not asked for.
+    fn of_link(found: u16) -> Complaint
+        ensures { SaysLink found (text_of result) }
+    {
+        match Link::with_number(found) {
+            Some(_link) => Complaint {
+                text: "flowdir: give --link ",
+                number: Some(found),
+                rest: "",
+            },
+            None => Complaint {
+                text: "flowdir: link type ",
+                number: Some(found),
+                rest: " is not read",
+            },
         }
     }
 }

@@ -9,18 +9,18 @@ ghost use Rattle.mode_parts.specs.PacketCalls.{MakesCall};
 ghost use Rattle.mode_parts.specs.Reading.{AreBetween, TakesCall};
 
 use flow_keys::call_of;
-use packet_heads::heads;
+use packet_heads::{Framing, heads};
 use plain_map::Call;
 use report_promises::call_laws;
 use std::alloc::AllocError;
 
-/// The call of the packet with this number, or `None` where it makes none.
-fn call_in(packet: &[u8], number: u32) -> Option<Call>
-    ensures made { MakesCall number packet.now result }
+/// The call of the packet with this number, so framed, or `None` where it makes none.
+fn call_in(framing: &Framing, packet: &[u8], number: u32) -> Option<Call>
+    ensures made { MakesCall framing.now number packet.now result }
     ensures fits { IfSome result (λ call. IsAskable call × HasText (key_in call) × IsKey (key_in call)) }
 {
     call_laws();
-    match heads(packet) {
+    match heads(framing, packet) {
         Some(heads) => {
             let call = call_of(&heads, number);
             call.key().has_words();
@@ -30,17 +30,18 @@ fn call_in(packet: &[u8], number: u32) -> Option<Call>
     }
 }
 
-/// Keeps the call of the packet with this number, where it makes one.
+/// Keeps the call of the packet with this number, so framed, where it makes one.
 pub(crate) fn keep_call(
+    framing: &Framing,
     packet: &[u8],
     number: u32,
     calls: &mut Vec<(u32, Call)>,
 ) -> Result<(), AllocError>
-    ensures kept { OnOk result (TakesCall number packet.now calls.old.items calls.new.items) }
+    ensures kept { OnOk result (TakesCall framing.now number packet.now calls.old.items calls.new.items) }
     ensures between { OnOk result ((first last : ℕ) → AreBetween first last calls.old.items → number ≡ last + 1
         → AreBetween first number calls.new.items) }
 {
-    if let Some(call) = call_in(packet, number) {
+    if let Some(call) = call_in(framing, packet, number) {
         calls.push((number, call))?;
     }
     Ok(())

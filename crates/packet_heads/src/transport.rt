@@ -11,20 +11,20 @@ use crate::packet::Protocol;
 /// How many bytes stand behind a network head, by its length field, which counts so many bytes of the head itself.
 ///
 /// `None` comes where the field is 0 and tells nothing.
-pub fn count_behind(field: u16, head: u16) -> Option<u16>
+pub fn count_behind(field: u16, head: usize) -> Option<u16>
     ensures { result ≡ count_behind field head }
 {
     if field == 0 {
         None
     } else {
-        Some(field.saturating_sub(head))
+        Some(usize::from(field).saturating_sub(head) as u16)
     }
 }
 
 /// The protocol with this number, whose head begins after `head` bytes, where `count` bytes are told to stand.
 ///
 /// `None` comes exactly where it is neither TCP with its flags nor UDP with its ports.
-pub fn protocol_at(packet: &[u8], head: u16, number: u8, count: Option<u16>) -> Option<Protocol>
+pub fn protocol_at(packet: &[u8], head: usize, number: u8, count: Option<u16>) -> Option<Protocol>
     ensures found { IfSome result (HasProtocol packet.now head number count) }
     ensures none { (protocol : Protocol) → HasProtocol packet.now head number count protocol → IsSome result }
 {
@@ -36,10 +36,10 @@ pub fn protocol_at(packet: &[u8], head: u16, number: u8, count: Option<u16>) -> 
 }
 
 /// Whether so many bytes of the head that begins after `head` bytes were captured, and are told to stand there.
-fn has_room(packet: &[u8], head: u16, count: Option<u16>, need: u16) -> bool
+fn has_room(packet: &[u8], head: usize, count: Option<u16>, need: u16) -> bool
     ensures { IsTrue result ↔ HasRoom packet.now head count need }
 {
-    if packet.len() < usize::from(head) + usize::from(need) {
+    if packet.len() < head || packet.len() - head < usize::from(need) {
         return false;
     }
     match count {
@@ -49,14 +49,13 @@ fn has_room(packet: &[u8], head: u16, count: Option<u16>, need: u16) -> bool
 }
 
 /// TCP with the flags of its head, and with its payload.
-fn tcp_at(packet: &[u8], head: u16, count: Option<u16>) -> Protocol
+fn tcp_at(packet: &[u8], head: usize, count: Option<u16>) -> Protocol
     requires { HasRoom packet.now head count 14 }
     ensures { HasProtocol packet.now head 6 count result }
 {
-    let place = usize::from(head);
     Protocol::Tcp {
-        flags: packet[place + 13],
-        payload: payload_behind(packet[place + 12] / 16, count),
+        flags: packet[head + 13],
+        payload: payload_behind(packet[head + 12] / 16, count),
     }
 }
 

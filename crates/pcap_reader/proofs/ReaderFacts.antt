@@ -32,36 +32,37 @@ of_drained None held P drained now = (held, now)
 of_drained (Some xs) held P drained now = subst P (sym drained) now
 
 -- a head that is held is that of the input
-head_told : (order : Order) (held : List ℕ) (before after : Option (List ℕ)) → Gathers [] held before after
-    → HasFileHead order held → OfInput before (HasFileHead order)
-head_told order held before after g h = of_input before after held g.taken (HasFileHead order) g.told g.held h
-    (λ rest. head_front order held rest h)
+head_told : (link : ℕ) (order : Order) (held : List ℕ) (before after : Option (List ℕ)) → Gathers [] held before after
+    → HasFileHead link order held → OfInput before (HasFileHead link order)
+head_told link order held before after g h = of_input before after held g.taken (HasFileHead link order) g.told g.held h
+    (λ rest. head_front link order held rest h)
 
 -- an input that ends within the head shows it
-short_told : (have : ℕ) (held : List ℕ) (before : Option (List ℕ))
-    → (FILE_HEAD ≤ length held) ⊎ IsDrained [] held before → ShowsFault held (ShortHeader have)
-    → OfInput before (λ bytes. ShowsFault bytes (ShortHeader have))
-short_told have held before (inl enough) shown = absurd (omega (arith, shown.0))
-short_told have held before (inr drained) shown =
-    of_drained before held (λ bytes. ShowsFault bytes (ShortHeader have)) drained shown
+short_told : (link : ℕ) (have : ℕ) (held : List ℕ) (before : Option (List ℕ))
+    → (FILE_HEAD ≤ length held) ⊎ IsDrained [] held before → ShowsFault link held (ShortHeader have)
+    → OfInput before (λ bytes. ShowsFault link bytes (ShortHeader have))
+short_told link have held before (inl enough) shown = absurd (omega (arith, shown.0))
+short_told link have held before (inr drained) shown =
+    of_drained before held (λ bytes. ShowsFault link bytes (ShortHeader have)) drained shown
 
 -- a fault that the held bytes show is that of the input
-fault_told : (fault : CaptureFault) (held : List ℕ) (before after : Option (List ℕ)) → Gathers [] held before after
-    → (FILE_HEAD ≤ length held) ⊎ IsDrained [] held before → ShowsFault held fault
-    → OnInputFault fault (OfInput before (λ bytes. ShowsFault bytes fault))
-fault_told ReadFault held before after g enough shown = tt
-fault_told (ShortHeader have) held before after g enough shown = short_told have held before enough shown
-fault_told (Magic found) held before after g enough shown =
-    of_input before after held g.taken (λ bytes. ShowsFault bytes (Magic found)) g.told g.held shown
+fault_told : (link : ℕ) (fault : CaptureFault) (held : List ℕ) (before after : Option (List ℕ)) →
+    Gathers [] held before after
+    → (FILE_HEAD ≤ length held) ⊎ IsDrained [] held before → ShowsFault link held fault
+    → OnInputFault fault (OfInput before (λ bytes. ShowsFault link bytes fault))
+fault_told link ReadFault held before after g enough shown = tt
+fault_told link (ShortHeader have) held before after g enough shown = short_told link have held before enough shown
+fault_told link (Magic found) held before after g enough shown =
+    of_input before after held g.taken (λ bytes. ShowsFault link bytes (Magic found)) g.told g.held shown
     (λ rest. refuses_magic_front found held rest shown)
-fault_told (Version major minor) held before after g enough shown =
-    of_input before after held g.taken (λ bytes. ShowsFault bytes (Version major minor)) g.told g.held shown
+fault_told link (Version major minor) held before after g enough shown =
+    of_input before after held g.taken (λ bytes. ShowsFault link bytes (Version major minor)) g.told g.held shown
     (λ rest. refuses_version_front major minor held rest shown)
-fault_told (LinkType found) held before after g enough shown =
-    of_input before after held g.taken (λ bytes. ShowsFault bytes (LinkType found)) g.told g.held shown
-    (λ rest. refuses_link_front found held rest shown)
-fault_told (RecordLength offset found) held before after g enough shown = absurd shown
-fault_told Memory held before after g enough shown = tt
+fault_told link (LinkType found) held before after g enough shown =
+    of_input before after held g.taken (λ bytes. ShowsFault link bytes (LinkType found)) g.told g.held shown
+    (λ rest. refuses_link_front link found held rest shown)
+fault_told link (RecordLength offset found) held before after g enough shown = absurd shown
+fault_told link Memory held before after g enough shown = tt
 
 -- the bytes behind the head are still to come
 rest_told : (held : List ℕ) (before after : Option (List ℕ)) → Gathers [] held before after → FILE_HEAD ≤ length held
@@ -75,31 +76,34 @@ rest_told held (Some xs) (Some ys) g whole =
 -- ---- a reader that was opened over a window that had been empty
 
 -- its head is that of the input
-pub opened_head : (answer : Result Reading CaptureFault) (empty held : List ℕ) (before after : Option (List ℕ)) →
-    empty ≡ [] → Gathers empty held before after → IfOk answer (λ reader. HasFileHead reader.order held) →
-    IfOk answer (λ reader. OfInput before (HasFileHead reader.order))
-opened_head (Ok reader) empty held before after none g head =
-    head_told reader.order held before after (subst (λ (l : List ℕ). Gathers l held before after) none g) head
-opened_head (Err fault) empty held before after none g head = tt
+pub opened_head : (link : ℕ) (answer : Result Reading CaptureFault) (empty held : List ℕ)
+    (before after : Option (List ℕ)) →
+    empty ≡ [] → Gathers empty held before after → IfOk answer (λ reader. HasFileHead link reader.order held) →
+    IfOk answer (λ reader. OfInput before (HasFileHead link reader.order))
+opened_head link (Ok reader) empty held before after none g head =
+    head_told link reader.order held before after (subst (λ (l : List ℕ). Gathers l held before after) none g) head
+opened_head link (Err fault) empty held before after none g head = tt
 
 -- and the bytes behind the head are still to come
-pub opened_rest : (answer : Result Reading CaptureFault) (empty held : List ℕ) (before after : Option (List ℕ)) →
-    empty ≡ [] → Gathers empty held before after → IfOk answer (λ reader. HasFileHead reader.order held) →
+pub opened_rest : (link : ℕ) (answer : Result Reading CaptureFault) (empty held : List ℕ)
+    (before after : Option (List ℕ)) →
+    empty ≡ [] → Gathers empty held before after → IfOk answer (λ reader. HasFileHead link reader.order held) →
     IfOk answer (λ reader. reader.pending ≡ drop FILE_HEAD held) →
     IfOk answer (λ reader. IfSome before (λ bytes. to_come reader after ≡ Some (drop FILE_HEAD bytes)))
-opened_rest (Ok reader) empty held before after none g head behind =
+opened_rest link (Ok reader) empty held before after none g head behind =
     subst (λ (l : List ℕ). IfSome before (λ bytes. prepend_known l after ≡ Some (drop FILE_HEAD bytes))) (sym behind)
     (rest_told held before after (subst (λ (l : List ℕ). Gathers l held before after) none g) head.begins.whole)
-opened_rest (Err fault) empty held before after none g head behind = tt
+opened_rest link (Err fault) empty held before after none g head behind = tt
 
 -- a fault that the held bytes show is that of the input, where these are the head or all that there is
-pub opened_fault : (answer : Result Reading CaptureFault) (empty held : List ℕ) (before after : Option (List ℕ)) →
+pub opened_fault : (link : ℕ) (answer : Result Reading CaptureFault) (empty held : List ℕ)
+    (before after : Option (List ℕ)) →
     empty ≡ [] → Gathers empty held before after → (FILE_HEAD ≤ length held) ⊎ IsDrained empty held before →
-    IfErr answer (ShowsFault held) →
-    IfErr answer (λ fault. OnInputFault fault (OfInput before (λ bytes. ShowsFault bytes fault)))
-opened_fault (Ok reader) empty held before after none g enough shown = tt
-opened_fault (Err fault) empty held before after none g enough shown =
-    fault_told fault held before after (subst (λ (l : List ℕ). Gathers l held before after) none g)
+    IfErr answer (ShowsFault link held) →
+    IfErr answer (λ fault. OnInputFault fault (OfInput before (λ bytes. ShowsFault link bytes fault)))
+opened_fault link (Ok reader) empty held before after none g enough shown = tt
+opened_fault link (Err fault) empty held before after none g enough shown =
+    fault_told link fault held before after (subst (λ (l : List ℕ). Gathers l held before after) none g)
     (subst (λ (l : List ℕ). (FILE_HEAD ≤ length held) ⊎ IsDrained l held before) none enough) shown
 
 -- what a hold answers

@@ -1,6 +1,6 @@
 //! Gives out the records of a savefile, one at a time and in place.
 
-ghost use Rattle.std.specs.Prelude.{◌≡◌, ◌≤◌, ◌<◌, ◌-◌, ◌^◌, ◌⊎◌, ℕ, List, [], false, true, length, drop, Option, Some, IfSome, IfOk, IfErr, OnOk, OnErr};
+ghost use Rattle.std.specs.Prelude.{◌≡◌, ◌≤◌, ◌<◌, ◌+◌, ◌-◌, ◌^◌, ◌⊎◌, ℕ, List, [], false, true, length, drop, Option, Some, IfSome, IfOk, IfErr, OnOk, OnErr};
 ghost use Rattle.edge_traits.specs.Edge.{Rose, count_after};
 ghost use Rattle.byte_window.specs.Window.{Gathers, IsDrained};
 ghost use Rattle.pcap_reader.specs.Capture.{HasFileHead, IsCut, IsRemainder, ShowsFault};
@@ -58,24 +58,24 @@ impl Model for Reader {
 }
 
 impl Reader {
-    /// Makes the packet buffer, and reads the head of a savefile, 24 bytes.
+    /// Makes the packet buffer, and reads the head of a savefile of this link type, 24 bytes.
     ///
     /// Faults: `Memory`, before anything is read; `ReadFault`, only where the source's count rose;
     /// `ShortHeader`, `Magic`, `Version`, `LinkType`, exactly where the head shows them, in this order.
     /// Source: pcap-savefile(5), per-file header.
-    pub fn open<S: Source>(alloc: Global, source: &mut S) -> Result<Reader, CaptureFault>
+    pub fn open<S: Source>(alloc: Global, link: u16, source: &mut S) -> Result<Reader, CaptureFault>
         // The head keeps every rule, and the bytes after it are still to come.
-        ensures head { IfOk result (λ reader. OfInput (S.left source.old) (HasFileHead reader.order)) }
+        ensures head { IfOk result (λ reader. OfInput (S.left source.old) (HasFileHead link reader.order)) }
         ensures bytes { IfOk result (λ reader. IfSome (S.left source.old) (λ bytes.
             to_come reader (S.left source.new) ≡ Some (drop FILE_HEAD bytes))) }
         ensures start { IfOk result IsAtStart }
-        ensures took { IfOk result (λ reader. Took (S.left source.old) (S.left source.new) (IsOpenedOn reader)) }
+        ensures took { IfOk result (λ reader. Took (S.left source.old) (S.left source.new) (IsOpenedOn link reader)) }
 
         // The head shows the fault.
         ensures fault { IfErr result (λ fault. OnInputFault fault
-            (OfInput (S.left source.old) (λ bytes. ShowsFault bytes fault))) }
+            (OfInput (S.left source.old) (λ bytes. ShowsFault link bytes fault))) }
         ensures took_fault { IfErr result (λ fault. OnInputFault fault
-            (Took (S.left source.old) (S.left source.new) (IsRefusedOn fault))) }
+            (Took (S.left source.old) (S.left source.new) (IsRefusedOn link fault))) }
 
         // A read failed, before the head was there.
         ensures read_fault { IfErr result (λ fault. OnReadFault fault
@@ -94,35 +94,40 @@ impl Reader {
     {
         let mut window = Window::new(alloc)?;
         window.hold(FILE_HEAD, source)?;
-        Reader::over(window)
+        Reader::over(link, window)
     }
 
-    /// Makes the packet buffer, and goes on behind these bytes, which were the head of a savefile.
+    /// Makes the packet buffer, and goes on behind these bytes, which were the head of a savefile of this link type.
     ///
     /// Faults: `Memory`; `Magic`, `Version`, `LinkType`, exactly where the head shows them, in this order.
     /// Source: pcap-savefile(5), per-file header.
-    pub fn after_head(alloc: Global, head: &[u8; FILE_HEAD]) -> Result<Reader, CaptureFault>
-        ensures head { IfOk result (λ reader. HasFileHead reader.order head.now) }
+    pub fn after_head(
+        alloc: Global,
+        link: u16,
+        head: &[u8; FILE_HEAD],
+    ) -> Result<Reader, CaptureFault>
+        ensures head { IfOk result (λ reader. HasFileHead link reader.order head.now) }
         ensures held { IfOk result (λ reader. reader.pending ≡ []) }
         ensures start { IfOk result IsAtStart }
-        ensures fault { IfErr result (λ fault. (fault ≡ CaptureFault.Memory) ⊎ ShowsFault head.now fault) }
+        ensures fault { IfErr result (λ fault. (fault ≡ CaptureFault.Memory) ⊎ ShowsFault link head.now fault) }
     {
         let window = Window::of(alloc, head)?;
-        Reader::over(window)
+        Reader::over(link, window)
     }
 
-    /// Goes on over a window that holds a savefile from its first byte on, the head whole, or all that there is of it.
+    /// Goes on over a window that holds a savefile of this link type from its first byte on: the head whole, or all
+    /// that there is of it.
     ///
     /// Takes no memory. Faults: `ShortHeader`, `Magic`, `Version`, `LinkType`, exactly where the held bytes show them,
     /// in this order.
     /// Source: pcap-savefile(5), per-file header.
-    pub fn over(mut window: Window) -> Result<Reader, CaptureFault>
-        ensures head { IfOk result (λ reader. HasFileHead reader.order window.unread) }
+    pub fn over(link: u16, mut window: Window) -> Result<Reader, CaptureFault>
+        ensures head { IfOk result (λ reader. HasFileHead link reader.order window.unread) }
         ensures held { IfOk result (λ reader. reader.pending ≡ drop FILE_HEAD window.unread) }
         ensures start { IfOk result IsAtStart }
-        ensures fault { IfErr result (ShowsFault window.unread) }
+        ensures fault { IfErr result (ShowsFault link window.unread) }
     {
-        let order = file_head(window.unread())?;
+        let order = file_head(link, window.unread())?;
         window.skip(FILE_HEAD);
         Ok(Reader {
             order,
@@ -236,6 +241,15 @@ impl Reader {
         ensures { result.now ≡ self.now.packet }
     {
         self.window.last()
+    }
+
+    /// Where the record that was given last starts, in bytes from the file's first. It means nothing before a record
+    /// was given, or after an ending.
+    pub fn start(&self) -> u64
+        ensures { result ≡ self.now.offset - (16 + length self.now.packet) }
+    {
+        let size = RECORD_HEAD + self.window.last().len();
+        self.offset.saturating_sub(size as u64)
     }
 
     /// Whether an end, a rest or a fault was answered.

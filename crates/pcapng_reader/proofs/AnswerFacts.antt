@@ -3,7 +3,6 @@ use Rattle.std.proofs.Common.{◌≡◌, ◌≤◌, ℕ, ◌+◌, ◌-◌, true,
 use Rattle.std.proofs.lemmas.List.{drop-append-le, take-append-le}
 use Rattle.pcap_reader.specs.declared.order.Order.{Order}
 use Rattle.capture_faults.specs.declared.fault.CaptureFault.{CaptureFault}
-use Rattle.capture_faults.specs.declared.fault.CaptureFault.TheVariants as capture
 use Rattle.pcap_reader.specs.Reading.{Took, buffer_length}
 use Rattle.capture_faults.specs.declared.any_fault.AnyFault.{AnyFault}
 use Rattle.capture_faults.specs.declared.any_fault.AnyFault.TheVariants as fault
@@ -98,6 +97,7 @@ behind_awaited old last place held size at count dropped =
       pending = drop (size - dropped) held;
       packet = take count (drop at held);
       offset = place + size;
+      start = place;
       given = old.given + 1;
       ended = old.ended;
     }
@@ -163,6 +163,16 @@ gives_awaited old state last held place size at count dropped taken form going r
           ∙ sym (append_assoc (joined p.blocks) block (drop (size - dropped) held));
       room = omega (arith, length-drop (size - dropped) held, room);
       offset = omega (arith, p.place_is, length-append (joined p.blocks) block, long);
+      starts = record {
+        before = joined p.blocks;
+        last = OfBlocks last;
+        parts = subst (λ (f : Form). AreParts f old.offset (joined p.blocks) [] (OfBlocks last)) (sym form)
+            (p.blocks, last, p.each, refl, refl);
+        rest = block;
+        whole = refl;
+        is = p.place_is;
+        next = (size, at, count, is.shows);
+      };
       given = refl;
       goes_on = going;
     }

@@ -15,6 +15,7 @@ use Rattle.pcap_reader.specs.Reading.{Reading as OneFile}
 use Rattle.pcap_reader.specs.Record.{BeginsRecord}
 use Rattle.capture_faults.specs.declared.any_fault.AnyFault.{AnyFault}
 use Rattle.capture_faults.specs.declared.any_fault.AnyFault.TheVariants as fault
+use Rattle.pcap_reader.proofs.OneCapture.{saved_begins}
 use Rattle.pcapng_reader.specs.Input.{any_ending}
 use Rattle.pcapng_reader.specs.Inner.{of_savefile}
 use Rattle.pcapng_reader.specs.Reading.{Answers, AreParts, Form, GivesPacket, HoldsPacket, MeetsEnding, OfRecords, Reading}
@@ -52,6 +53,10 @@ one_record order offset saved packet form is same last = (
   last,
 )
 
+-- behind no record
+no_record : (order : Order) (offset : ℕ) → AreParts (OfRecords order) offset [] [] (OfRecords order)
+no_record order offset = ([], grind (arith, common_steps), refl, refl, refl)
+
 -- a record that is given is a packet
 of_record : (old new : OneFile) (taken : List ℕ) → new.order ≡ old.order →
     GivesRecord old new (to_come old (Some taken)) (to_come new (Some [])) →
@@ -64,15 +69,30 @@ of_record old new taken order g =
       held = g.told ∙ ap (λ (l : List ℕ). bytes_of g.saved ++ l) (append-nil new.pending);
       room = g.room;
       offset = g.offset;
+      starts = record {
+        before = [];
+        last = OfRecords old.order;
+        parts = no_record old.order old.offset;
+        rest = bytes_of g.saved;
+        whole = refl;
+        is = omega (
+          arith,
+          g.offset,
+          length-append g.saved.head g.saved.packet,
+          g.is_saved.head_length,
+          ap length g.packet,
+        );
+        next = (
+          length g.saved.packet,
+          subst (λ (l : List ℕ). BeginsRecord old.order l (length g.saved.packet)) (append-nil (bytes_of g.saved))
+              (saved_begins old.order g.saved [] g.is_saved),
+        );
+      };
       given = g.given;
       goes_on = g.goes_on;
     }
 
 -- ---- an ending
-
--- behind no record
-no_record : (order : Order) (offset : ℕ) → AreParts (OfRecords order) offset [] [] (OfRecords order)
-no_record order offset = ([], grind (arith, common_steps), refl, refl, refl)
 
 -- what was held and taken is held
 all_held : (old new : OneFile) (taken : List ℕ) →

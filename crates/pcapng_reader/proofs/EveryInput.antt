@@ -14,7 +14,7 @@ use Rattle.pcapng_reader.specs.declared.block.Kind.TheVariants.{Section, Interfa
 use Rattle.pcapng_reader.specs.declared.block.Seen.{Seen}
 use Rattle.pcapng_reader.specs.declared.block.Seen.TheVariants as seen
 use Rattle.pcapng_reader.specs.Section.{State, opening}
-use Rattle.pcapng_reader.specs.Blocks.{HasKind, HasNoOrder, HoldsBlocks, IsBlock, IsBlockLength, IsLast, IsMagicIn, IsReadIn, IsSection, IsShort, IsWhole, Sees, SeesCaptured, SeesHead, SeesKind, SeesOther, SeesSize, Where, after, block_type, byte_order_magic, given_length, interface_at, least_length, longest_block, longest_packet, most_interfaces, most_others, packets_of, padded, second_length, section_type, simple_length, total_length}
+use Rattle.pcapng_reader.specs.Blocks.{interface_of, HasKind, HasNoOrder, HoldsBlocks, IsBlock, IsBlockLength, IsLast, IsMagicIn, IsReadIn, IsSection, IsShort, IsWhole, Sees, SeesCaptured, SeesHead, SeesKind, SeesOther, SeesSize, Where, after, block_type, byte_order_magic, given_length, interface_at, least_length, longest_block, longest_packet, most_interfaces, most_others, packets_of, padded, second_length, section_type, simple_length, total_length}
 use Rattle.pcapng_reader.specs.Input.{Input, any_ending, packets_in}
 use Rattle.pcapng_reader.proofs.Decisions.{where_some}
 use Rattle.pcapng_reader.proofs.BlockFacts.{block_back, least_4, whole_parts}
@@ -133,10 +133,8 @@ sees_kind state offset order Section size bytes =
     (sees_other state offset (seen.Section size order))
     (λ n. (seen.Fault (fault.SectionVersion offset major minor), refl))
 sees_kind state offset order Interface size bytes =
-    let interface : AnInterface = record {
-      link = number order 2 (drop 8 bytes);
-      snapshot = number order 4 (drop 12 bytes);
-    } in
+    let interface : AnInterface =
+    interface_of state (number order 2 (drop 8 bytes)) (number order 4 (drop 12 bytes)) in
     where_some (λ x. x ≡ seen.Fault (fault.Interfaces offset))
     (λ x. SeesOther state offset (seen.Interface size interface) x) (at_most most_interfaces (length state.interfaces))
     (seen.Fault (fault.Interfaces offset), refl) (λ n. sees_other state offset (seen.Interface size interface))
@@ -306,11 +304,11 @@ cutting (suc fuel) state offset bytes few =
 -- ---- inputs
 
 -- each list of bytes is an input, of blocks or a savefile
-pub some_input : (bytes : List ℕ) → HasCapture bytes →
-    (packets : List (List ℕ)) × (ending : Result ℕ AnyFault) × Input bytes packets ending
-some_input bytes capture = elim (both (at_most file_head_length (length bytes)) (is_section bytes)) [
+pub some_input : (link : ℕ) (bytes : List ℕ) → HasCapture link bytes →
+    (packets : List (List ℕ)) × (ending : Result ℕ AnyFault) × Input link bytes packets ending
+some_input link bytes capture = elim (both (at_most file_head_length (length bytes)) (is_section bytes)) [
   | inl is ↦
-      let cut = cutting (suc (length bytes)) opening 0 bytes (omega arith) in
+      let cut = cutting (suc (length bytes)) (opening link) 0 bytes (omega arith) in
       (cut.0, cut.1, inl (record { whole = is.0; begins = is.1 }, cut.2))
   | inr not ↦ (
     packets_in capture.0,

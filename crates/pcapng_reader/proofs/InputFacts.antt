@@ -93,14 +93,14 @@ pcapng_front xs ys h =
     }
 
 -- what begins as an input does, does so where more bytes follow
-pub opened_front : (form : Form) (xs ys : List ℕ) → IsOpened form xs → IsOpened form (xs ++ ys)
-opened_front (OfRecords order) xs ys h = head_front order xs ys h
-opened_front (OfBlocks state) xs ys h = (pcapng_front xs ys h.0, h.1)
+pub opened_front : (link : ℕ) (form : Form) (xs ys : List ℕ) → IsOpened link form xs → IsOpened link form (xs ++ ys)
+opened_front link (OfRecords order) xs ys h = head_front link order xs ys h
+opened_front link (OfBlocks state) xs ys h = (pcapng_front xs ys h.0, h.1)
 
 -- an input that is opened has a head
-pub opened_long : (form : Form) (bytes : List ℕ) → IsOpened form bytes → file_head_length ≤ length bytes
-opened_long (OfRecords order) bytes h = h.begins.whole
-opened_long (OfBlocks state) bytes h = h.0.whole
+pub opened_long : (link : ℕ) (form : Form) (bytes : List ℕ) → IsOpened link form bytes → file_head_length ≤ length bytes
+opened_long link (OfRecords order) bytes h = h.begins.whole
+opened_long link (OfBlocks state) bytes h = h.0.whole
 
 -- no form has more bytes before its first part than a file head
 pub head_least : (form : Form) → head_length form ≤ file_head_length
@@ -108,10 +108,10 @@ head_least (OfRecords order) = omega arith
 head_least (OfBlocks state) = omega arith
 
 -- what stands behind the head, where more bytes follow
-pub behind_head : (form : Form) (xs ys : List ℕ) → IsOpened form xs →
+pub behind_head : (link : ℕ) (form : Form) (xs ys : List ℕ) → IsOpened link form xs →
     drop (head_length form) (xs ++ ys) ≡ drop (head_length form) xs ++ ys
-behind_head form xs ys h =
-    drop-append-le (head_length form) xs ys (omega (arith, opened_long form xs h, head_least form))
+behind_head link form xs ys h =
+    drop-append-le (head_length form) xs ys (omega (arith, opened_long link form xs h, head_least form))
 
 -- a captured length above the limit is met where more bytes follow
 record_end_front : (order : Order) (offset : ℕ) (xs ys : List ℕ) (found : AnyFault) (kept : Result ℕ CaptureFault) →
@@ -161,20 +161,20 @@ no_magic Big bytes (inr p) q =
     omega (arith, a, b)
 
 -- so its head is none
-pub no_pcapng : (order : Order) (bytes : List ℕ) → HasFileHead order bytes → IsPcapng bytes → ⊥
-no_pcapng order bytes head h = no_magic order (take 4 bytes) head.begins.magic h.begins
+pub no_pcapng : (link : ℕ) (order : Order) (bytes : List ℕ) → HasFileHead link order bytes → IsPcapng bytes → ⊥
+no_pcapng link order bytes head h = no_magic order (take 4 bytes) head.begins.magic h.begins
 
 -- parts behind the head, and an ending behind them, are an input
-pub input_of : (form : Form) (bytes passed : List ℕ) (packets : List (List ℕ)) (last : Form) (rest : List ℕ)
-    (ending : Result ℕ AnyFault) → IsOpened form bytes → AreParts form (head_length form) passed packets last →
+pub input_of : (link : ℕ) (form : Form) (bytes passed : List ℕ) (packets : List (List ℕ)) (last : Form) (rest : List ℕ)
+    (ending : Result ℕ AnyFault) → IsOpened link form bytes → AreParts form (head_length form) passed packets last →
     drop (head_length form) bytes ≡ passed ++ rest → IsEnd last (head_length form + length passed) rest ending →
-    Input bytes packets ending
-input_of (OfRecords order) bytes passed packets last rest ending opened parts whole ends =
+    Input link bytes packets ending
+input_of link (OfRecords order) bytes passed packets last rest ending opened parts whole ends =
     let here : IsEnd (OfRecords order) (24 + length (flat_map bytes_of parts.0)) rest ending =
     subst (λ (l : List ℕ). IsEnd (OfRecords order) (24 + length l) rest ending) parts.2
     (subst (λ (f : Form). IsEnd f (24 + length passed) rest ending) parts.4 ends) in
     inr (
-      no_pcapng order bytes opened,
+      no_pcapng link order bytes opened,
       record {
         records = parts.0;
         kept = here.0;
@@ -192,8 +192,8 @@ input_of (OfRecords order) bytes passed packets last rest ending opened parts wh
         ends = here.2;
       },
     )
-input_of (OfBlocks state) bytes passed packets last rest ending opened parts whole ends =
-    let from : AreBlocks opening 0 parts.0 packets parts.1 =
+input_of link (OfBlocks state) bytes passed packets last rest ending opened parts whole ends =
+    let from : AreBlocks (opening link) 0 parts.0 packets parts.1 =
     subst (λ (s : State). AreBlocks s 0 parts.0 packets parts.1) opened.1 parts.2 in
     let here : IsLast parts.1 (0 + length (joined parts.0)) rest ending =
     subst (λ (l : List ℕ). IsLast parts.1 (0 + length l) rest ending) parts.3
@@ -211,13 +211,14 @@ input_of (OfBlocks state) bytes passed packets last rest ending opened parts who
     )
 
 -- the packets of parts are the first
-records_first : (bytes : List ℕ) (front packets : List (List ℕ)) (order : Order) (passed : List ℕ) (last : Form)
-    (more : List ℕ) (ending : Result ℕ AnyFault) → HoldsFirst bytes → HasFileHead order bytes →
-    AreParts (OfRecords order) 24 passed front last → drop 24 bytes ≡ passed ++ more → Input bytes packets ending →
+records_first : (link : ℕ) (bytes : List ℕ) (front packets : List (List ℕ)) (order : Order) (passed : List ℕ)
+    (last : Form)
+    (more : List ℕ) (ending : Result ℕ AnyFault) → HoldsFirst link bytes → HasFileHead link order bytes →
+    AreParts (OfRecords order) 24 passed front last → drop 24 bytes ≡ passed ++ more → Input link bytes packets ending →
     (others : List (List ℕ)) × (packets ≡ front ++ others)
-records_first bytes front packets order passed last more ending first head parts whole (inl p) =
-    absurd (no_pcapng order bytes head p.0)
-records_first bytes front packets order passed last more ending first head parts whole (inr p) =
+records_first link bytes front packets order passed last more ending first head parts whole (inl p) =
+    absurd (no_pcapng link order bytes head p.0)
+records_first link bytes front packets order passed last more ending first head parts whole (inr p) =
     let h = p.1 in
     let behind = first parts.0 h.records more h.kept
     (record { order = order; head = head; each = parts.1; whole = whole ∙ ap (λ (l : List ℕ). l ++ more) parts.2 })
@@ -228,11 +229,12 @@ records_first bytes front packets order passed last more ending first head parts
     )
 
 -- so it is with blocks, since an input is one
-blocks_first : (bytes : List ℕ) (front packets : List (List ℕ)) (state : State) (passed : List ℕ) (last : Form)
-    (more : List ℕ) (ending : Result ℕ AnyFault) → HasOneInput bytes → IsOpened (OfBlocks state) bytes →
-    AreParts (OfBlocks state) 0 passed front last → bytes ≡ passed ++ more → Input bytes packets ending →
+blocks_first : (link : ℕ) (bytes : List ℕ) (front packets : List (List ℕ)) (state : State) (passed : List ℕ)
+    (last : Form)
+    (more : List ℕ) (ending : Result ℕ AnyFault) → HasOneInput link bytes → IsOpened link (OfBlocks state) bytes →
+    AreParts (OfBlocks state) 0 passed front last → bytes ≡ passed ++ more → Input link bytes packets ending →
     (others : List (List ℕ)) × (packets ≡ front ++ others)
-blocks_first bytes front packets state passed last more ending one opened parts whole input =
+blocks_first link bytes front packets state passed last more ending one opened parts whole input =
     let place : ℕ = 0 + length passed in
     let cut = cutting (suc (length more)) parts.1 place more (omega arith) in
     let h = cut.2 in
@@ -245,26 +247,29 @@ blocks_first bytes front packets state passed last more ending one opened parts 
     whole ∙ ap (λ (l : List ℕ). passed ++ l) h.parts ∙ sym (append_assoc passed (joined h.blocks) h.rest) in
     let at : place + length (joined h.blocks) ≡ 0 + length (passed ++ joined h.blocks) =
     omega (arith, length-append passed (joined h.blocks)) in
-    let other : Input bytes (front ++ cut.0) cut.1 =
-    input_of (OfBlocks state) bytes (passed ++ joined h.blocks) (front ++ cut.0) (OfBlocks h.last) h.rest cut.1 opened
+    let other : Input link bytes (front ++ cut.0) cut.1 =
+    input_of link (OfBlocks state) bytes (passed ++ joined h.blocks) (front ++ cut.0) (OfBlocks h.last) h.rest cut.1
+    opened
     all rest (subst (λ (n : ℕ). IsLast h.last n h.rest cut.1) at h.ends) in
     (cut.0, (one packets (front ++ cut.0) ending cut.1 input other).0)
 
 -- so it is with both forms
-pub front_of : (bytes : List ℕ) (front packets : List (List ℕ)) (form : Form) (place : ℕ)
-    (ending : Result ℕ AnyFault) → HoldsFirst bytes → HasOneInput bytes → Reaches bytes front form place →
-    Input bytes packets ending → (others : List (List ℕ)) × (packets ≡ front ++ others)
-front_of bytes front packets (OfRecords order) place ending first one r input =
-    records_first bytes front packets order r.passed r.last r.more ending first r.opened r.parts r.whole input
-front_of bytes front packets (OfBlocks state) place ending first one r input =
-    blocks_first bytes front packets state r.passed r.last r.more ending one r.opened r.parts r.whole input
+pub front_of : (link : ℕ) (bytes : List ℕ) (front packets : List (List ℕ)) (form : Form) (place : ℕ)
+    (ending : Result ℕ AnyFault) → HoldsFirst link bytes → HasOneInput link bytes →
+    Reaches link bytes front form place →
+    Input link bytes packets ending → (others : List (List ℕ)) × (packets ≡ front ++ others)
+front_of link bytes front packets (OfRecords order) place ending first one r input =
+    records_first link bytes front packets order r.passed r.last r.more ending first r.opened r.parts r.whole input
+front_of link bytes front packets (OfBlocks state) place ending first one r input =
+    blocks_first link bytes front packets state r.passed r.last r.more ending one r.opened r.parts r.whole input
 
 -- ---- an input that is refused
 
 -- the fault of a file head
-pub input_refused : (bytes : List ℕ) (found : CaptureFault) → (IsPcapng bytes → ⊥) → ShowsFault bytes found →
-    Input bytes [] (Err (fault.Capture found))
-input_refused bytes found other shown =
+pub input_refused : (link : ℕ) (bytes : List ℕ) (found : CaptureFault) → (IsPcapng bytes → ⊥) →
+    ShowsFault link bytes found →
+    Input link bytes [] (Err (fault.Capture found))
+input_refused link bytes found other shown =
     inr (
       other,
       record {

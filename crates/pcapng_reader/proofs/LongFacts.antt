@@ -1,5 +1,5 @@
 -- A block that is too long to be held whole: what its kept bytes and its second length show.
-use Rattle.std.proofs.Common.{◌≡◌, ◌≤◌, ◌<◌, ℕ, ◌+◌, ◌-◌, nat_eq, List, ◌++◌, length, max, min, take, drop, Option, refl, sym, ap, ◌∙◌, subst, inl, inr, arith, append_assoc, length-append, length-take-le}
+use Rattle.std.proofs.Common.{◌≡◌, ◌≤◌, ◌<◌, ℕ, ◌+◌, ◌-◌, List, ◌++◌, length, max, min, take, drop, Option, refl, sym, ap, ◌∙◌, subst, inl, inr, arith, append_assoc, length-append, length-take-le}
 use Rattle.std.proofs.KnownBytes.{Consumes-trans}
 use Rattle.std.proofs.lemmas.List.{drop_at}
 use Rattle.byte_window.specs.Window.{Gathers, IsDrained}
@@ -161,7 +161,7 @@ packet_kept : (interface : AnInterface) (captured at kept size : ℕ) → (IsToo
     (captured ≤ longest_packet → at + captured ≤ kept) → at + given_length interface captured ≤ kept
 packet_kept interface captured at kept size fits covers =
     let few : captured ≤ longest_packet = at_least captured longest_packet (λ above. fits (inl above)) in
-    omega (arith, covers few, given_le (nat_eq interface.link 1) captured)
+    omega (arith, covers few, given_le interface.is_asked captured)
 
 -- what a long block shows lies so
 lies_as : (x y : Seen) (kept dropped : ℕ) → x ≡ y → LiesIn y kept dropped → LiesIn x kept dropped

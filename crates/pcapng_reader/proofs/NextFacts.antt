@@ -1,5 +1,5 @@
 -- What a block that is given out or passed makes of a reader.
-use Rattle.std.proofs.Common.{◌≡◌, ◌≤◌, ℕ, ◌+◌, Bool, true, false, if◌then◌else◌, nat_eq, List, [], ◌∷◌, ◌++◌, length, take, drop, sym, ap, ◌∙◌, subst, inl, inr, refl, arith, append-nil, length-drop, length-take-le, take-append-drop}
+use Rattle.std.proofs.Common.{◌≡◌, ◌≤◌, ℕ, ◌+◌, Bool, true, false, if◌then◌else◌, List, [], ◌∷◌, ◌++◌, length, take, drop, sym, ap, ◌∙◌, subst, inl, inr, refl, arith, append-nil, length-drop, length-take-le, take-append-drop}
 use Rattle.std.proofs.lemmas.Bool.{cases_lt}
 use Rattle.std.proofs.lemmas.List.{drop-append-le, take-append-le}
 use Rattle.pcap_reader.specs.declared.order.Order.{Order}
@@ -43,7 +43,7 @@ fits captured at size not = elim (cases_lt size (at + padded captured + 4)) [
 fits_given : (interface : AnInterface) (captured at size : ℕ) → (IsTooLong captured at size → ⊥) →
     at + given_length interface captured + 4 ≤ size
 fits_given interface captured at size not =
-    omega (arith, fits captured at size not, given_le (nat_eq interface.link 1) captured)
+    omega (arith, fits captured at size not, given_le interface.is_asked captured)
 
 -- what is given of a packet lies in its block, before the second length
 packet_end : (state : State) (offset : ℕ) (order : Order) (kind : Kind) (size : ℕ) (bytes : List ℕ) (x : Seen) →
@@ -101,6 +101,7 @@ behind_packet old form bytes size at count =
       pending = drop size bytes;
       packet = take count (drop at bytes);
       offset = old.offset + size;
+      start = old.offset;
       given = old.given + 1;
       ended = old.ended;
     }
@@ -140,6 +141,16 @@ gives_packet old state bytes taken size at count form going held room shows =
       held = held ∙ sym (take-append-drop size bytes);
       room = omega (arith, length-drop size bytes, room);
       offset = omega (arith, long);
+      starts = record {
+        before = [];
+        last = OfBlocks state;
+        parts = subst (λ (f : Form). AreParts f old.offset [] [] (OfBlocks state)) (sym form)
+            ([], state, (refl, refl), refl, refl);
+        rest = block;
+        whole = refl;
+        is = omega arith;
+        next = (size, at, count, is.shows);
+      };
       given = refl;
       goes_on = going;
     }

@@ -12,7 +12,7 @@ use Rattle.pcapng_reader.specs.declared.block.Kind.TheVariants.{Section, Interfa
 use Rattle.pcapng_reader.specs.declared.block.Seen.{Seen}
 use Rattle.pcapng_reader.specs.declared.block.Seen.TheVariants as seen
 use Rattle.pcapng_reader.specs.Section.{State, opening}
-use Rattle.pcapng_reader.specs.Blocks.{AreBlocks, HasKind, HoldsBlocks, IsBlock, IsLast, IsMagicIn, IsReadIn, IsWhole, Sees, SeesCaptured, SeesEnhanced, SeesHead, SeesInterface, SeesKind, SeesOther, SeesSection, SeesSimple, SeesSize, after, block_type, interface_at, packets_of, simple_length, total_length}
+use Rattle.pcapng_reader.specs.Blocks.{AreBlocks, HasKind, HoldsBlocks, IsBlock, IsLast, IsMagicIn, IsReadIn, IsWhole, Sees, SeesCaptured, SeesEnhanced, SeesHead, SeesInterface, SeesKind, SeesOther, SeesSection, SeesSimple, SeesSize, after, block_type, interface_at, interface_of, packets_of, simple_length, total_length}
 use Rattle.pcapng_reader.specs.Input.{HoldsSavefile, Input, any_ending, packets_in}
 use Rattle.pcapng_reader.proofs.Decisions.{where_once}
 use Rattle.pcapng_reader.proofs.BlockFacts.{block_front}
@@ -58,7 +58,7 @@ same_interface : (state : State) (offset link snapshot size : ℕ) (x y : Seen) 
     SeesInterface state offset link snapshot size x → SeesInterface state offset link snapshot size y → x ≡ y
 same_interface state offset link snapshot size x y p q =
     where_once same
-    (λ a b. same_other state offset (seen.Interface size (record { link = link; snapshot = snapshot })) x y a b) p q
+    (λ a b. same_other state offset (seen.Interface size (interface_of state link snapshot)) x y a b) p q
 
 -- a whole block shows one thing by its kind
 same_inside : (state : State) (offset : ℕ) (order : Order) (kind : Kind) (size : ℕ) (bytes : List ℕ) (x y : Seen) →
@@ -285,19 +285,19 @@ same_holds state offset bytes packets others ending other p q =
     p.each q.each (sym p.parts ∙ q.parts)
 
 -- and so has a savefile
-same_savefile : (bytes : List ℕ) (packets others : List (List ℕ)) (ending other : Result ℕ AnyFault) →
-    HasOneCapture bytes → HoldsSavefile bytes packets ending → HoldsSavefile bytes others other →
+same_savefile : (link : ℕ) (bytes : List ℕ) (packets others : List (List ℕ)) (ending other : Result ℕ AnyFault) →
+    HasOneCapture link bytes → HoldsSavefile link bytes packets ending → HoldsSavefile link bytes others other →
     (packets ≡ others) × (ending ≡ other)
-same_savefile bytes packets others ending other one p q =
+same_savefile link bytes packets others ending other one p q =
     let same = one p.records q.records p.kept q.kept p.capture q.capture in (
       p.packets_are ∙ ap packets_in same.0 ∙ sym q.packets_are,
       p.ends ∙ ap any_ending same.1 ∙ sym q.ends,
     )
 
 -- a list of bytes has at most one input
-pub same_input : (bytes : List ℕ) (packets others : List (List ℕ)) (ending other : Result ℕ AnyFault) →
-    HasOneCapture bytes → Input bytes packets ending → Input bytes others other →
+pub same_input : (link : ℕ) (bytes : List ℕ) (packets others : List (List ℕ)) (ending other : Result ℕ AnyFault) →
+    HasOneCapture link bytes → Input link bytes packets ending → Input link bytes others other →
     (packets ≡ others) × (ending ≡ other)
-same_input bytes packets others ending other one p q =
-    where_once (λ a b. same_holds opening 0 bytes packets others ending other a b)
-    (λ a b. same_savefile bytes packets others ending other one a b) p q
+same_input link bytes packets others ending other one p q =
+    where_once (λ a b. same_holds (opening link) 0 bytes packets others ending other a b)
+    (λ a b. same_savefile link bytes packets others ending other one a b) p q

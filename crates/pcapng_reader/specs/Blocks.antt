@@ -104,9 +104,9 @@ simple_length interface original =
     if nat_eq interface.snapshot 0 then original
     else (if nat_lt interface.snapshot original then interface.snapshot else original)
 
--- so many bytes of a packet are given: all where its link type is Ethernet's, and else none
+-- so many bytes of a packet are given: all if its interface has the link type that was asked for, and else none
 abbrev pub given_length : AnInterface → ℕ → ℕ
-given_length interface captured = if nat_eq interface.link 1 then captured else 0
+given_length interface captured = if interface.is_asked then captured else 0
 
 -- a captured length above the limit, or a packet from that place on that does not fit a block of that size
 abbrev pub IsTooLong : (captured at size : ℕ) → Type 0
@@ -159,11 +159,15 @@ SeesSection state offset order major minor size sees =
     Unless (major ≡ 1) (sees ≡ seen.Fault (fault.SectionVersion offset major minor))
     (SeesOther state offset (seen.Section size order) sees)
 
--- an interface of that link type and snapshot length
+-- the interface of that link type and snapshot length
+abbrev pub interface_of : State → (link snapshot : ℕ) → AnInterface
+interface_of state link snapshot = record { is_asked = nat_eq link state.link; snapshot = snapshot }
+
+-- a block that describes it
 abbrev pub SeesInterface : State → ℕ → (link snapshot : ℕ) → ℕ → Seen → Type 0
 SeesInterface state offset link snapshot size sees =
     Where (most_interfaces ≤ length state.interfaces) (sees ≡ seen.Fault (fault.Interfaces offset))
-    (SeesOther state offset (seen.Interface size (record { link = link; snapshot = snapshot })) sees)
+    (SeesOther state offset (seen.Interface size (interface_of state link snapshot)) sees)
 
 -- what a whole block of that kind and size shows
 abbrev pub SeesKind : State → ℕ → Order → Kind → ℕ → List ℕ → Seen → Type 0
@@ -204,7 +208,7 @@ Sees state offset bytes sees =
 
 -- what is set behind a block that shows that
 abbrev pub after : State → Seen → State
-after state (seen.Section size order) = record { order = order; interfaces = []; others = state.others + 1 }
+after state (seen.Section size order) = record state { order = order; interfaces = []; others = state.others + 1 }
 after state (seen.Interface size interface) =
     record state { interfaces = state.interfaces ++ interface ∷ []; others = state.others + 1 }
 after state (seen.Other size) = record state { others = state.others + 1 }

@@ -1,4 +1,5 @@
 -- What the readers of both formats are as one.
+use Rattle.std.specs.Prelude.{◌-◌, ◌+◌, length}
 use Rattle.pcap_reader.specs.Reading.{Reading as OneFile}
 use Rattle.pcapng_reader.specs.declared.any.Inner.{Inner}
 use Rattle.pcapng_reader.specs.declared.any.Inner.TheVariants.{Savefile, Blocks}
@@ -12,6 +13,7 @@ of_savefile saved =
       pending = saved.pending;
       packet = saved.packet;
       offset = saved.offset;
+      start = saved.offset - (16 + length saved.packet);
       given = saved.given;
       ended = saved.ended;
     }

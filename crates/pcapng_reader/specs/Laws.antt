@@ -2,21 +2,21 @@
 use Rattle.std.specs.Prelude.{◌≡◌, ℕ, ◌+◌, List, ◌++◌, length, drop, Result}
 use Rattle.capture_faults.specs.declared.any_fault.AnyFault.{AnyFault}
 use Rattle.pcapng_reader.specs.Input.{Input}
-use Rattle.pcapng_reader.specs.Reading.{AreParts, Form, GivesAll, IsAtStart, IsOpened, IsOpenedOn, MeetsEnding, Reading, head_length}
+use Rattle.pcapng_reader.specs.Reading.{AreParts, Form, GivesAll, HoldsPacket, IsAtStart, IsOpened, IsOpenedOn, MeetsEnding, Reading, head_length}
 
 -- a list of bytes has at most one input
-abbrev pub HasOneInput : List ℕ → Type 0
-HasOneInput bytes =
-    (packets others : List (List ℕ)) (ending other : Result ℕ AnyFault) → Input bytes packets ending →
-    Input bytes others other → (packets ≡ others) × (ending ≡ other)
+abbrev pub HasOneInput : ℕ → List ℕ → Type 0
+HasOneInput link bytes =
+    (packets others : List (List ℕ)) (ending other : Result ℕ AnyFault) → Input link bytes packets ending →
+    Input link bytes others other → (packets ≡ others) × (ending ≡ other)
 
 -- a list of bytes has an input
-abbrev pub HasInput : List ℕ → Type 0
-HasInput bytes = (packets : List (List ℕ)) × (ending : Result ℕ AnyFault) × Input bytes packets ending
+abbrev pub HasInput : ℕ → List ℕ → Type 0
+HasInput link bytes = (packets : List (List ℕ)) × (ending : Result ℕ AnyFault) × Input link bytes packets ending
 
 -- the bytes begin as an input of that form, and up to that place have parts that give these packets
-pub record Reaches (bytes : List ℕ) (packets : List (List ℕ)) (form : Form) (place : ℕ) : Type 0 where
-  pub opened : IsOpened form bytes
+pub record Reaches (link : ℕ) (bytes : List ℕ) (packets : List (List ℕ)) (form : Form) (place : ℕ) : Type 0 where
+  pub opened : IsOpened link form bytes
   pub passed : List ℕ
   pub last : Form
   pub parts : AreParts form (head_length form) passed packets last
@@ -24,16 +24,28 @@ pub record Reaches (bytes : List ℕ) (packets : List (List ℕ)) (form : Form) 
   pub whole : drop (head_length form) bytes ≡ passed ++ more
   pub is : place ≡ head_length form + length passed
 
+-- The bytes begin as an input that gives these packets, and the packet behind them is that of a whole record or block
+-- which starts at that place.
+pub record StartsAt (link : ℕ) (bytes : List ℕ) (packets : List (List ℕ)) (place : ℕ) : Type 0 where
+  pub form : Form
+  pub reaches : Reaches link bytes packets form place
+  pub part : List ℕ
+  pub others : List ℕ
+  pub behind : reaches.more ≡ part ++ others
+  pub next : HoldsPacket reaches.last place part
+
 -- the packets of the parts that a list of bytes begins with are the first of its input
-abbrev pub HoldsFront : List ℕ → Type 0
-HoldsFront bytes =
+abbrev pub HoldsFront : ℕ → List ℕ → Type 0
+HoldsFront link bytes =
     (front packets : List (List ℕ)) (form : Form) (place : ℕ) (ending : Result ℕ AnyFault) →
-    Reaches bytes front form place → Input bytes packets ending → (others : List (List ℕ)) × (packets ≡ front ++ others)
+    Reaches link bytes front form place → Input link bytes packets ending →
+    (others : List (List ℕ)) × (packets ≡ front ++ others)
 
 -- What a reader gives from its opening to an ending are the packets and the ending of the input that was taken, however
 -- the reads were cut.
 abbrev pub ReadsInput : Type 0
 ReadsInput =
-    (start last ended : Reading) (head middle rest : List ℕ) (packets : List (List ℕ)) (ending : Result ℕ AnyFault) →
-    IsOpenedOn start head → IsAtStart start → GivesAll start packets middle last →
-    MeetsEnding last ended ending rest → Input (head ++ (middle ++ rest)) packets ending
+    (link : ℕ) (start last ended : Reading) (head middle rest : List ℕ) (packets : List (List ℕ))
+    (ending : Result ℕ AnyFault) →
+    IsOpenedOn link start head → IsAtStart start → GivesAll start packets middle last →
+    MeetsEnding last ended ending rest → Input link (head ++ (middle ++ rest)) packets ending

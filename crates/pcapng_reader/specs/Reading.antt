@@ -31,9 +31,9 @@ head_length (OfRecords order) = file_head_length
 head_length (OfBlocks state) = 0
 
 -- the bytes begin as an input of that form does
-abbrev pub IsOpened : Form → List ℕ → Type 0
-IsOpened (OfRecords order) bytes = HasFileHead order bytes
-IsOpened (OfBlocks state) bytes = IsPcapng bytes × (state ≡ opening)
+abbrev pub IsOpened : ℕ → Form → List ℕ → Type 0
+IsOpened link (OfRecords order) bytes = HasFileHead link order bytes
+IsOpened link (OfBlocks state) bytes = IsPcapng bytes × (state ≡ opening link)
 
 -- from that form and offset on the bytes are whole records, or whole blocks, that give these packets and leave that
 -- form
@@ -69,6 +69,8 @@ pub record Reading : Type 0 where
   pub packet : List ℕ
   -- where the next record or block starts, in bytes from the input's first
   pub offset : ℕ
+  -- where the record or block of the packet that was given last starts
+  pub start : ℕ
   -- how many packets were given
   pub given : ℕ
   -- an end, a rest or a fault was answered
@@ -81,9 +83,9 @@ beyond (OfRecords order) = buffer_length
 beyond (OfBlocks state) = 17301504
 
 -- what was taken of the source shows the form, what is not the head is held, and all has room in the buffer
-abbrev pub IsOpenedOn : Reading → List ℕ → Type 0
-IsOpenedOn reading taken =
-    IsOpened reading.form taken × (reading.pending ≡ drop (head_length reading.form) taken)
+abbrev pub IsOpenedOn : ℕ → Reading → List ℕ → Type 0
+IsOpenedOn link reading taken =
+    IsOpened link reading.form taken × (reading.pending ≡ drop (head_length reading.form) taken)
     × (length taken ≤ buffer_length)
 
 -- the reader stands before the first record or block, and has given nothing
@@ -99,6 +101,17 @@ abbrev pub HaveRoom : Form → (passed pending : List ℕ) → Type 0
 HaveRoom (OfRecords order) passed pending = length (passed ++ pending) ≤ buffer_length
 HaveRoom (OfBlocks state) passed pending = length pending ≤ buffer_length
 
+-- From that form and offset on the bytes are parts without a packet, and then a whole record or block that has one and
+-- starts at `start`.
+pub record PacketStarts (form : Form) (offset : ℕ) (bytes : List ℕ) (start : ℕ) : Type 0 where
+  pub before : List ℕ
+  pub last : Form
+  pub parts : AreParts form offset before [] last
+  pub rest : List ℕ
+  pub whole : bytes ≡ before ++ rest
+  pub is : start ≡ offset + length before
+  pub next : HoldsPacket last start rest
+
 -- One packet was given out, of what was held and what was taken of the source: behind parts without a packet.
 pub record GivesPacket (old new : Reading) (taken : List ℕ) : Type 0 where
   pub passed : List ℕ
@@ -106,6 +119,7 @@ pub record GivesPacket (old new : Reading) (taken : List ℕ) : Type 0 where
   pub held : old.pending ++ taken ≡ passed ++ new.pending
   pub room : HaveRoom new.form passed new.pending
   pub offset : new.offset ≡ old.offset + length passed
+  pub starts : PacketStarts old.form old.offset passed new.start
   pub given : new.given ≡ old.given + 1
   pub goes_on : new.ended ≡ false
 
@@ -124,10 +138,10 @@ pub record MeetsEnding (old new : Reading) (ending : Result ℕ AnyFault) (taken
 
 -- Of the bytes of an input these packets have been given, and of its source these bytes are left. The reader stands
 -- behind the parts that have the packets.
-pub record HasRead (bytes : List ℕ) (reading : Reading) (left : Option (List ℕ)) (packets : List (List ℕ)) :
+pub record HasRead (link : ℕ) (bytes : List ℕ) (reading : Reading) (left : Option (List ℕ)) (packets : List (List ℕ)) :
     Type 0 where
   pub form : Form
-  pub opened : IsOpened form bytes
+  pub opened : IsOpened link form bytes
   pub passed : List ℕ
   pub parts : AreParts form (head_length form) passed packets reading.form
   pub more : List ℕ
@@ -164,12 +178,12 @@ UnlessReadFault (Err found) P = P
 
 -- What `open` answers: the fault of a file head, by what was taken, which has room in the buffer. Want of memory comes
 -- before anything is taken.
-abbrev pub OnRefused : AnyFault → (before after : Option (List ℕ)) → Type 0
-OnRefused (fault.Capture capture.ReadFault) before after = TakesFewer file_head_length before after
-OnRefused (fault.Capture capture.Memory) before after = before ≡ after
-OnRefused (fault.Capture (capture.ShortHeader have)) before after =
+abbrev pub OnRefused : ℕ → AnyFault → (before after : Option (List ℕ)) → Type 0
+OnRefused link (fault.Capture capture.ReadFault) before after = TakesFewer file_head_length before after
+OnRefused link (fault.Capture capture.Memory) before after = before ≡ after
+OnRefused link (fault.Capture (capture.ShortHeader have)) before after =
     Took before after
-    (λ taken. ShowsFault taken (capture.ShortHeader have) × IfSome before (λ bytes. bytes ≡ taken))
-OnRefused (fault.Capture found) before after =
-    Took before after (λ taken. (¬ IsPcapng taken) × ShowsFault taken found × (length taken ≤ buffer_length))
-OnRefused found before after = ⊥
+    (λ taken. ShowsFault link taken (capture.ShortHeader have) × IfSome before (λ bytes. bytes ≡ taken))
+OnRefused link (fault.Capture found) before after =
+    Took before after (λ taken. (¬ IsPcapng taken) × ShowsFault link taken found × (length taken ≤ buffer_length))
+OnRefused link found before after = ⊥

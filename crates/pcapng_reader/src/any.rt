@@ -48,18 +48,19 @@ impl AnyReader {
     /// Makes the packet buffer and room for a section's interfaces, and reads the first 24 bytes of an input, which
     /// show its format.
     ///
-    /// Where the first four are a section block's type, the input is pcapng, and otherwise a savefile.
+    /// Where the first four are a section block's type, the input is pcapng, and otherwise a savefile, which must have
+    /// this link type.
     /// Faults, each a `Capture`: `Memory`, before anything is read; `ReadFault`, only where the source's count rose;
     /// `ShortHeader`, exactly where the input ends within 24 bytes; `Magic`, `Version` and `LinkType`, exactly where
     /// the head of a savefile shows them, in this order.
     /// Source: draft-ietf-opsawg-pcapng, 4.1; pcap-savefile(5), per-file header.
-    pub fn open<S: Source>(alloc: Global, source: &mut S) -> Result<AnyReader, AnyFault>
+    pub fn open<S: Source>(alloc: Global, link: u16, source: &mut S) -> Result<AnyReader, AnyFault>
         // What was taken shows the form, and what is not the head is held.
-        ensures took { IfOk result (λ reader. Took (S.left source.old) (S.left source.new) (IsOpenedOn reader)) }
+        ensures took { IfOk result (λ reader. Took (S.left source.old) (S.left source.new) (IsOpenedOn link reader)) }
         ensures start { IfOk result IsAtStart }
 
         // What was taken shows the fault, or the input is shorter than a head.
-        ensures refused { IfErr result (λ fault. OnRefused fault (S.left source.old) (S.left source.new)) }
+        ensures refused { IfErr result (λ fault. OnRefused link fault (S.left source.old) (S.left source.new)) }
         ensures memory { result ≡ Err (Capture Memory) → source.new ≡ source.old }
         ensures read_fault { result ≡ Err (Capture ReadFault) → Rose (S.faults source.old) (S.faults source.new) }
         ensures counted { S.faults source.old ≤ S.faults source.new }
@@ -70,10 +71,10 @@ impl AnyReader {
         ensures none_failed { UnlessReadFault result (S.failed source.new ≡ S.failed source.old) }
     {
         let mut window = Window::new(alloc)?;
-        let section = Section::new(alloc)?;
+        let section = Section::new(alloc, link)?;
         match window.hold(FILE_HEAD, source) {
             Ok(true) => {
-                let inner = inner_of(window, section)?;
+                let inner = inner_of(link, window, section)?;
                 Ok(AnyReader { inner })
             }
             Ok(false) => Err(AnyFault::Capture(CaptureFault::ShortHeader {
@@ -85,7 +86,7 @@ impl AnyReader {
 
     /// Reads on to the next packet, or to the ending of the input.
     ///
-    /// Takes no memory. A packet of an interface that is not Ethernet's is given as an empty list of bytes.
+    /// Takes no memory. A packet of an interface of another link type is given as an empty list of bytes.
     /// Faults, each exactly where the block or record at the reader's offset shows it: of a savefile
     /// `Capture(RecordLength)`, and of pcapng all that are no `Capture`; and `Capture(ReadFault)`, only where the
     /// source's count rose. After an end, a rest or a fault the reader has ended.
@@ -142,6 +143,17 @@ impl AnyReader {
         }
     }
 
+    /// Where the record or block of the packet that was given last starts, in bytes from the input's first. It means
+    /// nothing before a packet was given, or after an ending.
+    pub fn start(&self) -> u64
+        ensures { result ≡ self.now.start }
+    {
+        match &self.inner {
+            Inner::Savefile(reader) => reader.start(),
+            Inner::Blocks(reader) => reader.start(),
+        }
+    }
+
     /// Whether an end, a rest or a fault was answered.
     pub fn ended(&self) -> bool
         ensures { result ≡ self.now.ended }
@@ -154,19 +166,19 @@ impl AnyReader {
 }
 
 /// The reader of the format that the held bytes show, of which there are as many as a file head has.
-fn inner_of(window: Window, section: Section) -> Result<Inner, CaptureFault>
+fn inner_of(link: u16, window: Window, section: Section) -> Result<Inner, CaptureFault>
     requires whole { FILE_HEAD ≤ length window.unread }
-    requires opening { section ≡ opening }
-    ensures form { IfOk result (λ inner. IsOpened (reading_of inner).form window.unread) }
+    requires opening { section ≡ opening link }
+    ensures form { IfOk result (λ inner. IsOpened link (reading_of inner).form window.unread) }
     ensures held { IfOk result (λ inner.
         (reading_of inner).pending ≡ drop (head_length (reading_of inner).form) window.unread) }
     ensures start { IfOk result (λ inner. IsAtStart (reading_of inner)) }
     ensures other { OnErr result (¬ IsPcapng window.unread) }
-    ensures fault { IfErr result (λ fault. ShowsFault window.unread fault) }
+    ensures fault { IfErr result (λ fault. ShowsFault link window.unread fault) }
 {
     if begins_section(window.unread()) {
         return Ok(Inner::Blocks(BlockReader::over(window, section)));
     }
-    let reader = Reader::over(window)?;
+    let reader = Reader::over(link, window)?;
     Ok(Inner::Savefile(reader))
 }

@@ -9,7 +9,7 @@ ghost use Rattle.pcapng_reader.specs.Blocks.{HasKind, IsBlockLength, IsSection, 
 
 use crate::{Interface, Section};
 use capture_faults::{AnyFault, MOST_INTERFACES, MOST_OTHERS};
-use pcap_reader::{ETHERNET, MAXIMUM_CAPTURED, Order};
+use pcap_reader::{MAXIMUM_CAPTURED, Order};
 
 /// The longest block, in bytes, which is also that of libpcap.
 pub const LONGEST_BLOCK: u32 = 16_777_216;
@@ -266,7 +266,10 @@ fn see_interface(section: &Section, offset: u64, link: u16, snapshot: u32, size:
     if section.interfaces() >= MOST_INTERFACES {
         return Seen::Fault(AnyFault::Interfaces { offset });
     }
-    let interface = Interface { link, snapshot };
+    let interface = Interface {
+        is_asked: link == section.link(),
+        snapshot,
+    };
     see_other(section, offset, Seen::Interface { size, interface })
 }
 
@@ -361,9 +364,5 @@ fn is_too_long(captured: u32, at: usize, size: usize) -> bool
 fn given(interface: Interface, captured: usize) -> usize
     ensures { result ≡ given_length interface captured }
 {
-    if interface.link == ETHERNET {
-        captured
-    } else {
-        0
-    }
+    if interface.is_asked { captured } else { 0 }
 }

@@ -22,6 +22,7 @@ pub struct BlockReader {
     section: Section,
     window: Window,
     offset: u64,
+    start: u64,
     given: u32,
     ended: bool,
 }
@@ -37,6 +38,7 @@ impl Model for BlockReader {
       pending = r.window.unread;
       packet = r.window.last;
       offset = r.offset;
+      start = r.start;
       given = r.given;
       ended = r.ended;
     } };
@@ -53,6 +55,7 @@ impl BlockReader {
           pending = window.unread;
           packet = [];
           offset = 0;
+          start = 0;
           given = 0;
           ended = false;
         } }
@@ -63,6 +66,7 @@ impl BlockReader {
             section,
             window,
             offset: 0,
+            start: 0,
             given: 0,
             ended: false,
         }
@@ -149,6 +153,13 @@ impl BlockReader {
         self.window.last()
     }
 
+    /// Where the block of the packet that was given last starts, in bytes from the input's first.
+    pub fn start(&self) -> u64
+        ensures { result ≡ self.now.start }
+    {
+        self.start
+    }
+
     /// Whether an end, a rest or a fault was answered.
     pub fn ended(&self) -> bool
         ensures { result ≡ self.now.ended }
@@ -166,10 +177,12 @@ impl BlockReader {
           pending = drop held self.old.pending;
           packet = take count (drop at self.old.pending);
           offset = self.old.offset + size;
+          start = self.old.offset;
           given = self.old.given + 1;
         } }
     {
         self.window.take_part(at, count, held);
+        self.start = self.offset;
         self.offset += size as u64;
         self.given += 1;
     }

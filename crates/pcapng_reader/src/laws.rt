@@ -7,21 +7,21 @@ use pcap_reader::{capture_front, every_capture, one_capture};
 
 /// A list of bytes has at most one input.
 pub fn one_input()
-    ensures { (bytes : List ℕ) → HasOneInput bytes }
+    ensures { (link : ℕ) (bytes : List ℕ) → HasOneInput link bytes }
 {
     one_capture();
 }
 
 /// Each list of bytes has an input.
 pub fn every_input()
-    ensures { (bytes : List ℕ) → HasInput bytes }
+    ensures { (link : ℕ) (bytes : List ℕ) → HasInput link bytes }
 {
     every_capture();
 }
 
 /// The packets of the parts that a list of bytes begins with are the first of its input.
 pub fn input_front()
-    ensures { (bytes : List ℕ) → HoldsFront bytes }
+    ensures { (link : ℕ) (bytes : List ℕ) → HoldsFront link bytes }
 {
     capture_front();
     one_input();

@@ -11,8 +11,8 @@ use std::marker::Model;
 /// An interface of a section.
 #[derive(Clone, Copy, PartialEq, Eq)]
 pub struct Interface {
-    /// The link type, as in a savefile.
-    pub link: u16,
+    /// Whether it has the link type that was asked for.
+    pub is_asked: bool,
     /// The most bytes of a packet that are captured; 0 is no limit.
     pub snapshot: u32,
 }
@@ -20,6 +20,7 @@ pub struct Interface {
 /// What the blocks before have set.
 #[derive(Drop)]
 pub struct Section {
+    link: u16,
     order: Order,
     interfaces: Vec<Interface>,
     others: u32,
@@ -32,6 +33,7 @@ impl Model for Section {
     ghost Value = { State };
 
     ghost view = { λ s. record {
+      link = s.link;
       order = s.order;
       interfaces = s.interfaces.items;
       others = s.others;
@@ -41,15 +43,23 @@ impl Model for Section {
 }
 
 impl Section {
-    /// What is set before the first block, with room for the interfaces of a section.
-    pub fn new(alloc: Global) -> Result<Section, AllocError>
-        ensures { IfOk result (λ section. section ≡ opening) }
+    /// What is set before the first block where this link type is asked for, with room for the interfaces of a section.
+    pub fn new(alloc: Global, link: u16) -> Result<Section, AllocError>
+        ensures { IfOk result (λ section. section ≡ opening link) }
     {
         Ok(Section {
+            link,
             order: Order::Little,
             interfaces: Vec::with_capacity(alloc, MOST_INTERFACES)?,
             others: 0,
         })
+    }
+
+    /// The link type that was asked for.
+    pub fn link(&self) -> u16
+        ensures { result ≡ self.now.link }
+    {
+        self.link
     }
 
     /// The order of the bytes of a number.
@@ -84,7 +94,7 @@ impl Section {
     /// Begins a section, by a block that gives no packet.
     pub fn begin(&mut self, order: Order)
         requires { self.old.others < 4000000 }
-        ensures { self.new ≡ record { order = order; interfaces = []; others = self.old.others + 1 } }
+        ensures { self.new ≡ record self.old { order = order; interfaces = []; others = self.old.others + 1 } }
     {
         self.order = order;
         self.interfaces.clear();

@@ -35,6 +35,7 @@ use Rattle.batch_deals.specs.declared.service.Service.{Service}
 use Rattle.batch_deals.specs.Dealt.{shares_of}
 use Rattle.batch_deals.proofs.Deals.{dealt_hold}
 use Rattle.trace_share.proofs.OnceLemmas.{deals_each_once}
+use Rattle.packet_heads.specs.declared.framing.Framing.{Framing}
 use Rattle.mode_parts.specs.Planned.{head_of}
 use Rattle.mode_parts.specs.PacketCalls.{MakeCalls}
 use Rattle.play_runner.specs.declared.values.Played.{Played}
@@ -119,13 +120,13 @@ module _ (setup : Setup) (shares : List (List (ℕ × Call))) (stops : List (Opt
     took_updates u took = (and_parts (is_update u.call) _ took).0
 
     module _ (fit : All (All IsFitting) shares) (calls : List (ℕ × Call))
-        (dealt : IsPermutation (flat_map (λ own. own) shares) calls) (packets : List (List ℕ))
-        (makes : MakeCalls 1 packets calls) (few : length packets ≤ 200) where
+        (dealt : IsPermutation (flat_map (λ own. own) shares) calls) (framing : Framing) (packets : List (List ℕ))
+        (makes : MakeCalls framing 1 packets calls) (few : length packets ≤ 200) where
       few_all : length lines ≤ 200
       few_all = omega (
         arith,
         few,
-        calls_few 1 packets calls makes,
+        calls_few framing 1 packets calls makes,
         few_lines setup shares stops schedule right.run right.comes calls dealt lines comes.outcomes
             played.pending.items comes.pending,
       )
@@ -147,7 +148,7 @@ module _ (setup : Setup) (shares : List (List (ℕ × Call))) (stops : List (Opt
       -- the calls that ended rise by packet
       good_rise : IsNonDecreasingBy packet_in lines → Rise (map (λ asked. asked.0) (calls_ended lines))
       good_rise = lines_rise setup shares stops schedule right.run right.comes calls dealt lines comes.outcomes
-          played.pending.items comes.pending packets makes
+          played.pending.items comes.pending framing packets makes
 
       -- and none is of a packet of a call under way
       good_apart : (ended : List (ℕ × Outcome)) (begun : List Pending) → ended ≡ lines →
@@ -162,7 +163,7 @@ module _ (setup : Setup) (shares : List (List (ℕ × Call))) (stops : List (Opt
             begun_same,
             ap (λ (ls : List (ℕ × Outcome)). times packet (map (λ (asked : ℕ × Call). asked.0) (calls_ended ls))) one,
             lines_apart setup shares stops schedule right.run right.comes calls dealt lines comes.outcomes
-                played.pending.items comes.pending packets makes packet (omega (arith, some, begun_same)),
+                played.pending.items comes.pending framing packets makes packet (omega (arith, some, begun_same)),
           )
 
       -- each call of the lines that is in the order is there once
@@ -210,7 +211,8 @@ module _ (setup : Setup) (shares : List (List (ℕ × Call))) (stops : List (Opt
 
 -- the report that `play` puts is good, by the play's one order
 pub play_is_good : (plan : Plan) (packets : List (List ℕ)) (calls : List (ℕ × Call)) (ending : Ending) (text : List ℕ)
-    (p : IsPlayOf plan (length packets) calls ending text) → MakeCalls 1 packets calls → length packets ≤ play_limit →
+    (p : IsPlayOf plan (length packets) calls ending text) → MakeCalls plan.framing 1 packets calls →
+    length packets ≤ play_limit →
     All IsFitting calls → IsHead (head_of true plan) →
     IsTail (head_of true plan) (play_tail p.service (length packets) (length calls) p.played ending) →
     IsGood (play_report plan p.service (length packets) (length calls) p.played ending)
@@ -234,4 +236,4 @@ play_is_good plan packets calls ending text p makes few fitting head tail =
     omega (arith, head.settings.seats_in_range.0, p.asks.settings.seats_are) in
     good_play (play_setup service calls) (shares_of service calls) plan.stops (schedule_in plan) p.played report p.right
     p.comes_to p.lines tells refl (dealt_hold IsFitting service.share service.settings.seats calls fitting) calls
-    (deals_each_once service.share service.settings.seats calls seats) packets makes few head tail
+    (deals_each_once service.share service.settings.seats calls seats) plan.framing packets makes few head tail

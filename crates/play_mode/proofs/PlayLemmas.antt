@@ -37,6 +37,7 @@ use Rattle.play_mode.specs.Playing.{IsPlayOf, LeavesPlay, LeavesPlayed, PlayRepo
 use Rattle.table_model.specs.Order.{order_of}
 use Rattle.table_model.specs.Closed.{closing_of}
 use Rattle.capture_loop.specs.Input.{ServesUpTo}
+use Rattle.packet_heads.specs.Links.{number_in}
 use Rattle.report_told.specs.Verdicts.{Certified}
 use Rattle.report_promises.specs.Good.{GoodIsCertified}
 use Rattle.mode_parts.proofs.FittingCalls.{calls_fit}
@@ -46,8 +47,9 @@ use Rattle.mode_parts.proofs.ExactLemmas.{few_packets, many_packets, same_status
 -- what was played of a whole input is its report
 PlayReports-ended :
     (plan : Plan) (bytes : List ℕ) (first now left : Option (List ℕ)) (many : ℕ) (calls : List (ℕ × Call))
-    (ending : Ending) (text : List ℕ) (ended : EndsCalls play_limit first now many calls ending) →
-    IsPlayOf plan many calls ending text → ServesUpTo play_limit bytes left ended.packets ending →
+    (ending : Ending) (text : List ℕ) (ended : EndsCalls plan.framing play_limit first now many calls ending) →
+    IsPlayOf plan many calls ending text →
+    ServesUpTo (number_in plan.framing.link) play_limit bytes left ended.packets ending →
     PlayReports plan bytes left ending text
 PlayReports-ended plan bytes first now left many calls ending text ended is serves = (
   ended.packets,
@@ -58,12 +60,12 @@ PlayReports-ended plan bytes first now left many calls ending text ended is serv
 )
 
 -- how many packets are played at most
-few_played : (bytes : List ℕ) (left : Option (List ℕ)) (packets : List (List ℕ)) (ending : Ending) →
-    ServesUpTo play_limit bytes left packets ending → length packets ≤ play_limit
-few_played bytes left packets (Done rest) serves = serves.holds.0.1
-few_played bytes left packets (Fault found) serves = serves.holds.1
-few_played bytes left packets ReadFault serves = serves.holds.6.1
-few_played bytes left packets (Limit limit) serves =
+few_played : (link : ℕ) (bytes : List ℕ) (left : Option (List ℕ)) (packets : List (List ℕ)) (ending : Ending) →
+    ServesUpTo link play_limit bytes left packets ending → length packets ≤ play_limit
+few_played link bytes left packets (Done rest) serves = serves.holds.0.1
+few_played link bytes left packets (Fault found) serves = serves.holds.1
+few_played link bytes left packets ReadFault serves = serves.holds.6.1
+few_played link bytes left packets (Limit limit) serves =
     let all : List (List ℕ) = serves.holds.0.0 in
     let long : play_limit ≤ length all = omega (arith, serves.holds.0.3) in
     omega (arith, ap length serves.holds.0.4, length-take-le play_limit all long)
@@ -75,8 +77,9 @@ play_certified good plan bytes left ending text (packets, calls, serves, makes, 
     subst Certified (sym is.text_is)
     (good (play_report plan is.service (length packets) (length calls) is.played ending)
     (order_of (play_setup is.service calls).shape (closing_of (play_in plan is.service calls).world))
-    (play_is_good plan packets calls ending text is makes (few_played bytes left packets ending serves)
-    (calls_fit 1 packets calls makes) is.head is.tail))
+    (play_is_good plan packets calls ending text is makes (few_played (number_in plan.framing.link) bytes left packets
+    ending serves)
+    (calls_fit plan.framing 1 packets calls makes) is.head is.tail))
 
 -- a report that was put whole leaves what its ending's status says
 LeavesPlay-whole :
@@ -91,7 +94,7 @@ LeavesPlay-whole good plan read_failed bytes left before after ending text repor
     by (Done rest) puts = (rest, puts)
     by ReadFault puts = puts
     by (Limit limit) puts = (limit, puts)
-    by (Fault fault) puts = (fault, puts)
+    by (Fault fault) puts = puts
 
 took_whole : (ending : Ending) (first left : Option (List ℕ)) (P : List ℕ → Type 0) → Took first left P →
     TookFor (status_of ending) first left P
@@ -101,7 +104,7 @@ took_whole (Limit limit) first left P took = took
 took_whole (Fault fault) first left P took = took
 
 module _ (plan : Plan) (read_failed : Type 0) (first left before after : Option (List ℕ)) (many : ℕ)
-    (calls : List (ℕ × Call)) (ending : Ending) (ended : EndsCalls play_limit first left many calls ending)
+    (calls : List (ℕ × Call)) (ending : Ending) (ended : EndsCalls plan.framing play_limit first left many calls ending)
     (text : List ℕ) (is : IsPlayOf plan many calls ending text) where
   -- by the bytes that the source told
   by_told : (bytes : List ℕ) → first ≡ Some bytes → PlayReports plan bytes left ending text
@@ -237,23 +240,25 @@ pub LeavesPlay-exact :
     (plan : Plan) (read_failed : Type 0) (bytes : List ℕ) (left before after : Option (List ℕ)) (answer : Status)
     (packets : List (List ℕ))
     (ending : Result ℕ AnyFault) →
-    HasOneInput bytes → Input bytes packets ending → (answer ≡ status.ReadFault → ⊥) →
+    HasOneInput (number_in plan.framing.link) bytes → Input (number_in plan.framing.link) bytes packets ending →
+    (answer ≡ status.ReadFault → ⊥) →
     (answer ≡ status.WriteFault → ⊥) → LeavesPlay plan read_failed bytes left before after answer →
     (answer ≡ status_up_to play_limit packets ending) ⊎ (answer ≡ status.Memory)
 LeavesPlay-exact plan read_failed bytes left before after status.Done packets ending one input no_read no_write leaves =
     let held = leaves.1.1.2.holds.0 in
     inl (few_packets play_limit leaves.1.1.0 (Ok leaves.0) held.1
-    ∙ same_status play_limit bytes leaves.1.1.0 packets (Ok leaves.0) ending one held.0 input)
-LeavesPlay-exact plan read_failed bytes left before after status.BadCapture packets ending one input no_read
+    ∙ same_status (number_in plan.framing.link) play_limit bytes leaves.1.1.0 packets (Ok leaves.0) ending one held.0
+    input)
+LeavesPlay-exact plan read_failed bytes left before after (status.BadCapture fault) packets ending one input no_read
     no_write leaves =
-    let held = leaves.1.1.2.holds in
-    inl (few_packets play_limit leaves.1.1.0 (Err leaves.0) held.1
-    ∙ same_status play_limit bytes leaves.1.1.0 packets (Err leaves.0) ending one held.0 input)
+    let held = leaves.1.2.holds in
+    inl (few_packets play_limit leaves.1.0 (Err fault) held.1
+    ∙ same_status (number_in plan.framing.link) play_limit bytes leaves.1.0 packets (Err fault) ending one held.0 input)
 LeavesPlay-exact plan read_failed bytes left before after status.Limit packets ending one input no_read
     no_write leaves =
     let held = leaves.1.1.2.holds.0 in
     inl (many_packets play_limit held.0 held.1 held.3
-    ∙ same_status play_limit bytes held.0 packets held.1 ending one held.2 input)
+    ∙ same_status (number_in plan.framing.link) play_limit bytes held.0 packets held.1 ending one held.2 input)
 LeavesPlay-exact plan read_failed bytes left before after status.ReadFault packets ending one input no_read
     no_write leaves =
     absurd (no_read refl)

@@ -8,7 +8,6 @@ use Rattle.step_counts.specs.StepCounts.{automatic_rows_of, step_bound}
 use Rattle.plain_map.specs.declared.calls.Call.{Call}
 use Rattle.plain_map.specs.PlainObject.{pairs_of}
 use Rattle.plain_map.specs.History.{Legal, After, Whole, sessions_after}
-use Rattle.capture_faults.specs.declared.any_fault.AnyFault.{AnyFault}
 use Rattle.trace_share.specs.declared.outcome.Outcome.{Outcome}
 use Rattle.report_text.specs.declared.parts.Ending.{Ending}
 use Rattle.report_text.specs.declared.parts.Ending.TheVariants.{Done, ReadFault, Limit, Fault}
@@ -39,6 +38,7 @@ use Rattle.capture_loop.specs.Input.{ServesUpTo}
 use Rattle.mode_parts.specs.PacketCalls.{MakeCalls}
 use Rattle.mode_parts.specs.Planned.{IsServiceOf, head_of}
 use Rattle.capture_loop.specs.Leaves.{IsMet, PutsFront}
+use Rattle.packet_heads.specs.Links.{number_in}
 use Rattle.mode_parts.specs.Statuses.{TookFor}
 
 -- how many packets `play` takes at most
@@ -189,8 +189,9 @@ pub record IsPlayOf (plan : Plan) (packets : ℕ) (calls : List (ℕ × Call)) (
 -- of an input with these bytes, of which these are left, the text is the report, with this ending
 abbrev pub PlayReports : Plan → List ℕ → Option (List ℕ) → Ending → List ℕ → Type 0
 PlayReports plan bytes left ending text =
-    (packets : List (List ℕ)) × (calls : List (ℕ × Call)) × ServesUpTo play_limit bytes left packets ending
-    × MakeCalls 1 packets calls × IsPlayOf plan (length packets) calls ending text
+    (packets : List (List ℕ)) × (calls : List (ℕ × Call)) × ServesUpTo (number_in plan.framing.link) play_limit bytes
+    left packets ending
+    × MakeCalls plan.framing 1 packets calls × IsPlayOf plan (length packets) calls ending text
 
 -- ---- what a run leaves
 
@@ -205,8 +206,8 @@ PutsPlay plan bytes left before after ending =
 abbrev pub LeavesPlay : Plan → Type 0 → List ℕ → Option (List ℕ) → Option (List ℕ) → Option (List ℕ) → Status → Type 0
 LeavesPlay plan read_failed bytes left before after status.Done =
     (rest : ℕ) × PutsPlay plan bytes left before after (Done rest)
-LeavesPlay plan read_failed bytes left before after status.BadCapture =
-    (fault : AnyFault) × PutsPlay plan bytes left before after (Fault fault)
+LeavesPlay plan read_failed bytes left before after (status.BadCapture fault) =
+    PutsPlay plan bytes left before after (Fault fault)
 LeavesPlay plan read_failed bytes left before after status.Limit =
     (limit : ℕ) × PutsPlay plan bytes left before after (Limit limit)
 LeavesPlay plan read_failed bytes left before after status.ReadFault = PutsPlay plan bytes left before after ReadFault

@@ -11,21 +11,24 @@ ghost use Rattle.table_model.specs.Schedules.{CanPlay, IsPlayable};
 ghost use Rattle.play_runner.specs.Played.{IsPlayed, as_segment};
 ghost use Rattle.batch_rows.specs.declared.rows.TheConstants.{CALL_LIMIT};
 ghost use Rattle.batch_deals.specs.Dealt.{shares_of};
-ghost use Rattle.capture_loop.specs.Endings.{HasFailed};
+ghost use Rattle.capture_loop.specs.Endings.{HasFailed, OnLimit};
+ghost use Rattle.capture_loop.specs.Input.{StopsAt};
 ghost use Rattle.command_line.specs.Words.{IsInRange};
-ghost use Rattle.mode_parts.specs.Statuses.{ReadsFailed, WritesFailed};
+ghost use Rattle.mode_parts.specs.Statuses.{MarksFor, ReadsFailed, WritesFailed};
+ghost use Rattle.packet_heads.specs.Links.{number_in};
 ghost use Rattle.mode_parts.specs.Reading.{AreBetween, EndsCalls};
 ghost use Rattle.mode_parts.specs.Planned.{IsServiceOf};
-ghost use Rattle.play_mode.specs.Playing.{IsPlayOf, LeavesPlayed, play_in, play_setup, play_tail, played_lines, ranges_for, refusals_in, schedule_in};
+ghost use Rattle.play_mode.specs.Playing.{IsPlayOf, LeavesPlayed, play_in, play_limit, play_setup, play_tail, played_lines, ranges_for, refusals_in, schedule_in};
 
 use crate::laws::playing_laws;
 use batch_deals::Service;
 use batch_rows::updates_of;
-use capture_loop::{Unopened, open, read_rest};
+use capture_loop::{Unopened, mark, open, read_rest};
 use command_line::Plan;
 use core_steps::CoreWorld;
 use edge_traits::{Failed, Sink, Source, write_all};
 use mode_parts::{CallPile, Status, head_of, put_sessions, service_of};
+use packet_heads::Framing;
 use plain_map::{Call, OpenFault, Pending, session_laws};
 use play_runner::{Played, Segment, most_steps};
 use report_promises::{head_fits, promise_laws, tail_fits};
@@ -39,8 +42,15 @@ use trace_share::{Outcome, deal};
 /// How many packets `play` takes at most.
 pub const PLAY_LIMIT: u32 = 200;
 
-/// Plays the source's packets as the plan says, and puts the report into the sink.
-pub fn play<S: Source, K: Sink>(alloc: Global, plan: &Plan, source: &mut S, sink: &mut K) -> Status
+/// Plays the source's packets as the plan says, and puts the report into the sink. Where there are more than are
+/// played, `beyond` is where the first of these starts, in bytes from the input's first.
+pub fn play<S: Source, K: Sink>(
+    alloc: Global,
+    plan: &Plan,
+    source: &mut S,
+    sink: &mut K,
+    beyond: &mut Option<u64>,
+) -> Status
     requires { IsInRange plan.now }
     ensures leaves { LeavesPlayed plan.now (Rose (S.faults source.old) (S.faults source.new)) (S.left source.old)
         (S.left source.new) (K.put sink.old) (K.put sink.new) result }
@@ -49,16 +59,21 @@ pub fn play<S: Source, K: Sink>(alloc: Global, plan: &Plan, source: &mut S, sink
     ensures reads { ReadsFailed result (S.failed source.old) (S.failed source.new) }
     ensures writes { WritesFailed result (K.failed sink.old) (K.failed sink.new) }
     ensures no_usage { result ≡ Status.Usage → ⊥ }
+    ensures beyond { MarksFor result beyond.old beyond.new
+        (StopsAt (number_in plan.now.framing.link) play_limit (S.left source.old) (S.left source.new)) }
     ensures counted { (S.faults source.old ≤ S.faults source.new) × (K.faults sink.old ≤ K.faults sink.new) }
 {
     promise_laws();
     let service = service_of(plan);
-    let Ok(input) = read_input(alloc, service, source) else {
+    let Ok(input) = read_input(alloc, service, plan.framing, source) else {
         return Status::Memory;
     };
     match report_of(alloc, plan, &service, &input) {
         Ok(text) => match write_all(sink, &text) {
-            Ok(()) => Status::of_ending(&input.ending),
+            Ok(()) => {
+                mark(&Ok(input.ending), input.start, beyond);
+                Status::of_ending(&input.ending)
+            }
             Err(Failed) => Status::WriteFault,
         },
         Err(_memory) => Status::Memory,
@@ -73,18 +88,23 @@ struct Input {
     /// Their calls.
     calls: Vec<(u32, Call)>,
     ending: Ending,
+    /// Where the first packet starts that is too many, where there is one.
+    start: u64,
 }
 
-/// Reads an input, up to its end or to one packet more than are taken.
+/// Reads an input whose packets are framed so, up to its end or to one packet more than are taken.
 fn read_input<S: Source>(
     alloc: Global,
     service: Service,
+    framing: Framing,
     source: &mut S,
 ) -> Result<Input, AllocError>
-    ensures ended { IfOk result (λ input. EndsCalls PLAY_LIMIT (S.left source.old) (S.left source.new)
+    ensures ended { IfOk result (λ input. EndsCalls framing PLAY_LIMIT (S.left source.old) (S.left source.new)
         input.packets input.calls.items input.ending) }
     ensures between { IfOk result (λ input. AreBetween 0 input.packets input.calls.items) }
     ensures few { IfOk result (λ input. input.packets ≤ PLAY_LIMIT) }
+    ensures start { IfOk result (λ input. OnLimit input.ending
+        (StopsAt (number_in framing.link) PLAY_LIMIT (S.left source.old) (S.left source.new) input.start)) }
     ensures ending { IfOk result (λ input. IsEnding input.ending) }
     ensures read_fault { IfOk result (λ input. input.ending ≡ Ending.ReadFault →
         Rose (S.faults source.old) (S.faults source.new)) }
@@ -92,15 +112,16 @@ fn read_input<S: Source>(
     ensures failed { IfOk result (λ input. HasFailed (Some input.ending) (S.failed source.old) (S.failed source.new)) }
     ensures none_failed { OnErr result (S.failed source.new ≡ S.failed source.old) }
 {
-    match open(alloc, source) {
+    match open(alloc, framing.link.number(), source) {
         Ok(mut reader) => {
-            let mut pile = CallPile::with_room(alloc, service, PLAY_LIMIT as usize)?;
+            let mut pile = CallPile::with_room(alloc, service, framing, PLAY_LIMIT as usize)?;
             let part = read_rest(&mut reader, source, 0, 0, PLAY_LIMIT, &mut pile)?;
             match part.ending {
                 Some(ending) => Ok(Input {
                     packets: part.packets,
                     calls: pile.calls,
                     ending,
+                    start: reader.start(),
                 }),
                 None => unreachable!(),
             }
@@ -109,6 +130,7 @@ fn read_input<S: Source>(
             packets: 0,
             calls: Vec::new(alloc),
             ending,
+            start: 0,
         }),
         Err(Unopened::Memory) => Err(AllocError),
     }

@@ -51,7 +51,8 @@ rules_same plan service asks = λ i. record {
 -- The report of packets that were served is good. What a text can tell is given: of each call, of the head line and of
 -- the last lines.
 pub serve_is_good : (plan : Plan) (service : Service) (packets : List (List ℕ)) (calls : List (ℕ × Call))
-    (batches : List Served) (ending : Ending) → MakeCalls 1 packets calls → AreDone plan service calls batches →
+    (batches : List Served) (ending : Ending) → MakeCalls plan.framing 1 packets calls →
+    AreDone plan service calls batches →
     length packets ≤ packet_limit → All IsFitting calls → IsHead (head_of false plan) →
     IsTail (head_of false plan) (tail_of service (length packets) batches ending) →
     IsGood (run_report plan service (length packets) batches ending) (all_calls [] (map (history_in service) batches))
@@ -72,12 +73,12 @@ serve_is_good plan service packets calls batches ending made done few fitting he
           (seats_all service no_counts [] batches done.served);
       ended = ended_all (head_of false plan) service no_counts [] batches done.served done.asks.settings
           (omega (arith, head.settings.seats_in_range.1, length-replicate {A = ℕ} 8 0));
-      few = omega (arith, few, calls_few 1 packets calls made, many_lines lines, ap length asked);
+      few = omega (arith, few, calls_few plan.framing 1 packets calls made, many_lines lines, ap length asked);
       under_way = subst (λ (pending : List Pending). All IsFitting (calls_begun pending)) (sym none)
           (All-nil IsFitting);
       begun = subst (All (HasBegun report)) (sym none) (All-nil (HasBegun report));
       rise = subst (λ (cs : List (ℕ × Call)). Rise (map (λ (call : ℕ × Call). call.0) cs)) (sym asked)
-          (calls_rise 1 packets calls made);
+          (calls_rise plan.framing 1 packets calls made);
       apart = λ packet some. absurd (omega (
         arith,
         some,
@@ -101,7 +102,7 @@ serve_is_good plan service packets calls batches ending made done few fitting he
 
 -- so its text is certified, where that of each call, of the seed and of the ending can be told
 pub serve_is_certified : GoodIsCertified → (plan : Plan) (service : Service) (packets : List (List ℕ))
-    (calls : List (ℕ × Call)) (batches : List Served) (ending : Ending) → MakeCalls 1 packets calls →
+    (calls : List (ℕ × Call)) (batches : List Served) (ending : Ending) → MakeCalls plan.framing 1 packets calls →
     AreDone plan service calls batches → length packets ≤ packet_limit → All IsFitting calls →
     seed_in plan.hashing < 2 ^ 64 → IsEndingTold ending →
     Certified (report_of (run_report plan service (length packets) batches ending))

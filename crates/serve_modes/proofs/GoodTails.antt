@@ -154,7 +154,8 @@ many_outcomes service calls batches asked =
 -- ---- the last lines
 
 pub tail_told : (plan : Plan) (service : Service) (packets : List (List ℕ)) (calls : List (ℕ × Call))
-    (batches : List Served) (ending : Ending) → MakeCalls 1 packets calls → AreDone plan service calls batches →
+    (batches : List Served) (ending : Ending) → MakeCalls plan.framing 1 packets calls →
+    AreDone plan service calls batches →
     length packets ≤ packet_limit → IsEndingTold ending →
     IsTail (head_of false plan) (tail_of service (length packets) batches ending)
 tail_told plan service packets calls batches ending made done few told =
@@ -162,7 +163,8 @@ tail_told plan service packets calls batches ending made done few told =
     let brief : All IsBrief (answers_in outcomes) = brief_all service [] batches done.served in
     let many : length outcomes ≡ length calls = many_outcomes service calls batches
     (asked_all service no_counts [] batches done.served ∙ done.cut.parts) in
-    let calls_small : length outcomes ≤ 4000000 = omega (arith, many, few, calls_few 1 packets calls made) in
+    let calls_small : length outcomes ≤ 4000000 = omega
+    (arith, many, few, calls_few plan.framing 1 packets calls made) in
     record {
       leaves = omega (arith, leaves_end service 0 [] batches (omega arith) done.served);
       depth = omega (arith, depth_end service 0 [] batches (omega arith) done.served);

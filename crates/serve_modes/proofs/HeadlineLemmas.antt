@@ -21,6 +21,8 @@ use Rattle.command_line.specs.declared.plan.Plan.{Plan}
 use Rattle.report_told.specs.Rules.{IsEndingTold, seed_in}
 use Rattle.report_told.specs.Verdicts.{Certified}
 use Rattle.report_promises.specs.Good.{GoodIsCertified}
+use Rattle.packet_heads.specs.declared.framing.Framing.{Framing}
+use Rattle.packet_heads.specs.Links.{number_in}
 use Rattle.mode_parts.specs.declared.status.Status.TheVariants as status
 use Rattle.serve_modes.specs.Batches.{AreOfBatches, IsOfBatch, batch_count}
 use Rattle.mode_parts.specs.PacketCalls.{MakeCalls, numbered}
@@ -42,40 +44,43 @@ abbrev all_in : List Served → List (ℕ × Call)
 all_in served = flat_map (λ (calls : List (ℕ × Call)). calls) (calls_in served)
 
 -- packets behind packets make the calls of both
-MakeCalls-append : (packets : List (List ℕ)) (n : ℕ) (calls : List (ℕ × Call)) (others : List (List ℕ))
-    (more : List (ℕ × Call)) → MakeCalls n packets calls → MakeCalls (n + length packets) others more →
-    MakeCalls n (packets ++ others) (calls ++ more)
-MakeCalls-append [] n calls others more none behind =
+MakeCalls-append : (framing : Framing) (packets : List (List ℕ)) (n : ℕ) (calls : List (ℕ × Call))
+    (others : List (List ℕ))
+    (more : List (ℕ × Call)) → MakeCalls framing n packets calls → MakeCalls framing (n + length packets) others more →
+    MakeCalls framing n (packets ++ others) (calls ++ more)
+MakeCalls-append framing [] n calls others more none behind =
     let same : n + 0 ≡ n = omega arith in
-    subst (λ (l : List (ℕ × Call)). MakeCalls n others (l ++ more)) (sym none)
-    (subst (λ (k : ℕ). MakeCalls k others more) same behind)
-MakeCalls-append (packet ∷ packets) n calls others more made behind =
+    subst (λ (l : List (ℕ × Call)). MakeCalls framing n others (l ++ more)) (sym none)
+    (subst (λ (k : ℕ). MakeCalls framing k others more) same behind)
+MakeCalls-append framing (packet ∷ packets) n calls others more made behind =
     let same : n + length (packet ∷ packets) ≡ suc n + length packets = omega arith in (
       made.0,
       made.1 ++ more,
       made.2,
-      MakeCalls-append packets (suc n) made.1 others more made.3
-          (subst (λ (k : ℕ). MakeCalls k others more) same behind),
+      MakeCalls-append framing packets (suc n) made.1 others more made.3
+          (subst (λ (k : ℕ). MakeCalls framing k others more) same behind),
       ap (λ (l : List (ℕ × Call)). l ++ more) made.4 ∙ append_assoc (numbered n made.0) made.1 more,
     )
 
 -- all packets make all calls
-calls_made : (batches : List (List (List ℕ))) (before : ℕ) (served : List Served) → AreServedOf batches before served →
-    MakeCalls (before + 1) (joined batches) (all_in served)
-calls_made [] before served none = ap all_in none
-calls_made (batch ∷ batches) before served are =
+calls_made : (framing : Framing) (batches : List (List (List ℕ))) (before : ℕ) (served : List Served) →
+    AreServedOf framing batches before served →
+    MakeCalls framing (before + 1) (joined batches) (all_in served)
+calls_made framing [] before served none = ap all_in none
+calls_made framing (batch ∷ batches) before served are =
     let same : before + length batch + 1 ≡ before + 1 + length batch = omega arith in
-    subst (λ (s : List Served). MakeCalls (before + 1) (batch ++ joined batches) (all_in s)) (sym are.2)
-    (MakeCalls-append batch (before + 1) are.0.calls (joined batches) (all_in are.1) are.3
-    (subst (λ (k : ℕ). MakeCalls k (joined batches) (all_in are.1)) same
-    (calls_made batches (before + length batch) are.1 are.5)))
+    subst (λ (s : List Served). MakeCalls framing (before + 1) (batch ++ joined batches) (all_in s)) (sym are.2)
+    (MakeCalls-append framing batch (before + 1) are.0.calls (joined batches) (all_in are.1) are.3
+    (subst (λ (k : ℕ). MakeCalls framing k (joined batches) (all_in are.1)) same
+    (calls_made framing batches (before + length batch) are.1 are.5)))
 
 -- there are as many batches of calls
-same_count : (batches : List (List (List ℕ))) (before : ℕ) (served : List Served) → AreServedOf batches before served →
+same_count : (framing : Framing) (batches : List (List (List ℕ))) (before : ℕ) (served : List Served) →
+    AreServedOf framing batches before served →
     length served ≡ length batches
-same_count [] before served none = ap length none
-same_count (batch ∷ batches) before served are =
-    ap length are.2 ∙ ap suc (same_count batches (before + length batch) are.1 are.5)
+same_count framing [] before served none = ap length none
+same_count framing (batch ∷ batches) before served are =
+    ap length are.2 ∙ ap suc (same_count framing batches (before + length batch) are.1 are.5)
 
 -- whole batches, but for the last
 abbrev AreCut : List (List (List ℕ)) → Type 0
@@ -110,28 +115,30 @@ batch_at j before batch batches first others whole few full between many next (s
     subst (λ (n : ℕ). All (IsOfBatch n) (slice_index_or (calls_in others) m [])) same
     (next (full some) m (omega (arith, inside)))
 
-batch_of : (batches : List (List (List ℕ))) (j before : ℕ) (served : List Served) → AreServedOf batches before served →
+batch_of : (framing : Framing) (batches : List (List (List ℕ))) (j before : ℕ) (served : List Served) →
+    AreServedOf framing batches before served →
     batch_length * j ≡ before → AreCut batches → (k : ℕ) → k < length (calls_in served) →
     All (IsOfBatch (j + k)) (slice_index_or (calls_in served) k [])
-batch_of [] j before served none whole cut k within =
+batch_of framing [] j before served none whole cut k within =
     absurd (omega (arith, within, ap (λ (s : List Served). length (calls_in s)) none))
-batch_of (batch ∷ batches) j before served are whole cut k within =
+batch_of framing (batch ∷ batches) j before served are whole cut k within =
     subst (λ (s : List Served). All (IsOfBatch (j + k)) (slice_index_or (calls_in s) k [])) (sym are.2)
     (batch_at j before batch batches are.0 are.1 whole cut.0 cut.1 are.4
-    (same_count batches (before + length batch) are.1 are.5)
+    (same_count framing batches (before + length batch) are.1 are.5)
     (λ full m inside.
-    batch_of batches (j + 1) (before + length batch) are.1 are.5 (omega (arith, whole, full)) cut.2 m inside) k
+    batch_of framing batches (j + 1) (before + length batch) are.1 are.5 (omega (arith, whole, full)) cut.2 m inside) k
     (subst (λ (s : List Served). k < length (calls_in s)) are.2 within))
 
-cut_of : (batches : List (List (List ℕ))) (served : List Served) → AreServedOf batches 0 served → AreCut batches →
+cut_of : (framing : Framing) (batches : List (List (List ℕ))) (served : List Served) →
+    AreServedOf framing batches 0 served → AreCut batches →
     AreOfBatches (all_in served) (calls_in served)
-cut_of batches served are cut =
+cut_of framing batches served are cut =
     record {
       parts = refl;
       each = λ k within.
           let same : 0 + k ≡ k = omega arith in
           subst (λ (n : ℕ). All (IsOfBatch n) (slice_index_or (calls_in served) k [])) same
-          (batch_of batches 0 0 served are (omega arith) cut k within);
+          (batch_of framing batches 0 0 served are (omega arith) cut k within);
     }
 
 whole_length : (batches : List (List (List ℕ))) → AllByRecursion IsWhole batches →
@@ -175,15 +182,17 @@ module _ (law : ServedArePromised) (plan : Plan) where
   done service batches served is cut =
       record {
         asks = is.asks;
-        cut = cut_of batches served is.of cut;
+        cut = cut_of plan.framing batches served is.of cut;
         served = is.each;
         promised = law service served is.each;
       }
 
   made : (packets : List (List ℕ)) (batches : List (List (List ℕ))) (served : List Served) →
-      joined batches ≡ packets → AreServedOf batches 0 served → MakeCalls 1 packets (all_in served)
+      joined batches ≡ packets → AreServedOf plan.framing batches 0 served →
+      MakeCalls plan.framing 1 packets (all_in served)
   made packets batches served is are =
-      subst (λ (ps : List (List ℕ)). MakeCalls 1 ps (all_in served)) is (calls_made batches 0 served are)
+      subst (λ (ps : List (List ℕ)). MakeCalls plan.framing 1 ps (all_in served)) is
+      (calls_made plan.framing batches 0 served are)
 
   cut_batches : (packets : List (List ℕ)) (batches : List (List (List ℕ))) → AreBatches packets batches →
       AreCut batches
@@ -193,13 +202,13 @@ module _ (law : ServedArePromised) (plan : Plan) where
   pub served_at : (packets : List (List ℕ)) (batches : List (List (List ℕ))) (service : Service)
       (served : List Served) →
       AreBatches packets batches → IsServedSo plan service batches served →
-      (calls : List (ℕ × Call)) × MakeCalls 1 packets calls × AreDone plan service calls served
+      (calls : List (ℕ × Call)) × MakeCalls plan.framing 1 packets calls × AreDone plan service calls served
       × (length served ≡ batch_count (length packets))
   served_at packets batches service served cut is = (
     all_in served,
     made packets batches served cut.all is.of,
     done service batches served is (cut_batches packets batches cut),
-    same_count batches 0 served is.of ∙ all_count packets batches cut,
+    same_count plan.framing batches 0 served is.of ∙ all_count packets batches cut,
   )
 
   front_of : (packets : List (List ℕ)) (text : List ℕ) → IsLoopFront (IsLines plan) packets text →
@@ -216,7 +225,7 @@ module _ (law : ServedArePromised) (plan : Plan) where
           done lines.0 batches lines.1 lines.2 (cut_whole batches whole.each),
           omega (
             arith,
-            same_count batches 0 lines.1 lines.2.of,
+            same_count plan.framing batches 0 lines.1 lines.2.of,
             whole_length batches whole.each,
             ap length whole.parts,
           ),
@@ -252,12 +261,13 @@ module _ (law : ServedArePromised) (plan : Plan) where
   -- ---- what is left
 
   reports_at : (bytes : List ℕ) (left : Option (List ℕ)) (ending : Ending) (text : List ℕ) →
-      ReportsInput (IsWholeReport plan) bytes left ending text → Reports plan bytes left ending text
+      ReportsInput (number_in plan.framing.link) (IsWholeReport plan) bytes left ending text →
+      Reports plan bytes left ending text
   reports_at bytes left ending text reports = (reports.0, reports.1, report_at reports.0 ending text reports.2)
 
   -- how many packets are served at most
   few_served : (bytes : List ℕ) (left : Option (List ℕ)) (packets : List (List ℕ)) (ending : Ending) →
-      Serves bytes left packets ending → length packets ≤ packet_limit
+      Serves (number_in plan.framing.link) bytes left packets ending → length packets ≤ packet_limit
   few_served bytes left packets (Done rest) serves = serves.holds.0.1
   few_served bytes left packets (Fault found) serves = serves.holds.1
   few_served bytes left packets ReadFault serves = serves.holds.6.1
@@ -273,29 +283,31 @@ module _ (law : ServedArePromised) (plan : Plan) where
     certified_at bytes left ending text told reports =
         let packets : List (List ℕ) = reports.0 in
         let calls : List (ℕ × Call) = reports.2.0 in
-        let makes : MakeCalls 1 packets calls = reports.2.1 in
+        let makes : MakeCalls plan.framing 1 packets calls = reports.2.1 in
         let report = reports.2.2 in
         subst Certified (sym report.4)
         (serve_is_certified good plan report.0 packets calls report.1 ending makes report.2
-        (few_served bytes left packets ending reports.1) (calls_fit 1 packets calls makes) seed told)
+        (few_served bytes left packets ending reports.1) (calls_fit plan.framing 1 packets calls makes) seed told)
 
   module _ (read_failed : Type 0) (bytes : List ℕ) (left before after : Option (List ℕ)) where
     put_whole : GoodIsCertified → seed_in plan.hashing < 2 ^ 64 → (ending : Ending) → IsEndingTold ending →
-        PutsInput (IsWholeReport plan) bytes left before after ending →
+        PutsInput (number_in plan.framing.link) (IsWholeReport plan) bytes left before after ending →
         PutsReport plan bytes left before after ending
     put_whole good seed ending told puts =
         let reports : Reports plan bytes left ending puts.0 = reports_at bytes left ending puts.0 puts.1 in
         (puts.0, (reports, certified_at good seed bytes left ending puts.0 told reports), puts.2)
 
     of_ok : GoodIsCertified → seed_in plan.hashing < 2 ^ 64 → (ending : Ending) → IsEndingTold ending →
-        LoopLeaves (IsLines plan) (IsWholeReport plan) read_failed bytes left before after (Ok ending) →
+        LoopLeaves (number_in plan.framing.link) (IsLines plan) (IsWholeReport plan) read_failed bytes left before
+        after (Ok ending) →
         Leaves plan read_failed bytes left before after (status_of ending)
     of_ok good seed (Done rest) told leaves = (rest, put_whole good seed (Done rest) told leaves.1)
     of_ok good seed ReadFault told leaves = put_whole good seed ReadFault told leaves.1
     of_ok good seed (Limit limit) told leaves = (limit, put_whole good seed (Limit limit) told leaves.1)
-    of_ok good seed (Fault found) told leaves = (found, put_whole good seed (Fault found) told leaves.1)
+    of_ok good seed (Fault found) told leaves = put_whole good seed (Fault found) told leaves.1
 
-    of_not_put : LoopLeaves (IsLines plan) (IsWholeReport plan) read_failed bytes left before after (Err NotPut) →
+    of_not_put : LoopLeaves (number_in plan.framing.link) (IsLines plan) (IsWholeReport plan) read_failed bytes left
+        before after (Err NotPut) →
         Leaves plan read_failed bytes left before after status.WriteFault
     of_not_put (inl ended) =
         inl (
@@ -305,7 +317,8 @@ module _ (law : ServedArePromised) (plan : Plan) where
         )
     of_not_put (inr begun) = inr (begun.0, begun.1, (begun.2.0, front_of begun.0 begun.2.0 begun.2.1, begun.2.2))
 
-    of_memory : LoopLeaves (IsLines plan) (IsWholeReport plan) read_failed bytes left before after (Err Memory) →
+    of_memory : LoopLeaves (number_in plan.framing.link) (IsLines plan) (IsWholeReport plan) read_failed bytes left
+        before after (Err Memory) →
         Leaves plan read_failed bytes left before after status.Memory
     of_memory (inl kept) = inl kept
     of_memory (inr (inl ended)) =
@@ -320,13 +333,15 @@ module _ (law : ServedArePromised) (plan : Plan) where
 
   module _ (read_failed : Type 0) (first left before after : Option (List ℕ)) where
     ok_at : GoodIsCertified → seed_in plan.hashing < 2 ^ 64 → (ending : Ending) → IsEndingTold ending →
-        LoopLeavesAll (IsLines plan) (IsWholeReport plan) read_failed first left before after (Ok ending) →
+        LoopLeavesAll (IsLines plan) (IsWholeReport plan) read_failed (number_in plan.framing.link) first left before
+        after (Ok ending) →
         (bytes : List ℕ) → first ≡ Some bytes → Leaves plan read_failed bytes left before after (status_of ending)
     ok_at good seed ending told leaves bytes is =
         of_ok read_failed bytes left before after good seed ending told (leaves.told bytes is)
 
     ok_all : GoodIsCertified → seed_in plan.hashing < 2 ^ 64 → (ending : Ending) → IsEndingTold ending →
-        LoopLeavesAll (IsLines plan) (IsWholeReport plan) read_failed first left before after (Ok ending) →
+        LoopLeavesAll (IsLines plan) (IsWholeReport plan) read_failed (number_in plan.framing.link) first left before
+        after (Ok ending) →
         LeavesAll plan read_failed first left before after (status_of ending)
     ok_all good seed (Done rest) told leaves =
         record {
@@ -367,7 +382,8 @@ module _ (law : ServedArePromised) (plan : Plan) where
 
     pub leaves_all : GoodIsCertified → seed_in plan.hashing < 2 ^ 64 → (result : Result Ending Stop) →
         IfOk result IsEndingTold →
-        LoopLeavesAll (IsLines plan) (IsWholeReport plan) read_failed first left before after result →
+        LoopLeavesAll (IsLines plan) (IsWholeReport plan) read_failed (number_in plan.framing.link) first left before
+        after result →
         LeavesAll plan read_failed first left before after (status_by result)
     leaves_all good seed (Ok ending) told leaves = ok_all good seed ending told leaves
     leaves_all good seed (Err NotPut) told leaves =

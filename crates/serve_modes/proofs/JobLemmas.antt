@@ -1,7 +1,7 @@
 -- Batches of packets that were served: one more, and what is printed of them.
-use Rattle.std.proofs.Common.{◌≡◌, ℕ, ◌+◌, List, [], ◌∷◌, ◌++◌, length, sym, ◌∙◌, ap, subst, refl, append_assoc, append-nil, length-append, arith}
+use Rattle.std.proofs.Common.{◌≡◌, ℕ, ◌+◌, List, Result, Ok, Err, [], ◌∷◌, ◌++◌, length, sym, ◌∙◌, ap, subst, refl, append_assoc, append-nil, length-append, arith}
 use Rattle.std.specs.List.{flat_map}
-use Rattle.std.specs.Prelude.{false}
+use Rattle.std.specs.Prelude.{OnOk, false}
 use Rattle.std.proofs.lemmas.List.Elements.{All-weaker}
 use Rattle.flow_keys.specs.FlowText.{HasText}
 use Rattle.plain_map.specs.Calls.{key_in}
@@ -21,6 +21,7 @@ use Rattle.batch_runner.specs.Served.{Served}
 use Rattle.batch_runner.specs.Printed.{lines_of}
 use Rattle.command_line.specs.declared.plan.Plan.{Plan}
 use Rattle.serve_modes.specs.declared.serving.Serving.{Serving}
+use Rattle.packet_heads.specs.declared.framing.Framing.{Framing}
 use Rattle.mode_parts.specs.PacketCalls.{MakeCalls}
 use Rattle.serve_modes.specs.Progress.{HasServed, HasTexts}
 use Rattle.mode_parts.specs.Reading.{AreBetween, IsBetween}
@@ -28,6 +29,11 @@ use Rattle.mode_parts.specs.Planned.{IsServiceOf, head_of}
 use Rattle.serve_modes.specs.Served.{lines_so_far, run_report, tail_with}
 use Rattle.serve_modes.specs.Serving.{AreServedOf, HasDone, HasOpenedFor, IsWholeReport, joined}
 use Rattle.serve_modes.proofs.PrintLemmas.{last_text, no_lines, section_of}
+
+-- what holds anyway holds of an answer
+pub OnOk-any : {T E : Type 0} {P : Type 0} (result : Result T E) → P → OnOk result P
+OnOk-any (Ok x) p = p
+OnOk-any (Err e) p = tt
 
 -- ---- batches
 
@@ -39,26 +45,27 @@ joined-more (first ∷ batches) batch =
     ∙ sym (append_assoc first (joined batches) batch)
 
 -- one more was served
-pub served_more : (batches : List (List (List ℕ))) (before : ℕ) (served : List Served) (batch : List (List ℕ))
-    (one : Served) (many : ℕ) → AreServedOf batches before served → many ≡ before + length (joined batches) →
-    MakeCalls (many + 1) batch one.calls → AreBetween many (many + length batch) one.calls →
-    AreServedOf (batches ++ batch ∷ []) before (served ++ one ∷ [])
-served_more [] before served batch one many none is make between =
+pub served_more : (framing : Framing) (batches : List (List (List ℕ))) (before : ℕ) (served : List Served)
+    (batch : List (List ℕ))
+    (one : Served) (many : ℕ) → AreServedOf framing batches before served → many ≡ before + length (joined batches) →
+    MakeCalls framing (many + 1) batch one.calls → AreBetween many (many + length batch) one.calls →
+    AreServedOf framing (batches ++ batch ∷ []) before (served ++ one ∷ [])
+served_more framing [] before served batch one many none is make between =
     let same : many ≡ before = omega (arith, is) in (
       one,
       [],
       ap (λ (s : List Served). s ++ one ∷ []) none,
-      subst (λ (n : ℕ). MakeCalls (n + 1) batch one.calls) same make,
+      subst (λ (n : ℕ). MakeCalls framing (n + 1) batch one.calls) same make,
       subst (λ (n : ℕ). AreBetween n (n + length batch) one.calls) same between,
       refl,
     )
-served_more (first ∷ batches) before served batch one many are is make between = (
+served_more framing (first ∷ batches) before served batch one many are is make between = (
   are.0,
   are.1 ++ one ∷ [],
   ap (λ (s : List Served). s ++ one ∷ []) are.2,
   are.3,
   are.4,
-  served_more batches (before + length first) are.1 batch one many are.5
+  served_more framing batches (before + length first) are.1 batch one many are.5
       (omega (arith, is, length-append first (joined batches))) make between,
 )
 
@@ -76,12 +83,12 @@ pub done_more : {K : Type 0} {holds : K → List Outcome → Type 0} {room : K �
     (workers : List (SeatWorker K)) (many : ℕ) (one : Served) (text text_then : List ℕ) →
     (done : HasDone old plan batches put) → old.packets ≡ before →
     HasOpenedFor holds room old t workers many before packets → one.calls ≡ old.calls.items →
-    new.service ≡ old.service →
+    new.service ≡ old.service → new.framing ≡ old.framing →
     new.packets ≡ old.packets + many → HasServed old.service new.progress (done.served ++ one ∷ []) →
     text_then ≡ text ++ batch_lines old.service.settings.seats (lines_of old.service old.progress.before one) →
     (lines : List ℕ) × (text_then ≡ text ++ lines) × HasDone new plan (batches ++ packets ∷ []) (put ++ lines)
 done_more plan old new batches put before packets t workers many one text text_then done at opened calls
-    service count has is =
+    service framed count has is =
     let lines : List ℕ = batch_lines old.service.settings.seats (lines_of old.service old.progress.before one) in
     let behind : before ≡ 0 + length (joined batches) = omega (arith, at, done.count) in
     let same : (s : Service) → s ≡ old.service →
@@ -94,9 +101,11 @@ done_more plan old new batches put before packets t workers many one text text_t
       record {
         served = done.served ++ one ∷ [];
         asks = subst (IsServiceOf plan) (sym service) done.asks;
+        framed = framed ∙ done.framed;
         has = subst (λ (s : Service). HasServed s new.progress (done.served ++ one ∷ [])) (sym service) has;
-        of = served_more batches 0 done.served packets one before done.of behind
-            (subst (MakeCalls (before + 1) packets) (sym calls) opened.make)
+        of = served_more plan.framing batches 0 done.served packets one before done.of behind
+            (subst (λ (f : Framing). MakeCalls f (before + 1) packets one.calls) done.framed
+            (subst (MakeCalls old.framing (before + 1) packets) (sym calls) opened.make))
             (subst (AreBetween before (before + length packets)) (sym calls) opened.between);
         count = omega (
           arith,
@@ -112,11 +121,13 @@ done_more plan old new batches put before packets t workers many one text text_t
 
 -- before any batch
 pub done_none : (job : Serving) (plan : Plan) (text : List ℕ) → job.packets ≡ 0 → IsServiceOf plan job.service →
-    HasServed job.service job.progress [] → text ≡ head_line (head_of false plan) → HasDone job plan [] text
-done_none job plan text none asks has is =
+    job.framing ≡ plan.framing → HasServed job.service job.progress [] → text ≡ head_line (head_of false plan) →
+    HasDone job plan [] text
+done_none job plan text none asks framed has is =
     record {
       served = [];
       asks = asks;
+      framed = framed;
       has = has;
       of = refl;
       count = none;

@@ -1,5 +1,5 @@
 -- The packets of a made capture carry no payload, so none of their calls is a tally.
-use Rattle.std.proofs.Common.{◌≡◌, ℕ, suc, ◌+◌, ◌*◌, ◌/◌, ◌%◌, Bool, true, false, List, [], ◌∷◌, ◌++◌, drop, get_or, map, Option, Some, None, inl, inr, refl, sym, ◌∙◌, ap, subst, arith}
+use Rattle.std.proofs.Common.{◌≡◌, ◌≤◌, ℕ, suc, ◌+◌, ◌/◌, Bool, true, false, List, [], ◌∷◌, ◌++◌, drop, length, get_or, map, Option, Some, None, refl, sym, ◌∙◌, ap, subst, arith}
 use Rattle.std.specs.Prelude.{nat_lt, if◌then◌else◌, not, ◌&&◌, ◌||◌, slice_index}
 use Rattle.std.specs.List.{All, range_with_len}
 use Rattle.std.proofs.lemmas.List.Elements.{All-append, All-cons, All-head, All-map, All-nil, All-tail}
@@ -7,8 +7,10 @@ use Rattle.byteorder.specs.Endian.{big_from}
 use Rattle.packet_heads.specs.declared.packet.Heads.{Heads}
 use Rattle.packet_heads.specs.declared.packet.Protocol.{Protocol}
 use Rattle.packet_heads.specs.declared.packet.Protocol.TheVariants.{Tcp, Udp}
-use Rattle.packet_heads.specs.Ethernet.{Carries}
-use Rattle.packet_heads.specs.Heads.{HasHeads, HasNetwork}
+use Rattle.packet_heads.specs.declared.framing.Network.TheVariants.{Ipv4}
+use Rattle.packet_heads.specs.Links.{Carries}
+use Rattle.packet_heads.proofs.CarriesLemmas.{HasIpv4-from_heads}
+use Rattle.packet_heads.specs.Heads.{HasHeads, plain_framing}
 use Rattle.packet_heads.specs.Ipv4.{HasIpv4}
 use Rattle.packet_heads.specs.Transport.{HasFields, count_behind, number_of, payload_behind}
 use Rattle.plain_map.specs.declared.calls.Call.{Call}
@@ -39,13 +41,24 @@ no_tally_of (Tcp flags payload) key packet none =
     by false false = refl
 no_tally_of Udp key packet none = refl
 
+-- an IPv4 packet in a frame without a tag
+carried_plain : (frame : List ℕ) → 14 ≤ length frame → big_from 12 2 frame ≡ 0x0800 →
+    Carries plain_framing frame Ipv4 (drop 14 frame)
+carried_plain frame whole type = record { whole = whole; types = []; few = omega arith; behind = (type, refl) }
+
 -- a made TCP frame has a total length of 40 bytes, of which both heads are 20 each
 tcp_none : (flags draw : ℕ) (heads : Heads) →
-    HasHeads (tcp_frame flags (sides_in draw).0 (sides_in draw).1) heads → HasNoPayload heads.protocol
-tcp_none flags draw heads has = go has.carried has.network
+    HasHeads plain_framing (tcp_frame flags (sides_in draw).0 (sides_in draw).1) heads → HasNoPayload heads.protocol
+tcp_none flags draw heads has =
+    let ipv4 : HasIpv4 packet heads =
+    HasIpv4-from_heads plain_framing frame packet Ipv4 heads (carried_plain frame has.carried.whole refl) refl has in
+    fields ipv4.head heads.protocol ipv4.head_length.head_length ipv4.protocol.fields
   where
+    frame : List ℕ
+    frame = tcp_frame flags (sides_in draw).0 (sides_in draw).1
+
     packet : List ℕ
-    packet = drop 14 (tcp_frame flags (sides_in draw).0 (sides_in draw).1)
+    packet = drop 14 frame
 
     fields : (head : ℕ) (protocol : Protocol) → head ≡ 20 →
         HasFields packet head (count_behind (big_from 2 2 packet) head) protocol → HasNoPayload protocol
@@ -55,57 +68,29 @@ tcp_none flags draw heads has = go has.carried has.network
         payload_behind (slice_index packet (h + 12) / 16) (count_behind (big_from 2 2 packet) h)) is
     fields head Udp is read = tt
 
-    by_ipv4 : has.packet ≡ packet → HasIpv4 has.packet heads → HasNoPayload heads.protocol
-    by_ipv4 same ipv4 =
-        fields ipv4.head heads.protocol
-        (ipv4.head_length.head_length ∙ ap (λ (p : List ℕ). 4 * (slice_index p 0 % 16)) same)
-        (subst (λ (p : List ℕ). HasFields p ipv4.head (count_behind (big_from 2 2 p) ipv4.head) heads.protocol) same
-        ipv4.protocol.fields)
-
-    go : Carries (tcp_frame flags (sides_in draw).0 (sides_in draw).1) has.ether_type has.packet →
-        HasNetwork has.ether_type has.packet heads → HasNoPayload heads.protocol
-    go (inl plain) (inl ipv4) = by_ipv4 plain.packet_at_14 ipv4.1
-    go (inl plain) (inr ipv6) =
-        let type : 0x0800 ≡ has.ether_type = plain.type_at_12 in
-        absurd (omega (arith, type, ipv6.0))
-    go (inr tagged) network =
-        let tag : 0x0800 ≡ 0x8100 = tagged.tag_at_12 in
-        absurd (omega (arith, tag))
-
 -- a made UDP frame is no TCP's
-udp_none : (draw : ℕ) (heads : Heads) → HasHeads (udp_frame (sides_in draw).0 (sides_in draw).1) heads →
-    HasNoPayload heads.protocol
-udp_none draw heads has = go has.carried has.network
+udp_none : (draw : ℕ) (heads : Heads) →
+    HasHeads plain_framing (udp_frame (sides_in draw).0 (sides_in draw).1) heads → HasNoPayload heads.protocol
+udp_none draw heads has =
+    let ipv4 : HasIpv4 (drop 14 frame) heads =
+    HasIpv4-from_heads plain_framing frame (drop 14 frame) Ipv4 heads (carried_plain frame has.carried.whole refl) refl
+    has in
+    by_number heads.protocol ipv4.protocol.is_number
   where
-    packet : List ℕ
-    packet = drop 14 (udp_frame (sides_in draw).0 (sides_in draw).1)
+    frame : List ℕ
+    frame = udp_frame (sides_in draw).0 (sides_in draw).1
 
     by_number : (protocol : Protocol) → 17 ≡ number_of protocol → HasNoPayload protocol
     by_number (Tcp own payload) is = absurd (omega (arith, is))
     by_number Udp is = tt
 
-    by_ipv4 : has.packet ≡ packet → HasIpv4 has.packet heads → HasNoPayload heads.protocol
-    by_ipv4 same ipv4 =
-        by_number heads.protocol
-        (sym (ap (λ (p : List ℕ). slice_index p 9) same) ∙ ipv4.protocol.is_number)
-
-    go : Carries (udp_frame (sides_in draw).0 (sides_in draw).1) has.ether_type has.packet →
-        HasNetwork has.ether_type has.packet heads → HasNoPayload heads.protocol
-    go (inl plain) (inl ipv4) = by_ipv4 plain.packet_at_14 ipv4.1
-    go (inl plain) (inr ipv6) =
-        let type : 0x0800 ≡ has.ether_type = plain.type_at_12 in
-        absurd (omega (arith, type, ipv6.0))
-    go (inr tagged) network =
-        let tag : 0x0800 ≡ 0x8100 = tagged.tag_at_12 in
-        absurd (omega (arith, tag))
-
 -- whichever frame is drawn
-frame_none : (draw : ℕ) (heads : Heads) → HasHeads (frame_in draw) heads → HasNoPayload heads.protocol
+frame_none : (draw : ℕ) (heads : Heads) → HasHeads plain_framing (frame_in draw) heads → HasNoPayload heads.protocol
 unfolding frame_in
 frame_none draw heads has = by (nat_lt (flow_in draw) udp_flows) has
   where
     by : (datagram : Bool) →
-        HasHeads (if datagram then udp_frame (sides_in draw).0 (sides_in draw).1
+        HasHeads plain_framing (if datagram then udp_frame (sides_in draw).0 (sides_in draw).1
         else tcp_frame (flags_in draw) (sides_in draw).0 (sides_in draw).1) heads →
         HasNoPayload heads.protocol
     by true has = udp_none draw heads has
@@ -117,17 +102,18 @@ IsMadeFrame number packet = (place : ℕ) × (packet ≡ made_frame number place
 
 -- makes no tally
 made_none : (number k : ℕ) (packet : List ℕ) (made : Option Call) → IsMadeFrame number packet →
-    MakesCall k packet made → HasNoTally (numbered k made)
+    MakesCall plain_framing k packet made → HasNoTally (numbered k made)
 made_none number k packet (Some call) is makes =
     let heads : Heads = makes.0 in
-    let none = frame_none (drawn number is.0) heads (subst (λ (p : List ℕ). HasHeads p heads) is.1 makes.1) in
+    let none = frame_none (drawn number is.0) heads
+    (subst (λ (p : List ℕ). HasHeads plain_framing p heads) is.1 makes.1) in
     All-cons (λ (one : ℕ × Call). is_tally one.1 ≡ false) (k, call) []
     (ap is_tally makes.2 ∙ no_tally_of heads.protocol (flow_key heads) k none) (All-nil _)
 made_none number k packet None is makes = All-nil _
 
 -- and so none of their calls is one
 pub made_calls : (number k : ℕ) (packets : List (List ℕ)) (calls : List (ℕ × Call)) →
-    All (IsMadeFrame number) packets → MakeCalls k packets calls → HasNoTally calls
+    All (IsMadeFrame number) packets → MakeCalls plain_framing k packets calls → HasNoTally calls
 made_calls number k [] calls are makes = subst HasNoTally (sym makes) (All-nil _)
 made_calls number k (packet ∷ packets) calls are (made, others, here, rest, is) =
     subst HasNoTally (sym is)

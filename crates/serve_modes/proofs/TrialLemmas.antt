@@ -7,6 +7,9 @@ use Rattle.edge_traits.specs.Edge.{Rose}
 use Rattle.pcap_reader.specs.Capture.{Capture, Saved}
 use Rattle.pcap_reader.specs.Made.{HoldsMade, made_capture, made_saved}
 use Rattle.capture_faults.specs.declared.any_fault.AnyFault.{AnyFault}
+use Rattle.packet_heads.specs.declared.framing.Framing.{Framing}
+use Rattle.packet_heads.specs.Links.{number_in}
+use Rattle.packet_heads.specs.Heads.{plain_framing}
 use Rattle.pcapng_reader.specs.Input.{Input, IsPcapng, packets_in}
 use Rattle.pcapng_reader.specs.Laws.{HasOneInput}
 use Rattle.pcapng_reader.proofs.InputFacts.{no_pcapng}
@@ -15,6 +18,7 @@ use Rattle.report_text.specs.declared.parts.Ending.TheVariants.{Done, ReadFault,
 use Rattle.command_line.specs.declared.plan.Plan.{Plan}
 use Rattle.capture_loop.specs.Leaves.{IsLoopReport, Leaves, PutsInput, ReportsInput}
 use Rattle.capture_loop.specs.Input.{HoldsPackets, Serves, packet_limit}
+use Rattle.mode_parts.specs.PacketCalls.{MakeCalls}
 use Rattle.serve_modes.specs.Served.{ServedArePromised}
 use Rattle.serve_modes.specs.Headline.{IsTrial}
 use Rattle.serve_modes.specs.Trying.{IsNoText, IsTrialOf}
@@ -37,7 +41,7 @@ made_in : (number made : ℕ) → List (List ℕ)
 made_in number made = packets_in (map (made_saved number) (range_with_len 1 made))
 
 -- it is an input
-made_input : (number made : ℕ) → HoldsMade number made → Input (made_capture number made) (made_in number made) (Ok 0)
+made_input : (number made : ℕ) → HoldsMade number made → Input 1 (made_capture number made) (made_in number made) (Ok 0)
 unfolding made_in
 made_input number made law =
     inr (
@@ -51,22 +55,22 @@ made_input number made law =
       },
     )
   where
-    not_pcapng : {records : List Saved} (bytes : List ℕ) → Capture bytes records (Ok 0) → IsPcapng bytes → ⊥
+    not_pcapng : {records : List Saved} (bytes : List ℕ) → Capture 1 bytes records (Ok 0) → IsPcapng bytes → ⊥
     not_pcapng bytes (inl refused) pcapng = let not : Ok 0 ≡ Err refused.fault = refused.ends in absurd (cc)
-    not_pcapng bytes (inr (order, holds)) pcapng = no_pcapng order bytes holds.head pcapng
+    not_pcapng bytes (inr (order, holds)) pcapng = no_pcapng 1 order bytes holds.head pcapng
 
 -- where no read fails, the capture that was made is read to its end
 made_packets :
     (number made : ℕ) (left : Option (List ℕ)) (packets : List (List ℕ)) (ending : Ending) →
-    HasOneInput (made_capture number made) → HoldsMade number made → made ≤ packet_limit →
-    (ending ≡ ReadFault → ⊥) → Serves (made_capture number made) left packets ending →
-    HoldsPackets (made_capture number made) packets (Ok 0)
+    HasOneInput 1 (made_capture number made) → HoldsMade number made → made ≤ packet_limit →
+    (ending ≡ ReadFault → ⊥) → Serves 1 (made_capture number made) left packets ending →
+    HoldsPackets 1 (made_capture number made) packets (Ok 0)
 unfolding made_in
 made_packets number made left packets (Done rest) one law few no_fault serves =
     let held = serves.holds.0 in
     let same : Ok rest ≡ Ok 0 =
     (one packets (made_in number made) (Ok rest) (Ok 0) held.0 (made_input number made law)).1 in
-    subst (HoldsPackets (made_capture number made) packets) same held
+    subst (HoldsPackets 1 (made_capture number made) packets) same held
 made_packets number made left packets (Fault fault) one law few no_fault serves =
     let held = serves.holds in
     absurd (is_ending (Err fault) fault refl
@@ -88,8 +92,8 @@ made_packets number made left packets (Limit limit) one law few no_fault serves 
 made_packets number made left packets ReadFault one law few no_fault serves = absurd (no_fault refl)
 
 -- its packets are made
-frames_made : (number made : ℕ) (packets : List (List ℕ)) → HasOneInput (made_capture number made) →
-    HoldsMade number made → HoldsPackets (made_capture number made) packets (Ok 0) → All (IsMadeFrame number) packets
+frames_made : (number made : ℕ) (packets : List (List ℕ)) → HasOneInput 1 (made_capture number made) →
+    HoldsMade number made → HoldsPackets 1 (made_capture number made) packets (Ok 0) → All (IsMadeFrame number) packets
 unfolding made_in
 frames_made number made packets one law held =
     let records : List Saved = map (made_saved number) (range_with_len 1 made) in
@@ -100,31 +104,37 @@ frames_made number made packets one law held =
 -- what the loop over its batches puts is its trial
 pub IsTrial-put :
     (plan : Plan) (read_failed : Type 0) (left : Option (List ℕ)) (ending : Ending) (put : List ℕ) →
-    HasOneInput (made_capture plan.number plan.packets) → HoldsMade plan.number plan.packets →
+    HasOneInput 1 (made_capture plan.number plan.packets) → HoldsMade plan.number plan.packets →
     plan.packets ≤ packet_limit → (read_failed → ⊥) → ServedArePromised → plan.rows ≡ None →
-    Leaves (IsNoText plan) (IsTrialOf plan) read_failed (made_capture plan.number plan.packets) left (Some [])
+    plan.framing ≡ plain_framing →
+    Leaves (number_in plan.framing.link) (IsNoText plan) (IsTrialOf plan) read_failed
+    (made_capture plan.number plan.packets) left (Some [])
     (Some put) (Ok ending) →
     IsTrial plan put
-IsTrial-put plan read_failed left ending put one law few none_failed promised none leaves =
+IsTrial-put plan read_failed left ending put one law few none_failed promised none plain leaves =
+    let link : number_in plan.framing.link ≡ 1 = ap (λ (f : Framing). number_in f.link) plain in
     let bytes : List ℕ = made_capture plan.number plan.packets in
-    let puts : PutsInput (IsTrialOf plan) bytes left (Some []) (Some put) ending = leaves.1 in
-    let input : ReportsInput (IsTrialOf plan) bytes left ending puts.0 = puts.1 in
+    let puts : PutsInput (number_in plan.framing.link) (IsTrialOf plan) bytes left (Some []) (Some put) ending =
+    leaves.1 in
+    let input : ReportsInput (number_in plan.framing.link) (IsTrialOf plan) bytes left ending puts.0 = puts.1 in
     let packets : List (List ℕ) = input.0 in
     let report : IsLoopReport (IsTrialOf plan) packets ending puts.0 = input.2 in
     let trial : IsTrialOf plan report.0 ending puts.0 = report.2 in
     let holds =
-    made_packets plan.number plan.packets left packets ending one law few (λ is. none_failed (leaves.0 is)) input.1 in
+    made_packets plan.number plan.packets left packets ending one law few (λ is. none_failed (leaves.0 is))
+    (subst (λ (n : ℕ). Serves n bytes left packets ending) link input.1) in
     let at = served_at promised plan packets report.0 trial.0 trial.1 report.1 trial.2 in
     let frames = frames_made plan.number plan.packets packets one law holds in (
       packets,
       at.0,
       trial.0,
       trial.1,
-      holds,
+      subst (λ (n : ℕ). HoldsPackets n bytes packets (Ok 0)) (sym link) holds,
       at.1,
       at.2,
       at.3,
       trial-adds_up trial.0 trial.1 trial.2.each (promised trial.0 trial.1 trial.2.each) plan at.0 at.2.cut
-          (made_calls plan.number 1 packets at.0 frames at.1) (trial.2.asks.rows ∙ none),
+          (made_calls plan.number 1 packets at.0 frames
+          (subst (λ (f : Framing). MakeCalls f 1 packets at.0) plain at.1)) (trial.2.asks.rows ∙ none),
       puts.2 ∙ trial.3,
     )

@@ -4,7 +4,6 @@ use Rattle.std.specs.Io.KnownBytes.{Appends, Keeps}
 use Rattle.hash_bits.specs.declared.hashing.Hashing.{Hashing}
 use Rattle.hash_bits.specs.declared.hashing.Hashing.TheVariants.{Mix, Ports}
 use Rattle.plain_map.specs.declared.calls.Call.{Call}
-use Rattle.capture_faults.specs.declared.any_fault.AnyFault.{AnyFault}
 use Rattle.pcap_reader.specs.Made.{made_capture}
 use Rattle.report_text.specs.declared.parts.Ending.{Ending}
 use Rattle.report_text.specs.declared.parts.Ending.TheVariants.{Done, ReadFault, Limit, Fault}
@@ -18,6 +17,7 @@ use Rattle.batch_runner.specs.Served.{Served, pairs_left}
 use Rattle.batch_runner.specs.Printed.{outcomes_in}
 use Rattle.batch_runner.specs.Totals.{totals_of}
 use Rattle.command_line.specs.declared.plan.Plan.{Plan}
+use Rattle.packet_heads.specs.Links.{number_in}
 use Rattle.mode_parts.specs.declared.status.Status.{Status}
 use Rattle.mode_parts.specs.declared.status.Status.TheVariants as status
 use Rattle.serve_modes.specs.Batches.{batch_count}
@@ -44,28 +44,31 @@ IsFrontOf plan packets calls text =
 
 abbrev pub IsReport : Plan → List (List ℕ) → Ending → List ℕ → Type 0
 IsReport plan packets ending text =
-    (calls : List (ℕ × Call)) × MakeCalls 1 packets calls × IsReportOf plan (length packets) calls ending text
+    (calls : List (ℕ × Call)) × MakeCalls plan.framing 1 packets calls × IsReportOf plan (length packets) calls ending
+    text
 
 abbrev pub IsFront : Plan → List (List ℕ) → List ℕ → Type 0
 IsFront plan packets text =
-    (calls : List (ℕ × Call)) × MakeCalls 1 packets calls × IsFrontOf plan (length packets) calls text
+    (calls : List (ℕ × Call)) × MakeCalls plan.framing 1 packets calls × IsFrontOf plan (length packets) calls text
 
 -- the text is the head line and the lines of all batches of these packets
 abbrev pub IsTold : Plan → List (List ℕ) → List ℕ → Type 0
 IsTold plan packets text =
-    (calls : List (ℕ × Call)) × MakeCalls 1 packets calls × (service : Service) × (batches : List Served)
+    (calls : List (ℕ × Call)) × MakeCalls plan.framing 1 packets calls × (service : Service) × (batches : List Served)
     × AreDone plan service calls batches × (length batches ≡ batch_count (length packets))
     × (text ≡ lines_so_far plan service batches)
 
 -- of an input with these bytes, of which these are left, the text is the report, with this ending
 abbrev pub Reports : Plan → List ℕ → Option (List ℕ) → Ending → List ℕ → Type 0
 Reports plan bytes left ending text =
-    (packets : List (List ℕ)) × Serves bytes left packets ending × IsReport plan packets ending text
+    (packets : List (List ℕ)) × Serves (number_in plan.framing.link) bytes left packets ending × IsReport plan packets
+    ending text
 
 -- and the text is the lines of its batches
 abbrev pub Tells : Plan → List ℕ → Option (List ℕ) → Ending → List ℕ → Type 0
 Tells plan bytes left ending text =
-    (packets : List (List ℕ)) × Serves bytes left packets ending × IsTold plan packets text
+    (packets : List (List ℕ)) × Serves (number_in plan.framing.link) bytes left packets ending × IsTold plan packets
+    text
 
 -- ---- what a run leaves
 
@@ -79,7 +82,8 @@ PutsReport plan bytes left before after ending =
 abbrev pub PutsSome : Plan → Type 0 → List ℕ → Option (List ℕ) → Option (List ℕ) → Option (List ℕ) → Type 0
 PutsSome plan read_failed bytes left before after =
     ((ending : Ending) × IsMet read_failed ending × PutsFront before after (Reports plan bytes left ending))
-    ⊎ ((packets : List (List ℕ)) × Begins bytes left packets × PutsFront before after (IsFront plan packets))
+    ⊎ ((packets : List (List ℕ)) × Begins (number_in plan.framing.link) bytes left packets × PutsFront before after
+    (IsFront plan packets))
 
 -- Where memory ran out, nothing was put, or the lines of all batches of an input whose ending is known, or those of the
 -- batches so far. More of the input may have been read.
@@ -87,15 +91,16 @@ abbrev pub PutsLess : Plan → Type 0 → List ℕ → Option (List ℕ) → Opt
 PutsLess plan read_failed bytes left before after =
     Keeps before after
     ⊎ (((ending : Ending) × IsMet read_failed ending × PutsWhole before after (Tells plan bytes left ending))
-    ⊎ ((packets : List (List ℕ)) × IsFirst bytes packets × PutsWhole before after (IsFront plan packets)))
+    ⊎ ((packets : List (List ℕ)) × IsFirst (number_in plan.framing.link) bytes packets × PutsWhole before after
+    (IsFront plan packets)))
 
 -- What `serve` leaves that ended so: of the input's bytes these are left, and the sink had taken `before` and has taken
 -- `after`.
 abbrev pub Leaves : Plan → Type 0 → List ℕ → Option (List ℕ) → Option (List ℕ) → Option (List ℕ) → Status → Type 0
 Leaves plan read_failed bytes left before after status.Done =
     (rest : ℕ) × PutsReport plan bytes left before after (Done rest)
-Leaves plan read_failed bytes left before after status.BadCapture =
-    (fault : AnyFault) × PutsReport plan bytes left before after (Fault fault)
+Leaves plan read_failed bytes left before after (status.BadCapture fault) =
+    PutsReport plan bytes left before after (Fault fault)
 Leaves plan read_failed bytes left before after status.Limit =
     (limit : ℕ) × PutsReport plan bytes left before after (Limit limit)
 Leaves plan read_failed bytes left before after status.ReadFault = PutsReport plan bytes left before after ReadFault
@@ -157,7 +162,8 @@ pub record AddsUp (trial : Trial) : Type 0 where
 abbrev pub IsTrial : Plan → List ℕ → Type 0
 IsTrial plan text =
     (packets : List (List ℕ)) × (calls : List (ℕ × Call)) × (service : Service) × (batches : List Served)
-    × HoldsPackets (made_capture plan.number plan.packets) packets (Ok 0) × MakeCalls 1 packets calls
+    × HoldsPackets (number_in plan.framing.link) (made_capture plan.number plan.packets) packets (Ok 0) × MakeCalls
+    plan.framing 1 packets calls
     × AreDone plan service calls batches × (length batches ≡ batch_count (length packets))
     × AddsUp (tried_of plan batches) × (text ≡ trial_lines (tried_of plan batches))
 
@@ -168,5 +174,5 @@ LeavesTried plan before after status.WriteFault = PutsFront before after (IsTria
 LeavesTried plan before after status.Memory = Keeps before after
 LeavesTried plan before after status.Usage = ⊥
 LeavesTried plan before after status.ReadFault = ⊥
-LeavesTried plan before after status.BadCapture = ⊥
+LeavesTried plan before after (status.BadCapture fault) = ⊥
 LeavesTried plan before after status.Limit = ⊥

@@ -11,13 +11,16 @@ ghost use Rattle.trace_share.specs.Work.{IsLogOf};
 ghost use Rattle.batch_deals.specs.Dealt.{IsDealt};
 ghost use Rattle.batch_runner.specs.Seats.{HasWorked};
 ghost use Rattle.capture_loop.specs.declared.job.TheConstants.{BATCH, PACKET_LIMIT};
+ghost use Rattle.capture_loop.specs.Input.{StopsAt, packet_limit};
 ghost use Rattle.capture_loop.specs.Leaves.{RunReads, RunWrites};
 ghost use Rattle.capture_loop.specs.Looping.{OnNotPut};
 ghost use Rattle.command_line.specs.declared.plan.Plan.{Plan as APlan};
 ghost use Rattle.command_line.specs.Words.{IsInRange};
+ghost use Rattle.mode_parts.specs.PacketCalls.{MakeCalls};
 ghost use Rattle.serve_modes.specs.Progress.{HasServed};
 ghost use Rattle.serve_modes.specs.Headline.{LeavesAll};
-ghost use Rattle.mode_parts.specs.Statuses.{ReadsFailed, WritesFailed, status_by};
+ghost use Rattle.mode_parts.specs.Statuses.{MarksFor, ReadsFailed, WritesFailed, status_by};
+ghost use Rattle.packet_heads.specs.Links.{number_in, way_of};
 ghost use Rattle.mode_parts.specs.Planned.{IsServiceOf, head_of};
 ghost use Rattle.serve_modes.specs.Serving.{CallWorker, HasDone, HasOpened, IsLines, IsServing, IsWholeReport};
 
@@ -32,6 +35,7 @@ use capture_loop::{BATCH, Job, Means, Opened, PACKET_LIMIT, Piles, Stop, run_job
 use command_line::Plan;
 use edge_traits::{Gate, Sink, Source};
 use mode_parts::{CallPile, Status, head_of, put_sessions, service_of};
+use packet_heads::Framing;
 use plain_map::{Call, session_laws};
 use report_promises::{ending_fits, head_fits, promise_laws};
 use report_text::{Ending, head_text, tail_text};
@@ -48,6 +52,8 @@ const TEXT_ROOM: usize = 450_000;
 #[derive(Drop)]
 pub(crate) struct Serving {
     pub service: Service,
+    /// How packets are framed.
+    pub framing: Framing,
     pub workspace: Workspace,
     pub progress: Progress,
     /// How many packets were served.
@@ -58,17 +64,19 @@ pub(crate) struct Serving {
 
 impl Serving {
     /// None yet.
-    pub fn new(alloc: Global, service: Service) -> Result<Serving, AllocError>
+    pub fn new(alloc: Global, service: Service, framing: Framing) -> Result<Serving, AllocError>
         requires given { ForSome service.rows (AreBelow (2 ^ 32)) }
         ensures going { IfOk result (λ serving. IsServing serving 0) }
         ensures done { IfOk result (λ serving. (plan : APlan) (text : List ℕ) → IsServiceOf plan service →
-            text ≡ head_line (head_of false plan) → HasDone serving plan [] text) }
+            framing ≡ plan.framing → text ≡ head_line (head_of false plan) → HasDone serving plan [] text) }
         ensures served { IfOk result (λ serving. HasServed service serving.progress []) }
         ensures service { IfOk result (λ serving. serving.service ≡ service) }
+        ensures framing { IfOk result (λ serving. serving.framing ≡ framing) }
     {
         let calls = Vec::with_capacity(alloc, BATCH as usize)?;
         Ok(Serving {
             service,
+            framing,
             workspace: Workspace::new(alloc),
             progress: Progress::new(alloc),
             packets: 0,
@@ -80,9 +88,14 @@ impl Serving {
     pub fn dealt_of(&self, pile: &mut CallPile) -> Result<Dealt, AllocError>
         requires few { length pile.old.calls.items ≤ BATCH }
         requires dealt { ForSome pile.old.dealt (IsDealt pile.old.service pile.old.calls.items) }
+        requires way { way_of pile.old.framing ≡ way_of self.now.framing }
         ensures dealt { IfOk result (IsDealt self.now.service pile.old.calls.items) }
         ensures calls { pile.new.calls ≡ pile.old.calls }
         ensures packets { pile.new.packets ≡ pile.old.packets }
+        ensures framing { pile.new.framing ≡ pile.old.framing }
+        ensures made { OnOk result ((number : ℕ) (packets : List (List ℕ)) →
+            MakeCalls pile.old.framing number packets pile.old.calls.items →
+            MakeCalls self.now.framing number packets pile.old.calls.items) }
     {
         let dealt = mem::replace(&mut pile.dealt, None);
         if let Some(dealt) = dealt {
@@ -109,6 +122,8 @@ impl Job<Plan> for Serving {
     ghost lines = { IsLines };
 
     ghost report = { IsWholeReport };
+
+    ghost way = { λ serving. way_of serving.framing };
 
     ghost going = { IsServing };
 
@@ -148,6 +163,7 @@ impl Job<Plan> for Serving {
             × IsServing self.old before × HasOpened self.old made.shared started made.kept before packets
             × AllZip (HasWorked IsLogOf) started made.workers.items × (length packets ≤ BATCH)
             × (before + length packets ≤ PACKET_LIMIT) }
+        ensures way { OnOk result (way_of self.new.framing ≡ way_of self.old.framing) }
         ensures going { OnOk result ((started : List CallWorker) (before : ℕ) (packets : List (List ℕ)) →
             IsServing self.old before → HasOpened self.old made.shared started made.kept before packets →
             AllZip (HasWorked IsLogOf) started made.workers.items → IsServing self.new (before + length packets)) }
@@ -202,12 +218,14 @@ fn deal_alike(one: &Service, other: &Service) -> bool
     one.share == other.share && one.settings.seats == other.settings.seats
 }
 
-/// Serves the source's packets as the plan says, and puts the report into the sink.
+/// Serves the source's packets as the plan says, and puts the report into the sink. Where there are more than are
+/// served, `beyond` is where the first of these starts, in bytes from the input's first.
 pub fn serve<R: Threads + Sync, S: Source, K: Sink, G: Gate + Sync>(
     means: &Means<R, G>,
     plan: &Plan,
     source: &mut S,
     sink: &mut K,
+    beyond: &mut Option<u64>,
 ) -> Status
     requires { IsInRange plan.now }
     ensures leaves { LeavesAll plan.now (Rose (S.faults source.old) (S.faults source.new)) (S.left source.old)
@@ -217,9 +235,11 @@ pub fn serve<R: Threads + Sync, S: Source, K: Sink, G: Gate + Sync>(
     ensures reads { ReadsFailed result (S.failed source.old) (S.failed source.new) }
     ensures writes { WritesFailed result (K.failed sink.old) (K.failed sink.new) }
     ensures no_usage { result ≡ Status.Usage → ⊥ }
+    ensures beyond { MarksFor result beyond.old beyond.new
+        (StopsAt (number_in plan.now.framing.link) packet_limit (S.left source.old) (S.left source.new)) }
     ensures counted { (S.faults source.old ≤ S.faults source.new) × (K.faults sink.old ≤ K.faults sink.new) }
 {
-    match serve_input(means, plan, source, sink) {
+    match serve_input(means, plan, source, sink, beyond) {
         Ok(ending) => Status::of_ending(&ending),
         Err(Stop::Memory) => Status::Memory,
         Err(Stop::NotPut) => Status::WriteFault,
@@ -233,6 +253,7 @@ fn serve_input<R: Threads + Sync, S: Source, K: Sink, G: Gate + Sync>(
     plan: &Plan,
     source: &mut S,
     sink: &mut K,
+    beyond: &mut Option<u64>,
 ) -> Result<Ending, Stop>
     requires { IsInRange plan.now }
     ensures leaves { LeavesAll plan.now (Rose (S.faults source.old) (S.faults source.new)) (S.left source.old)
@@ -241,6 +262,8 @@ fn serve_input<R: Threads + Sync, S: Source, K: Sink, G: Gate + Sync>(
     ensures write_fault { OnNotPut result (Rose (K.faults sink.old) (K.faults sink.new)) }
     ensures reads { RunReads result (S.failed source.old) (S.failed source.new) }
     ensures writes { RunWrites result (K.failed sink.old) (K.failed sink.new) }
+    ensures beyond { MarksFor (status_by result) beyond.old beyond.new
+        (StopsAt (number_in plan.now.framing.link) packet_limit (S.left source.old) (S.left source.new)) }
     ensures counted { (S.faults source.old ≤ S.faults source.new) × (K.faults sink.old ≤ K.faults sink.new) }
 {
     serving_laws();
@@ -252,18 +275,21 @@ fn serve_input<R: Threads + Sync, S: Source, K: Sink, G: Gate + Sync>(
     head_fits(&head, &service.settings);
     head_text(&mut text, &head)?;
     let mut piles = Piles {
-        now: CallPile::with_room(alloc, service, BATCH as usize)?,
-        next: CallPile::with_room(alloc, service, BATCH as usize)?,
+        now: CallPile::with_room(alloc, service, plan.framing, BATCH as usize)?,
+        next: CallPile::with_room(alloc, service, plan.framing, BATCH as usize)?,
+        beyond: *beyond,
     };
-    let mut serving = Serving::new(alloc, service)?;
+    let mut serving = Serving::new(alloc, service, plan.framing)?;
     let answer = run_job::<R, S, K, G, Plan, Serving>(
         means,
+        plan.framing.link.number(),
         &mut serving,
         &mut piles,
         source,
         &mut text,
         sink,
     );
+    *beyond = piles.beyond;
     answer_fits(&answer);
     answer
 }

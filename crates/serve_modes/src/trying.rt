@@ -10,6 +10,8 @@ ghost use Rattle.batch_runner.specs.Totals.{IsTotalOf};
 ghost use Rattle.capture_loop.specs.declared.job.TheConstants.{BATCH, PACKET_LIMIT};
 ghost use Rattle.command_line.specs.declared.plan.Plan.{Plan as APlan};
 ghost use Rattle.command_line.specs.Words.{IsInRange};
+ghost use Rattle.packet_heads.specs.Heads.{plain_framing};
+ghost use Rattle.packet_heads.specs.Links.{way_of};
 ghost use Rattle.serve_modes.specs.Headline.{IsTrial, LeavesTried, seed_of, trial_of};
 ghost use Rattle.mode_parts.specs.Statuses.{WritesFailed};
 ghost use Rattle.mode_parts.specs.Planned.{IsServiceOf};
@@ -51,8 +53,9 @@ impl Trying {
         requires asks { IsServiceOf plan.now service }
         ensures going { IfOk result (λ trying. IsTrying trying 0) }
         ensures none { IfOk result (λ trying. HasTried trying plan.now [] []) }
+        ensures framing { IfOk result (λ trying. trying.serving.framing ≡ plan.now.framing) }
     {
-        let serving = Serving::new(alloc, service)?;
+        let serving = Serving::new(alloc, service, plan.framing)?;
         Ok(Trying {
             serving,
             number: plan.number,
@@ -107,6 +110,8 @@ impl Job<Plan> for Trying {
 
     ghost report = { IsTrialOf };
 
+    ghost way = { λ trying. way_of trying.serving.framing };
+
     ghost going = { IsTrying };
 
     ghost done = { HasTried };
@@ -146,6 +151,7 @@ impl Job<Plan> for Trying {
             × IsTrying self.old before × HasOpenedTrial self.old made.shared started made.kept before packets
             × AllZip (HasWorked IsTotalOf) started made.workers.items × (length packets ≤ BATCH)
             × (before + length packets ≤ PACKET_LIMIT) }
+        ensures way { OnOk result (way_of self.new.serving.framing ≡ way_of self.old.serving.framing) }
         ensures going { OnOk result ((started : List CountWorker) (before : ℕ) (packets : List (List ℕ)) →
             IsTrying self.old before → HasOpenedTrial self.old made.shared started made.kept before packets →
             AllZip (HasWorked IsTotalOf) started made.workers.items → IsTrying self.new (before + length packets)) }
@@ -195,7 +201,8 @@ pub fn try_plan<R: Threads + Sync, K: Sink, G: Gate + Sync>(
     sink: &mut K,
 ) -> Status
     requires { IsInRange plan.now }
-    ensures leaves { plan.now.rows ≡ None → LeavesTried plan.now (K.put sink.old) (K.put sink.new) result }
+    ensures leaves { plan.now.rows ≡ None → plan.now.framing ≡ plain_framing →
+        LeavesTried plan.now (K.put sink.old) (K.put sink.new) result }
     ensures no_usage { result ≡ Status.Usage → ⊥ }
     ensures no_read { result ≡ Status.ReadFault → ⊥ }
     ensures write_fault { result ≡ Status.WriteFault → Rose (K.faults sink.old) (K.faults sink.new) }
@@ -217,7 +224,8 @@ fn text_of<R: Threads + Sync, G: Gate + Sync>(
     plan: &Plan,
 ) -> Result<MemorySink, AllocError>
     requires { IsInRange plan.now }
-    ensures { IfOk result (λ text. plan.now.rows ≡ None → IsTrial plan.now text.put) }
+    ensures { IfOk result
+        (λ text. plan.now.rows ≡ None → plan.now.framing ≡ plain_framing → IsTrial plan.now text.put) }
 {
     one_input();
     made_capture_law();
@@ -225,8 +233,9 @@ fn text_of<R: Threads + Sync, G: Gate + Sync>(
     let service = service_of(plan);
     let alloc = means.alloc;
     let mut piles = Piles {
-        now: CallPile::with_room(alloc, service, BATCH as usize)?,
-        next: CallPile::with_room(alloc, service, BATCH as usize)?,
+        now: CallPile::with_room(alloc, service, plan.framing, BATCH as usize)?,
+        next: CallPile::with_room(alloc, service, plan.framing, BATCH as usize)?,
+        beyond: None,
     };
     let mut trying = Trying::new(alloc, plan, service)?;
     let mut source = MadeSource::new(plan.number, plan.packets);
@@ -234,6 +243,7 @@ fn text_of<R: Threads + Sync, G: Gate + Sync>(
     let mut sink = MemorySink::new(alloc, TEXT_ROOM, &[])?;
     let answer = run_job::<R, MadeSource, MemorySink, G, Plan, Trying>(
         means,
+        plan.framing.link.number(),
         &mut trying,
         &mut piles,
         &mut source,

@@ -431,10 +431,11 @@ come_none seats all = record {
 
 -- whatever the interleaving, the answers are right
 pub counted_are_right : CountedAreRight
-counted_are_right seats packets batches some few short lengths make counted =
+counted_are_right framing seats packets batches some few short lengths make counted =
     let all : List Add = adds_on batches in
-    let long : length all ≡ length packets = make_length 1 packets all make in
-    let come = (come_all seats some few all (named packets all make) (make_adds 1 packets all lengths make)
+    let long : length all ≡ length packets = make_length framing 1 packets all make in
+    let come = (come_all seats some few all (named framing packets all make) (make_adds framing 1 packets all lengths
+    make)
     (omega (arith, long, short)) batches [] [] [] nothing no_counts (come_none seats all) refl counted) in
     record {
       asked = come.asked;

@@ -4,28 +4,31 @@ use Rattle.std.proofs.lemmas.Bool.{cases_eq, cond-true, cond-false, eq-eqb, ne_e
 use Rattle.std.proofs.lemmas.List.{get_or-map, get_or-replicate, length-replicate, length-set, map-set, take_more}
 use Rattle.std.proofs.lemmas.List.Elements.{filter-append}
 use Rattle.std.proofs.lemmas.List.FromFn.{fill_by_all, get_or-map-range_with_len, length-map-range_with_len}
+use Rattle.packet_heads.specs.declared.framing.Framing.{Framing}
 use Rattle.packet_adders.specs.declared.frames.Frame.{Frame}
 use Rattle.packet_adders.specs.Frames.{IsFrameOf}
 use Rattle.totals_runner.specs.Frames.{AreFrames, frames_by, shares_in}
 use Rattle.totals_runner.specs.PacketAdds.{seat_for}
 
 -- one packet more
-pub AreFrames-more : (number : ℕ) (packets : List (List ℕ)) (frames : List Frame) (packet : List ℕ) (frame : Frame)
-    (last : ℕ) → AreFrames number packets frames → IsFrameOf last packet frame → last ≡ number + length packets →
-    AreFrames number (packets ++ packet ∷ []) (frames ++ frame ∷ [])
-AreFrames-more number [] frames packet frame last are is at =
+pub AreFrames-more : (framing : Framing) (number : ℕ) (packets : List (List ℕ)) (frames : List Frame)
+    (packet : List ℕ) (frame : Frame)
+    (last : ℕ) → AreFrames framing number packets frames → IsFrameOf framing last packet frame →
+    last ≡ number + length packets →
+    AreFrames framing number (packets ++ packet ∷ []) (frames ++ frame ∷ [])
+AreFrames-more framing number [] frames packet frame last are is at =
     let here : last ≡ number = omega (arith, at) in (
       frame,
       [],
-      subst (λ (n : ℕ). IsFrameOf n packet frame) here is,
+      subst (λ (n : ℕ). IsFrameOf framing n packet frame) here is,
       refl,
       ap (λ (fs : List Frame). fs ++ frame ∷ []) are,
     )
-AreFrames-more number (p ∷ packets) frames packet frame last are is at = (
+AreFrames-more framing number (p ∷ packets) frames packet frame last are is at = (
   are.0,
   are.1 ++ frame ∷ [],
   are.2,
-  AreFrames-more (suc number) packets are.1 packet frame last are.3 is (omega (arith, at)),
+  AreFrames-more framing (suc number) packets are.1 packet frame last are.3 is (omega (arith, at)),
   ap (λ (fs : List Frame). fs ++ frame ∷ []) are.4,
 )
 

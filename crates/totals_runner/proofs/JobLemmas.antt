@@ -9,6 +9,8 @@ use Rattle.packet_adders.specs.Work.{IsDone}
 use Rattle.report_text.specs.Adds.{add_batch_lines, totals_head}
 use Rattle.totals_runner.specs.declared.batch.Dealt.{Dealt}
 use Rattle.totals_runner.specs.declared.frames.Frames.{Frames}
+use Rattle.packet_heads.specs.declared.framing.Framing.{Framing}
+use Rattle.totals_runner.specs.declared.counting.Asked.{Asked}
 use Rattle.totals_runner.specs.declared.counting.Counting.{Counting}
 use Rattle.totals_runner.specs.PacketAdds.{MakeAdds}
 use Rattle.totals_runner.specs.Counted.{AreCounted, Counted, totals_left}
@@ -25,41 +27,45 @@ use Rattle.totals_runner.proofs.Named.{make_length}
 -- ---- batches of packets
 
 -- one batch more
-of_more : (number : ℕ) (batches : List (List (List ℕ))) (counted : List Counted) (packets : List (List ℕ))
-    (batch : Counted) (last : ℕ) → AreOf number batches counted → MakeAdds last packets batch.adds →
-    last ≡ number + length (adds_on counted) → AreOf number (batches ++ packets ∷ []) (counted ++ batch ∷ [])
-of_more number [] counted packets batch last are make at =
+of_more : (framing : Framing) (number : ℕ) (batches : List (List (List ℕ))) (counted : List Counted)
+    (packets : List (List ℕ))
+    (batch : Counted) (last : ℕ) → AreOf framing number batches counted → MakeAdds framing last packets batch.adds →
+    last ≡ number + length (adds_on counted) → AreOf framing number (batches ++ packets ∷ []) (counted ++ batch ∷ [])
+of_more framing number [] counted packets batch last are make at =
     let none : length (adds_on counted) ≡ 0 = ap (λ (bs : List Counted). length (adds_on bs)) are in
     let same : last ≡ number = omega (arith, at, none) in (
       batch,
       [],
-      subst (λ (n : ℕ). MakeAdds n packets batch.adds) same make,
+      subst (λ (n : ℕ). MakeAdds framing n packets batch.adds) same make,
       refl,
       ap (λ (bs : List Counted). bs ++ batch ∷ []) are,
     )
-of_more number (first ∷ batches) counted packets batch last are make at =
-    let long : length are.0.adds ≡ length first = make_length number first are.0.adds are.2 in
+of_more framing number (first ∷ batches) counted packets batch last are make at =
+    let long : length are.0.adds ≡ length first = make_length framing number first are.0.adds are.2 in
     let all : length (adds_on counted) ≡ length are.0.adds + length (adds_on are.1) =
     ap (λ (bs : List Counted). length (adds_on bs)) are.4 ∙ length-append are.0.adds (adds_on are.1) in (
       are.0,
       are.1 ++ batch ∷ [],
       are.2,
-      of_more (number + length first) batches are.1 packets batch last are.3 make (omega (arith, at, long, all)),
+      of_more framing (number + length first) batches are.1 packets batch last are.3 make
+          (omega (arith, at, long, all)),
       ap (λ (bs : List Counted). bs ++ batch ∷ []) are.4,
     )
 
 -- all of them make the adds of all their packets
-make_from : (number : ℕ) (batches : List (List (List ℕ))) (counted : List Counted) → AreOf number batches counted →
-    MakeAdds number (flat_map (λ packets. packets) batches) (adds_on counted)
-make_from number [] counted are = ap adds_on are
-make_from number (packets ∷ batches) counted are =
-    subst (λ (xs : List Add). MakeAdds number (packets ++ flat_map (λ (ps : List (List ℕ)). ps) batches) xs)
+make_from : (framing : Framing) (number : ℕ) (batches : List (List (List ℕ))) (counted : List Counted) →
+    AreOf framing number batches counted →
+    MakeAdds framing number (flat_map (λ packets. packets) batches) (adds_on counted)
+make_from framing number [] counted are = ap adds_on are
+make_from framing number (packets ∷ batches) counted are =
+    subst (λ (xs : List Add). MakeAdds framing number (packets ++ flat_map (λ (ps : List (List ℕ)). ps) batches) xs)
     (sym (ap adds_on are.4))
-    (make_append number (number + length packets) packets (flat_map (λ (ps : List (List ℕ)). ps) batches) are.0.adds
-    (adds_on are.1) are.2 (make_from (number + length packets) batches are.1 are.3) refl)
+    (make_append framing number (number + length packets) packets (flat_map (λ (ps : List (List ℕ)). ps) batches)
+    are.0.adds
+    (adds_on are.1) are.2 (make_from framing (number + length packets) batches are.1 are.3) refl)
 
 pub batches_make : BatchesMakeAdds
-batches_make batches counted are = make_from 1 batches counted are
+batches_make framing batches counted are = make_from framing 1 batches counted are
 
 -- ---- lines
 
@@ -84,48 +90,52 @@ right_of : (job : Counting) (seats : ℕ) (batches : List Counted) → job.seats
 right_of job seats batches same kept =
     let some : 0 < seats = omega (arith, same, job.some) in
     let few : seats ≤ 8 = omega (arith, same, job.few) in
-    counted_are_right seats kept.packets batches some few kept.few_packets kept.short kept.make
+    counted_are_right job.framing seats kept.packets batches some few kept.few_packets kept.short kept.make
     (subst (λ (n : ℕ). AreCounted n nothing batches) same kept.counted)
 
-pub counts_on : (job then : Counting) (seats : ℕ) (batches : List (List (List ℕ))) (put old new : List ℕ)
-    (packets : List (List ℕ)) (batch : Counted) → (so : IsCountedSo job seats batches put) →
-    MakeAdds (job.packets + 1) packets batch.adds → HasCounted then (so.counted ++ batch ∷ []) →
-    then.seats ≡ job.seats →
+pub counts_on : (job then : Counting) (asked : Asked) (batches : List (List (List ℕ))) (put old new : List ℕ)
+    (packets : List (List ℕ)) (batch : Counted) → (so : IsCountedSo job asked batches put) →
+    MakeAdds job.framing (job.packets + 1) packets batch.adds → HasCounted then (so.counted ++ batch ∷ []) →
+    then.seats ≡ job.seats → then.framing ≡ job.framing →
     new ≡ old ++ add_batch_lines job.seats (lines_of job.seats job.before batch) →
-    (lines : List ℕ) × (new ≡ old ++ lines) × IsCountedSo then seats (batches ++ packets ∷ []) (put ++ lines)
-counts_on job then seats batches put old new packets batch so make kept same text = (
-  add_batch_lines job.seats (lines_of job.seats job.before batch),
-  text,
-  record {
-    as_many = same ∙ so.as_many;
-    counted = so.counted ++ batch ∷ [];
-    of = of_more 1 batches so.counted packets batch (job.packets + 1) so.of make
-        (omega (arith, so.kept.many, make_length 1 so.kept.packets (adds_on so.counted) so.kept.make));
-    kept = kept;
-    right = right_of then seats (so.counted ++ batch ∷ []) (same ∙ so.as_many) kept;
-    text_is = (λ i. so.text_is i
-        ++ add_batch_lines (so.as_many i) (lines_of (so.as_many i) (so.kept.before i) batch))
-        ∙ ap (λ (n : ℕ). (totals_head seats
-        ++ flat_map (add_batch_lines seats) (all_lines seats no_counts so.counted))
-        ++ add_batch_lines seats (lines_of seats (added_in_all n no_counts so.counted) batch)) so.as_many
-        ∙ append_assoc (totals_head seats)
-        (flat_map (add_batch_lines seats) (all_lines seats no_counts so.counted))
-        (add_batch_lines seats (lines_of seats (added_in_all seats no_counts so.counted) batch))
-        ∙ ap (λ (t : List ℕ). totals_head seats ++ t) (sym (lines_more seats no_counts so.counted batch));
-  },
-)
+    (lines : List ℕ) × (new ≡ old ++ lines) × IsCountedSo then asked (batches ++ packets ∷ []) (put ++ lines)
+counts_on job then asked batches put old new packets batch so make kept same framed text =
+    let seats : ℕ = asked.seats in (
+      add_batch_lines job.seats (lines_of job.seats job.before batch),
+      text,
+      record {
+        as_many = same ∙ so.as_many;
+        as_framed = framed ∙ so.as_framed;
+        counted = so.counted ++ batch ∷ [];
+        of = of_more asked.framing 1 batches so.counted packets batch (job.packets + 1) so.of
+            (subst (λ (f : Framing). MakeAdds f (job.packets + 1) packets batch.adds) so.as_framed make)
+            (omega (arith, so.kept.many, make_length job.framing 1 so.kept.packets (adds_on so.counted) so.kept.make));
+        kept = kept;
+        right = right_of then seats (so.counted ++ batch ∷ []) (same ∙ so.as_many) kept;
+        text_is = (λ i. so.text_is i
+            ++ add_batch_lines (so.as_many i) (lines_of (so.as_many i) (so.kept.before i) batch))
+            ∙ ap (λ (n : ℕ). (totals_head seats
+            ++ flat_map (add_batch_lines seats) (all_lines seats no_counts so.counted))
+            ++ add_batch_lines seats (lines_of seats (added_in_all n no_counts so.counted) batch)) so.as_many
+            ∙ append_assoc (totals_head seats)
+            (flat_map (add_batch_lines seats) (all_lines seats no_counts so.counted))
+            (add_batch_lines seats (lines_of seats (added_in_all seats no_counts so.counted) batch))
+            ∙ ap (λ (t : List ℕ). totals_head seats ++ t) (sym (lines_more seats no_counts so.counted batch));
+      },
+    )
 
 -- nothing yet
-pub begun : (job : Counting) (seats : ℕ) (text : List ℕ) → job.seats ≡ seats → HasCounted job [] →
-    text ≡ totals_head seats → IsCountedSo job seats [] text
-begun job seats text same kept is =
+pub begun : (job : Counting) (asked : Asked) (text : List ℕ) → job.seats ≡ asked.seats →
+    job.framing ≡ asked.framing → HasCounted job [] → text ≡ totals_head asked.seats → IsCountedSo job asked [] text
+begun job asked text same framed kept is =
     record {
       as_many = same;
+      as_framed = framed;
       counted = [];
       of = refl;
       kept = kept;
-      right = right_of job seats [] same kept;
-      text_is = is ∙ sym (append-nil (totals_head seats));
+      right = right_of job asked.seats [] same kept;
+      text_is = is ∙ sym (append-nil (totals_head asked.seats));
     }
 
 -- what follows of an answer follows of it there
@@ -160,7 +170,8 @@ abbrev pub Closes : Counting → Counting → TableValue → List AddWorker → 
 Closes job then t ws dealt old new =
     (started : List AddWorker) (batches : List Counted) (packets : List (List ℕ)) → HasCounted job batches →
     IsOpened job t started dealt job.packets packets → AllZip (IsDone t) started ws →
-    (batch : Counted) × MakeAdds (job.packets + 1) packets batch.adds × HasCounted then (batches ++ batch ∷ [])
+    (batch : Counted) × MakeAdds job.framing (job.packets + 1) packets batch.adds × HasCounted then
+    (batches ++ batch ∷ [])
     × (then.packets ≡ job.packets + length packets)
     × (new ≡ old ++ add_batch_lines job.seats (lines_of job.seats job.before batch))
 
@@ -180,12 +191,14 @@ closed_going job then t ws dealt old new closes started before packets gone open
 
 -- with the lines of the batch
 pub closed_served : (job then : Counting) (t : TableValue) (ws : List AddWorker) (dealt : Dealt) (old new : List ℕ) →
-    then.seats ≡ job.seats → Closes job then t ws dealt old new → (seats : ℕ) (batches : List (List (List ℕ)))
+    then.seats ≡ job.seats → then.framing ≡ job.framing → Closes job then t ws dealt old new →
+    (asked : Asked) (batches : List (List (List ℕ)))
     (put : List ℕ) (started : List AddWorker) (before : ℕ) (packets : List (List ℕ)) →
-    IsCountedSo job seats batches put → HasGone job before → IsOpened job t started dealt before packets →
+    IsCountedSo job asked batches put → HasGone job before → IsOpened job t started dealt before packets →
     AllZip (IsDone t) started ws →
-    (lines : List ℕ) × (new ≡ old ++ lines) × IsCountedSo then seats (batches ++ packets ∷ []) (put ++ lines)
-closed_served job then t ws dealt old new same closes seats batches put started before packets so gone opened zip =
+    (lines : List ℕ) × (new ≡ old ++ lines) × IsCountedSo then asked (batches ++ packets ∷ []) (put ++ lines)
+closed_served job then t ws dealt old new same framed closes asked batches put started before packets so gone opened
+    zip =
     let got = closes started so.counted packets so.kept
     (opened_here job t started dealt before packets gone opened) zip in
-    counts_on job then seats batches put old new packets got.0 so got.1 got.2 same got.4
+    counts_on job then asked batches put old new packets got.0 so got.1 got.2 same framed got.4

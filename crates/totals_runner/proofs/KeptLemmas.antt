@@ -16,6 +16,7 @@ use Rattle.sim_steps.specs.Totals.{AreSmall}
 use Rattle.sim_steps.specs.World.{seat_in}
 use Rattle.sim_steps.specs.Order.{Entry}
 use Rattle.sim_totals.specs.declared.table.ClosedTotals.{ClosedTotals}
+use Rattle.packet_heads.specs.declared.framing.Framing.{Framing}
 use Rattle.packet_adders.specs.declared.frames.Frame.{Frame}
 use Rattle.plain_map.specs.declared.records.CallId.{CallId}
 use Rattle.report_text.specs.Report.{order_lines}
@@ -72,18 +73,19 @@ adds_more (b ∷ batches) batch =
     ap (λ (xs : List Add). b.adds ++ xs) (adds_more batches batch)
     ∙ sym (append_assoc b.adds (adds_on batches) batch.adds)
 
-pub make_append : (number last : ℕ) (packets more : List (List ℕ)) (adds others : List Add) →
-    MakeAdds number packets adds →
-    MakeAdds last more others → last ≡ number + length packets → MakeAdds number (packets ++ more) (adds ++ others)
-make_append number last [] more adds others make rest at =
+pub make_append : (framing : Framing) (number last : ℕ) (packets more : List (List ℕ)) (adds others : List Add) →
+    MakeAdds framing number packets adds →
+    MakeAdds framing last more others → last ≡ number + length packets →
+    MakeAdds framing number (packets ++ more) (adds ++ others)
+make_append framing number last [] more adds others make rest at =
     let same : last ≡ number = omega (arith, at) in
-    subst (λ (n : ℕ). MakeAdds n more (adds ++ others)) same
-    (subst (λ (xs : List Add). MakeAdds last more (xs ++ others)) (sym make) rest)
-make_append number last (packet ∷ packets) more adds others make rest at = (
+    subst (λ (n : ℕ). MakeAdds framing n more (adds ++ others)) same
+    (subst (λ (xs : List Add). MakeAdds framing last more (xs ++ others)) (sym make) rest)
+make_append framing number last (packet ∷ packets) more adds others make rest at = (
   make.0,
   make.1 ++ others,
   make.2,
-  make_append (suc number) last packets more make.1 others make.3 rest (omega (arith, at)),
+  make_append framing (suc number) last packets more make.1 others make.3 rest (omega (arith, at)),
   ap (λ (xs : List Add). xs ++ others) make.4,
 )
 
@@ -102,7 +104,8 @@ module _ (counting : Counting) (batches : List Counted) (kept : HasCounted count
       (order_on counting.seats batches) (totals_left nothing batches) (added_in_all counting.seats no_counts batches)
   come =
       come_all counting.seats (omega (arith, counting.some)) counting.few (adds_on batches)
-      (named kept.packets (adds_on batches) kept.make) (make_adds 1 kept.packets (adds_on batches) kept.short kept.make)
+      (named counting.framing kept.packets (adds_on batches) kept.make)
+      (make_adds counting.framing 1 kept.packets (adds_on batches) kept.short kept.make)
       few batches [] [] [] nothing no_counts (come_none counting.seats (adds_on batches)) refl kept.counted
 
   -- a table can be opened with the totals so far
@@ -113,7 +116,7 @@ module _ (counting : Counting) (batches : List Counted) (kept : HasCounted count
       small class less = (
         (let is_few = few_counts (adds_on batches) class few in omega (arith, come.counts class less, is_few)),
         (let is_few = few_bytes (adds_on batches) class few
-            (make_adds 1 kept.packets (adds_on batches) kept.short kept.make) in
+            (make_adds counting.framing 1 kept.packets (adds_on batches) kept.short kept.make) in
             omega (arith, come.bytes class less, is_few)),
       )
 
@@ -133,23 +136,25 @@ module _ (counting : Counting) (batches : List Counted) (kept : HasCounted count
 -- ---- the shares that are handed over
 
 -- there is a frame for each packet
-pub frames_many : (number : ℕ) (packets : List (List ℕ)) (frames : List Frame) → AreFrames number packets frames →
+pub frames_many : (framing : Framing) (number : ℕ) (packets : List (List ℕ)) (frames : List Frame) →
+    AreFrames framing number packets frames →
     length frames ≡ length packets
-frames_many number [] frames are = ap (λ (fs : List Frame). length fs) are
-frames_many number (packet ∷ packets) frames are =
-    ap (λ (fs : List Frame). length fs) are.4 ∙ ap suc (frames_many (suc number) packets are.1 are.3)
+frames_many framing number [] frames are = ap (λ (fs : List Frame). length fs) are
+frames_many framing number (packet ∷ packets) frames are =
+    ap (λ (fs : List Frame). length fs) are.4 ∙ ap suc (frames_many framing (suc number) packets are.1 are.3)
 
 -- which is no longer than a capture allows
-pub frames_short : (number : ℕ) (packets : List (List ℕ)) (frames : List Frame) → AreFrames number packets frames →
+pub frames_short : (framing : Framing) (number : ℕ) (packets : List (List ℕ)) (frames : List Frame) →
+    AreFrames framing number packets frames →
     All (λ (packet : List ℕ). length packet ≤ 262144) packets → All (λ (frame : Frame). frame.length ≤ 262144) frames
-frames_short number [] frames are short =
+frames_short framing number [] frames are short =
     subst (All (λ (frame : Frame). frame.length ≤ 262144)) (sym are)
     (All-nil (λ (frame : Frame). frame.length ≤ 262144))
-frames_short number (packet ∷ packets) frames are short =
+frames_short framing number (packet ∷ packets) frames are short =
     let one : length packet ≤ 262144 = All-head (λ (p : List ℕ). length p ≤ 262144) packet packets short in
     subst (All (λ (frame : Frame). frame.length ≤ 262144)) (sym are.4)
     (All-cons (λ (frame : Frame). frame.length ≤ 262144) are.0 are.1 (omega (arith, are.2.length_is, one))
-    (frames_short (suc number) packets are.1 are.3
+    (frames_short framing (suc number) packets are.1 are.3
     (All-tail (λ (p : List ℕ). length p ≤ 262144) packet packets short)))
 
 -- there is a share for each seat
@@ -164,27 +169,27 @@ shares_many seats frames shares are =
 
 module _ (counting : Counting) (batches : List Counted) (kept : HasCounted counting batches) (before : ℕ)
     (at : length (adds_on batches) ≡ before) (packets : List (List ℕ)) (few : before + length packets ≤ 4000000)
-    (frames : List Frame) (are : AreFrames (before + 1) packets frames) (logs : List (List Added))
+    (frames : List Frame) (are : AreFrames counting.framing (before + 1) packets frames) (logs : List (List Added))
     (closed : ClosedTotals) (batch : Counted)
     (of : IsOfRun counting.seats counting.totals frames logs closed batch) where
   some : 0 < counting.seats
   some = omega (arith, counting.some)
 
   -- its adds are those of its packets
-  pub batch_make : MakeAdds (before + 1) packets batch.adds
+  pub batch_make : MakeAdds counting.framing (before + 1) packets batch.adds
   batch_make =
-      subst (λ (xs : List Add). MakeAdds (before + 1) packets xs) of.counted.asked
-      (make_of (before + 1) packets frames batch.answers are of.answers)
+      subst (λ (xs : List Add). MakeAdds counting.framing (before + 1) packets xs) of.counted.asked
+      (make_of counting.framing (before + 1) packets frames batch.answers are of.answers)
 
   pub batch_long : length batch.answers ≡ length packets
   batch_long =
       sym (length-map batch.answers (λ (a : Added). a.add)) ∙ ap (λ (xs : List Add). length xs) of.counted.asked
-      ∙ make_length (before + 1) packets batch.adds batch_make
+      ∙ make_length counting.framing (before + 1) packets batch.adds batch_make
 
   ok : AreSettings (settings_of counting.seats batch)
   ok =
       settings_are counting.seats batch some counting.few
-      (omega (arith, few, make_length (before + 1) packets batch.adds batch_make))
+      (omega (arith, few, make_length counting.framing (before + 1) packets batch.adds batch_make))
       (subst AreSmall (sym of.begins) (small_totals counting batches kept (omega (arith, at, few))))
 
   -- the answers of a seat, by the run
@@ -242,7 +247,7 @@ module _ (counting : Counting) (batches : List Counted) (kept : HasCounted count
             let packet : a.add.packet ≡ (before + 1) + i =
             ap (λ (x : Add). x.packet) (sym (get_or-map (λ (x : Added). x.add) batch.answers i d no_add less))
             ∙ ap (λ (xs : List Add). (get_or xs i no_add).packet) of.counted.asked
-            ∙ make_numbers (before + 1) packets batch.adds batch_make i no_add inside in
+            ∙ make_numbers counting.framing (before + 1) packets batch.adds batch_make i no_add inside in
             let place : a.add.packet - 1 ≡ before + i = omega (arith, packet) in
             of.counted.seats_are i d less ∙ ap (λ (n : ℕ). n % counting.seats) place;
         logs_are = of.logs_are;
@@ -303,11 +308,13 @@ module _ (counting : Counting) (batches : List Counted) (kept : HasCounted count
       ∙ sym (fold-append so_far 0 old (map (added_on on) batch.answers))
       ∙ ap most_steps (sym (answers_more counting.seats no_counts batches batch))
 
-  pub then_make : MakeAdds 1 (kept.packets ++ packets) (adds_on (batches ++ batch ∷ []))
+  pub then_make : MakeAdds counting.framing 1 (kept.packets ++ packets) (adds_on (batches ++ batch ∷ []))
   then_make =
-      subst (λ (xs : List Add). MakeAdds 1 (kept.packets ++ packets) xs) (sym (adds_more batches batch))
-      (make_append 1 (before + 1) kept.packets packets (adds_on batches) batch.adds kept.make batch_make
-      (omega (arith, at, make_length 1 kept.packets (adds_on batches) kept.make)))
+      subst (λ (xs : List Add). MakeAdds counting.framing 1 (kept.packets ++ packets) xs)
+      (sym (adds_more batches batch))
+      (make_append counting.framing 1 (before + 1) kept.packets packets (adds_on batches) batch.adds kept.make
+      batch_make
+      (omega (arith, at, make_length counting.framing 1 kept.packets (adds_on batches) kept.make)))
 
   pub then_many : counting.packets ≡ before → (more : ℕ) → more ≡ counting.packets + length packets →
       more ≡ length (kept.packets ++ packets)

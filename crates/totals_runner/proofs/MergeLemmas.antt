@@ -6,12 +6,11 @@ use Rattle.std.proofs.lemmas.Bool.{cases_eq, cond-false, cond-true, eq-eqb, ne_e
 use Rattle.std.proofs.lemmas.List.Elements.{All-cons, All-head, All-nil, All-tail}
 use Rattle.sim_steps.specs.declared.adds.Add.{Add}
 use Rattle.sim_steps.specs.declared.adds.Added.{Added}
+use Rattle.packet_heads.specs.declared.framing.Framing.{Framing}
 use Rattle.packet_adders.specs.declared.frames.Frame.{Frame}
 use Rattle.packet_adders.specs.Classes.{HasClass}
 use Rattle.packet_adders.specs.Frames.{IsFrameOf}
 use Rattle.packet_adders.specs.Work.{IsAddOf, IsAnswerTo}
-use Rattle.packet_adders.proofs.ClassLemmas.{first_bytes_class}
-use Rattle.packet_adders.proofs.FrameLemmas.{frame_bytes}
 use Rattle.totals_runner.specs.Frames.{AreFrames, frames_by}
 use Rattle.totals_runner.specs.PacketAdds.{MakeAdds, MakesAdd, adds_by, seat_for}
 use Rattle.totals_runner.proofs.Named.{seat_below}
@@ -208,28 +207,28 @@ many_adds seats seat (frame ∷ frames) answers zip =
     either false x f xs fs same = same
 
 -- the adds are those that the packets make
-pub makes_add : (number : ℕ) (packet : List ℕ) (frame : Frame) (add : Add) → IsFrameOf number packet frame →
-    IsAddOf frame add → MakesAdd number packet add
-makes_add number packet frame add is of =
+pub makes_add : (framing : Framing) (number : ℕ) (packet : List ℕ) (frame : Frame) (add : Add) →
+    IsFrameOf framing number packet frame →
+    IsAddOf frame add → MakesAdd framing number packet add
+makes_add framing number packet frame add is of =
     record {
       packet_is = of.packet ∙ is.number_is;
-      class_is = (first_bytes_class packet add.class).0
-          (subst (λ (bytes : List ℕ). HasClass bytes add.class) (frame_bytes number packet frame is) of.class);
+      class_is = subst (HasClass framing packet) (sym of.class) is.class_is;
       length_is = of.length ∙ is.length_is;
     }
 
-pub make_of : (number : ℕ) (packets : List (List ℕ)) (frames : List Frame) (answers : List Added) →
-    AreFrames number packets frames → AllZip IsAnswerTo frames answers →
-    MakeAdds number packets (map (λ (a : Added). a.add) answers)
-make_of number [] frames answers are zip =
+pub make_of : (framing : Framing) (number : ℕ) (packets : List (List ℕ)) (frames : List Frame) (answers : List Added) →
+    AreFrames framing number packets frames → AllZip IsAnswerTo frames answers →
+    MakeAdds framing number packets (map (λ (a : Added). a.add) answers)
+make_of framing number [] frames answers are zip =
     ap (map (λ (a : Added). a.add))
     (zip_none IsAnswerTo answers (subst (λ (fs : List Frame). AllZip IsAnswerTo fs answers) are zip))
-make_of number (packet ∷ packets) frames answers are zip =
+make_of framing number (packet ∷ packets) frames answers are zip =
     let z = zip_some IsAnswerTo are.0 are.1 answers
     (subst (λ (fs : List Frame). AllZip IsAnswerTo fs answers) are.4 zip) in (
       z.first.add,
       map (λ (a : Added). a.add) z.others,
-      makes_add number packet are.0 z.first.add are.2 z.one,
-      make_of (suc number) packets are.1 z.others are.3 z.rest,
+      makes_add framing number packet are.0 z.first.add are.2 z.one,
+      make_of framing (suc number) packets are.1 z.others are.3 z.rest,
       ap (map (λ (a : Added). a.add)) z.is,
     )

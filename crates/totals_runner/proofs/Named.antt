@@ -5,6 +5,7 @@ use Rattle.std.proofs.Math.Nat.{mod-lt}
 use Rattle.std.proofs.lemmas.List.{get_or_default}
 use Rattle.std.proofs.lemmas.List.Elements.{All-cons, All-head, All-nil, All-tail}
 use Rattle.std.proofs.lemmas.List.Sorted.{sum_by-IsPermutation}
+use Rattle.packet_heads.specs.declared.framing.Framing.{Framing}
 use Rattle.packet_heads.specs.declared.packet.Protocol.{Protocol}
 use Rattle.packet_heads.specs.declared.packet.Protocol.TheVariants.{Tcp, Udp}
 use Rattle.packet_adders.specs.Classes.{HasClass, class_in}
@@ -21,50 +22,54 @@ class_small : (protocol : Protocol) → class_in protocol < 3
 class_small (Tcp flags payload) = omega arith
 class_small Udp = omega arith
 
-pub has_class_small : (packet : List ℕ) (class : ℕ) → HasClass packet class → class < 3
-has_class_small packet class (inl has) = (let few = class_small has.0.protocol in omega (arith, has.2, few))
-has_class_small packet class (inr none) = omega (arith, none.1)
+pub has_class_small : (framing : Framing) (packet : List ℕ) (class : ℕ) → HasClass framing packet class → class < 3
+has_class_small framing packet class (inl has) = (let few = class_small has.0.protocol in omega (arith, has.2, few))
+has_class_small framing packet class (inr none) = omega (arith, none.1)
 
 -- so the adds of packets of no more bytes than are captured are adds
-pub make_adds : (number : ℕ) (packets : List (List ℕ)) (adds : List Add) →
-    All (λ (packet : List ℕ). length packet ≤ 262144) packets → MakeAdds number packets adds → All IsAdd adds
-make_adds number [] adds short make = subst (All IsAdd) (sym make) (All-nil IsAdd)
-make_adds number (packet ∷ packets) adds short make =
+pub make_adds : (framing : Framing) (number : ℕ) (packets : List (List ℕ)) (adds : List Add) →
+    All (λ (packet : List ℕ). length packet ≤ 262144) packets → MakeAdds framing number packets adds → All IsAdd adds
+make_adds framing number [] adds short make = subst (All IsAdd) (sym make) (All-nil IsAdd)
+make_adds framing number (packet ∷ packets) adds short make =
     let short_one : length packet ≤ 262144 = All-head (λ (p : List ℕ). length p ≤ 262144) packet packets short in
     let rest = All-tail (λ (p : List ℕ). length p ≤ 262144) packet packets short in
     let add : Add = make.0 in
     let one : IsAdd add = (
-      has_class_small packet add.class make.2.class_is,
+      has_class_small framing packet add.class make.2.class_is,
       omega (arith, make.2.length_is, short_one),
     ) in
-    subst (All IsAdd) (sym make.4) (All-cons IsAdd add make.1 one (make_adds (suc number) packets make.1 rest make.3))
+    subst (All IsAdd) (sym make.4)
+    (All-cons IsAdd add make.1 one (make_adds framing (suc number) packets make.1 rest make.3))
 
 -- there is one for each packet
-pub make_length : (number : ℕ) (packets : List (List ℕ)) (adds : List Add) → MakeAdds number packets adds →
+pub make_length : (framing : Framing) (number : ℕ) (packets : List (List ℕ)) (adds : List Add) →
+    MakeAdds framing number packets adds →
     length adds ≡ length packets
-make_length number [] adds make = ap (λ (xs : List Add). length xs) make
-make_length number (packet ∷ packets) adds make =
-    ap (λ (xs : List Add). length xs) make.4 ∙ ap suc (make_length (suc number) packets make.1 make.3)
+make_length framing number [] adds make = ap (λ (xs : List Add). length xs) make
+make_length framing number (packet ∷ packets) adds make =
+    ap (λ (xs : List Add). length xs) make.4 ∙ ap suc (make_length framing (suc number) packets make.1 make.3)
 
 -- and they are numbered on
-pub make_numbers : (number : ℕ) (packets : List (List ℕ)) (adds : List Add) → MakeAdds number packets adds →
+pub make_numbers : (framing : Framing) (number : ℕ) (packets : List (List ℕ)) (adds : List Add) →
+    MakeAdds framing number packets adds →
     (i : ℕ) (d : Add) → i < length adds → (get_or adds i d).packet ≡ number + i
-make_numbers number [] adds make i d less =
+make_numbers framing number [] adds make i d less =
     absurd (let none : length adds ≡ 0 = ap (λ (xs : List Add). length xs) make in omega (arith, none, less))
-make_numbers number (packet ∷ packets) adds make zero d less =
+make_numbers framing number (packet ∷ packets) adds make zero d less =
     ap (λ (xs : List Add). (get_or xs 0 d).packet) make.4 ∙ make.2.packet_is ∙ omega arith
-make_numbers number (packet ∷ packets) adds make (suc i) d less =
+make_numbers framing number (packet ∷ packets) adds make (suc i) d less =
     let all : length adds ≡ suc (length make.1) = ap (λ (xs : List Add). length xs) make.4 in
     ap (λ (xs : List Add). (get_or xs (suc i) d).packet) make.4
-    ∙ make_numbers (suc number) packets make.1 make.3 i d (omega (arith, all, less)) ∙ omega arith
+    ∙ make_numbers framing (suc number) packets make.1 make.3 i d (omega (arith, all, less)) ∙ omega arith
 
 -- the add of a packet's number is that packet's
 abbrev pub IsNamed : List Add → Add → Type 0
 IsNamed all x = add_of all x.packet ≡ x
 
-pub named : (packets : List (List ℕ)) (all : List Add) → MakeAdds 1 packets all → All (IsNamed all) all
-named packets all make i d less =
-    let packet_is : (get_or all i d).packet ≡ 1 + i = make_numbers 1 packets all make i d less in
+pub named : (framing : Framing) (packets : List (List ℕ)) (all : List Add) → MakeAdds framing 1 packets all →
+    All (IsNamed all) all
+named framing packets all make i d less =
+    let packet_is : (get_or all i d).packet ≡ 1 + i = make_numbers framing 1 packets all make i d less in
     let place : (get_or all i d).packet - 1 ≡ i = omega (arith, packet_is) in
     ap (λ (k : ℕ). get_or all k no_add) place ∙ same i less
   where

@@ -33,7 +33,8 @@ listed logs = map (λ (log : Vec Added Global). log.items) logs
 -- as many adds as packets
 pub kept_many : (counting : Counting) (batches : List Counted) (kept : HasCounted counting batches) →
     length (adds_on batches) ≡ counting.packets
-kept_many counting batches kept = make_length 1 kept.packets (adds_on batches) kept.make ∙ sym kept.many
+kept_many counting batches kept = make_length counting.framing 1 kept.packets (adds_on batches) kept.make ∙ sym
+    kept.many
 
 -- a batch that was run, of these frames
 pub record Run (counting : Counting) (frames : List Frame) (logs : List (List Added)) (closed : ClosedTotals) :
@@ -75,7 +76,12 @@ module _ (job : Counting) (t : TableValue) (started : List AddWorker) (dealt : D
   -- no seat adds more than there are
   share_few : (seat : ℕ) → length packets ≤ 4000000 → length (frames_by job.seats seat o.frames) ≤ 4000000
   share_few seat few =
-      omega (arith, few_by job.seats seat o.frames, frames_many (job.packets + 1) packets o.frames o.are, few)
+      omega (
+        arith,
+        few_by job.seats seat o.frames,
+        frames_many job.framing (job.packets + 1) packets o.frames o.are,
+        few,
+      )
 
   pub counts_few : length packets ≤ 4000000 → All (λ (count : ℕ). count ≤ 4000000) dealt.counts.items
   counts_few few =

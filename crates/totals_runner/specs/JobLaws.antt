@@ -5,6 +5,7 @@ use Rattle.sim_steps.specs.Program.{step_bound}
 use Rattle.report_text.specs.declared.adds.TotalsTail.{TotalsTail}
 use Rattle.report_text.specs.declared.parts.Ending.{Ending}
 use Rattle.report_text.specs.Adds.{add_batch_lines, totals_head, totals_report, totals_tail}
+use Rattle.totals_runner.specs.declared.counting.Asked.{Asked}
 use Rattle.totals_runner.specs.declared.counting.Counting.{Counting}
 use Rattle.totals_runner.specs.Counted.{AreCounted}
 use Rattle.totals_runner.specs.Printed.{all_lines, answers_on, most_steps}
@@ -13,9 +14,9 @@ use Rattle.totals_runner.specs.Right.{nothing}
 use Rattle.totals_runner.specs.Told.{AreCountedOf, IsCountedSo, IsTotalsLines, IsTotalsReport}
 
 -- what was counted is right
-counted_of : (job : Counting) (seats : ℕ) (batches : List (List (List ℕ))) (put : List ℕ) →
-    (so : IsCountedSo job seats batches put) → AreCountedOf seats batches so.counted
-counted_of job seats batches put so =
+counted_of : (job : Counting) (asked : Asked) (batches : List (List (List ℕ))) (put : List ℕ) →
+    (so : IsCountedSo job asked batches put) → AreCountedOf asked batches so.counted
+counted_of job asked batches put so =
     record {
       of = so.of;
       counted = subst (λ (n : ℕ). AreCounted n nothing so.counted) so.as_many so.kept.counted;
@@ -23,11 +24,11 @@ counted_of job seats batches put so =
     }
 
 -- the texts of a job are those of its lines, and go on to a report
-pub told_lines : (job : Counting) (seats : ℕ) (batches : List (List (List ℕ))) (put : List ℕ) →
-    IsCountedSo job seats batches put → IsTotalsLines seats batches put
-told_lines job seats batches put so = (
+pub told_lines : (job : Counting) (asked : Asked) (batches : List (List (List ℕ))) (put : List ℕ) →
+    IsCountedSo job asked batches put → IsTotalsLines asked batches put
+told_lines job asked batches put so = (
   so.counted,
-  counted_of job seats batches put so,
+  counted_of job asked batches put so,
   so.text_is,
 )
 
@@ -40,27 +41,27 @@ tail_of job seats ending = record {
   bound = step_bound seats;
 }
 
-pub ends_report : (job : Counting) (seats : ℕ) (batches : List (List (List ℕ))) (put : List ℕ) (ending : Ending) →
-    IsCountedSo job seats batches put →
-    IsTotalsReport seats batches ending (put ++ totals_tail (tail_of job seats ending))
+pub ends_report : (job : Counting) (asked : Asked) (batches : List (List (List ℕ))) (put : List ℕ) (ending : Ending) →
+    IsCountedSo job asked batches put →
+    IsTotalsReport asked batches ending (put ++ totals_tail (tail_of job asked.seats ending))
 unfolding totals_report
-ends_report job seats batches put ending so =
-    let lines : List ℕ = flat_map (add_batch_lines seats) (all_lines seats no_counts so.counted) in
-    let most : job.most ≡ most_steps (answers_on seats no_counts so.counted) =
+ends_report job asked batches put ending so =
+    let lines : List ℕ = flat_map (add_batch_lines asked.seats) (all_lines asked.seats no_counts so.counted) in
+    let most : job.most ≡ most_steps (answers_on asked.seats no_counts so.counted) =
     so.kept.most ∙ ap (λ (n : ℕ). most_steps (answers_on n no_counts so.counted)) so.as_many in (
       so.counted,
-      counted_of job seats batches put so,
-      ap (λ (t : List ℕ). t ++ totals_tail (tail_of job seats ending)) so.text_is
-          ∙ append_assoc (totals_head seats) lines (totals_tail (tail_of job seats ending))
-          ∙ (λ i. totals_head seats ++ (lines ++ totals_tail (record {
+      counted_of job asked batches put so,
+      ap (λ (t : List ℕ). t ++ totals_tail (tail_of job asked.seats ending)) so.text_is
+          ∙ append_assoc (totals_head asked.seats) lines (totals_tail (tail_of job asked.seats ending))
+          ∙ (λ i. totals_head asked.seats ++ (lines ++ totals_tail (record {
             totals = so.kept.totals i;
             ending = ending;
             most = most i;
-            bound = step_bound seats;
+            bound = step_bound asked.seats;
           }))),
     )
 
-pub begins_report : (job : Counting) (seats : ℕ) (batches : List (List (List ℕ))) (put : List ℕ) (ending : Ending) →
-    IsCountedSo job seats batches put → (rest : List ℕ) × IsTotalsReport seats batches ending (put ++ rest)
-begins_report job seats batches put ending so =
-    (totals_tail (tail_of job seats ending), ends_report job seats batches put ending so)
+pub begins_report : (job : Counting) (asked : Asked) (batches : List (List (List ℕ))) (put : List ℕ) (ending : Ending) →
+    IsCountedSo job asked batches put → (rest : List ℕ) × IsTotalsReport asked batches ending (put ++ rest)
+begins_report job asked batches put ending so =
+    (totals_tail (tail_of job asked.seats ending), ends_report job asked batches put ending so)

@@ -16,7 +16,7 @@ pub record IsOpened (counting : Counting) (t : TableValue) (ws : List AddWorker)
     (before : ℕ) (packets : List (List ℕ)) : Type 0 where
   pub at : counting.packets ≡ before
   pub frames : List Frame
-  pub are : AreFrames (counting.packets + 1) packets frames
+  pub are : AreFrames counting.framing (counting.packets + 1) packets frames
   pub short : All (λ packet. length packet ≤ 262144) packets
   pub settings : t.settings ≡ record {
     adds = map (λ seat. length (frames_by counting.seats seat frames)) (range_with_len 0 counting.seats);

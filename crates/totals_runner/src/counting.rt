@@ -2,6 +2,7 @@
 
 ghost use Rattle.std.specs.Prelude.{◌≡◌, ◌+◌, ◌∷◌, ◌++◌, ◌≤◌, ◌<◌, [], ℕ, List, All, IfOk, OnOk, length, slice_index, vec_len};
 ghost use Rattle.batch_history.specs.Batches.{with_counts};
+ghost use Rattle.packet_heads.specs.Links.{way_of};
 
 use crate::batch::{Dealt, counts_of};
 use crate::dealing::deal;
@@ -9,16 +10,28 @@ use crate::frames::Frames;
 use crate::lines::{ids_of, put_adds};
 use crate::seats::{end_table, workers_of};
 use packet_adders::AddWorker;
+use packet_heads::Framing;
 use plain_map::MOST_SEATS;
 use report_text::{Line, order_text};
 use sim_totals::{Totals, TotalsTable};
 use std::alloc::{AllocError, Global};
+
+/// What is asked of a run that counts.
+#[derive(Clone, Copy)]
+pub struct Asked {
+    /// How many seats add packets.
+    pub seats: u32,
+    /// How packets are framed.
+    pub framing: Framing,
+}
 
 /// What the batches so far came to.
 #[derive(Drop)]
 pub struct Counting {
     /// How many seats add packets.
     pub seats: u32,
+    /// How packets are framed.
+    pub framing: Framing,
     /// How many packets were counted.
     pub packets: u32,
     /// How many adds each seat has made.
@@ -43,16 +56,18 @@ impl Counting {
     ghost use Rattle.totals_runner.specs.Printed.{lines_of};
     ghost use Rattle.totals_runner.specs.Told.{HasCounted, HasGone};
 
-    /// Nothing counted yet, of so many seats.
-    pub fn new(seats: u32) -> Counting
-        requires some { 1 ≤ seats }
-        requires few { seats ≤ 8 }
-        ensures seats { result.seats ≡ seats }
+    /// Nothing counted yet, as is asked.
+    pub fn new(asked: &Asked) -> Counting
+        requires some { 1 ≤ asked.now.seats }
+        requires few { asked.now.seats ≤ 8 }
+        ensures seats { result.seats ≡ asked.now.seats }
+        ensures framing { result.framing ≡ asked.now.framing }
         ensures none { HasCounted result [] }
         ensures gone { HasGone result 0 }
     {
         Counting {
-            seats,
+            seats: asked.seats,
+            framing: asked.framing,
             packets: 0,
             before: [0; MOST_SEATS],
             totals: Totals {
@@ -71,6 +86,7 @@ impl Counting {
     ) -> Result<(TotalsTable, Vec<AddWorker>, Dealt), AllocError>
         requires going { (batches : List Counted) × (packets : List (List ℕ)) × HasCounted self.now batches
             × HasFrames frames.now self.now.packets packets × (self.now.packets + length packets ≤ 4000000) }
+        requires way { way_of frames.now.framing ≡ way_of self.now.framing }
         ensures few { IfOk result (λ made. vec_len made.1 ≤ 8) }
         ensures ready { IfOk result (λ made. All (IsReady made.0) made.1.items) }
         ensures opened { IfOk result (λ made. (packets : List (List ℕ)) →
@@ -105,11 +121,12 @@ impl Counting {
         ensures counted { OnOk result ((started : List AWorker) (batches : List Counted) (packets : List (List ℕ)) →
             HasCounted self.old batches → IsOpened self.old table started dealt.now self.old.packets packets →
             AllZip (IsDone table) started workers.items →
-            (batch : Counted) × MakeAdds (self.old.packets + 1) packets batch.adds
+            (batch : Counted) × MakeAdds self.old.framing (self.old.packets + 1) packets batch.adds
             × HasCounted self.new (batches ++ batch ∷ []) × (self.new.packets ≡ self.old.packets + length packets)
             × (text.new.items ≡ text.old.items
             ++ add_batch_lines self.old.seats (lines_of self.old.seats self.old.before batch))) }
         ensures seats { self.new.seats ≡ self.old.seats }
+        ensures framing { self.new.framing ≡ self.old.framing }
     {
         let (logs, closed) = end_table(alloc, table, workers)?;
         let ids = ids_of(alloc, &logs, &closed.order)?;

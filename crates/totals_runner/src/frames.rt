@@ -1,26 +1,32 @@
 //! What is kept of the packets of a batch.
 
-ghost use Rattle.std.specs.Prelude.{[]};
+ghost use Rattle.std.specs.Prelude.{◌≡◌, []};
+ghost use Rattle.packet_heads.specs.Links.{way_of};
 ghost use Rattle.totals_runner.specs.Frames.{HasFrames};
 
 use capture_loop::Pile;
 use packet_adders::Frame;
+use packet_heads::Framing;
 use std::alloc::{AllocError, Global};
 
 /// The frames of the packets of a batch, in their order.
 #[derive(Drop)]
 pub struct Frames {
+    /// How they are framed.
+    pub framing: Framing,
     /// How many packets came before them.
     pub before: u32,
     pub frames: Vec<Frame>,
 }
 
 impl Frames {
-    /// No frames yet.
-    pub fn new(alloc: Global) -> Frames
-        ensures { HasFrames result 0 [] }
+    /// No frames yet, of packets that are framed so.
+    pub fn new(alloc: Global, framing: Framing) -> Frames
+        ensures none { HasFrames result 0 [] }
+        ensures framing { result.framing ≡ framing }
     {
         Frames {
+            framing,
             before: 0,
             frames: Vec::new(alloc),
         }
@@ -30,8 +36,10 @@ impl Frames {
 impl Pile for Frames {
     ghost holds = { HasFrames };
 
+    ghost way = { λ frames. way_of frames.framing };
+
     fn take(&mut self, number: u32, packet: &[u8]) -> Result<(), AllocError> {
-        self.frames.push(Frame::of(number, packet))?;
+        self.frames.push(Frame::of(&self.framing, number, packet))?;
         Ok(())
     }
 

@@ -3,10 +3,11 @@
 ghost use Rattle.std.specs.Prelude.{◌≡◌, ◌≤◌, ◌+◌, ◌∷◌, ◌++◌, [], ℕ, List, length, OnOk};
 ghost use Rattle.std.specs.List.{AllZip};
 ghost use Rattle.packet_adders.specs.Work.{IsDone};
+ghost use Rattle.totals_runner.specs.declared.counting.Asked.{Asked as AnAsked};
 ghost use Rattle.packet_adders.specs.declared.workers.AddWorker.{AddWorker as AWorker};
 
 use crate::batch::Dealt;
-use crate::counting::Counting;
+use crate::counting::{Asked, Counting};
 use crate::frames::Frames;
 use capture_loop::{BATCH, Job, Opened, PACKET_LIMIT};
 use packet_adders::AddWorker;
@@ -15,8 +16,9 @@ use sim_totals::{TotalsTable, step_bound};
 use std::alloc::{AllocError, Global};
 use std::thread::Threads;
 
-/// By the number of its seats.
-impl Job<u32> for Counting {
+/// By what is asked.
+impl Job<Asked> for Counting {
+    ghost use Rattle.packet_heads.specs.Links.{way_of};
     ghost use Rattle.totals_runner.specs.JobLaws.{begins_report, told_lines};
     ghost use Rattle.totals_runner.specs.Opened.{IsOpened};
     ghost use Rattle.totals_runner.specs.Told.{HasGone, IsCountedSo, IsTotalsLines, IsTotalsReport};
@@ -32,6 +34,8 @@ impl Job<u32> for Counting {
     ghost lines = { IsTotalsLines };
 
     ghost report = { IsTotalsReport };
+
+    ghost way = { λ counting. way_of counting.framing };
 
     ghost going = { HasGone };
 
@@ -63,10 +67,11 @@ impl Job<u32> for Counting {
             × IsOpened self.old made.shared started made.kept before packets
             × AllZip (IsDone made.shared) started made.workers.items × (length packets ≤ BATCH)
             × (before + length packets ≤ PACKET_LIMIT) }
+        ensures way { OnOk result (way_of self.new.framing ≡ way_of self.old.framing) }
         ensures going { OnOk result ((started : List AWorker) (before : ℕ) (packets : List (List ℕ)) →
             HasGone self.old before → IsOpened self.old made.shared started made.kept before packets →
             AllZip (IsDone made.shared) started made.workers.items → HasGone self.new (before + length packets)) }
-        ensures served { OnOk result ((plan : ℕ) (batches : List (List (List ℕ))) (put : List ℕ)
+        ensures served { OnOk result ((plan : AnAsked) (batches : List (List (List ℕ))) (put : List ℕ)
             (started : List AWorker) (before : ℕ) (packets : List (List ℕ)) → IsCountedSo self.old plan batches put →
             HasGone self.old before → IsOpened self.old made.shared started made.kept before packets →
             AllZip (IsDone made.shared) started made.workers.items →

@@ -12,7 +12,7 @@ mod running;
 mod seats;
 
 pub use batch::Dealt;
-pub use counting::Counting;
+pub use counting::{Asked, Counting};
 pub use frames::Frames;
 pub use laws::counted_laws;
 pub use running::count_input;

@@ -1,3 +1,4 @@
 pub mod Judged
+pub mod Beyond
 pub mod Made
 pub mod Totalled

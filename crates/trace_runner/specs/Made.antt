@@ -14,5 +14,5 @@ LeavesMade plan before after status.WriteFault = AppendsFront before after (made
 LeavesMade plan before after status.Memory = Keeps before after
 LeavesMade plan before after status.Usage = ⊥
 LeavesMade plan before after status.ReadFault = ⊥
-LeavesMade plan before after status.BadCapture = ⊥
+LeavesMade plan before after (status.BadCapture fault) = ⊥
 LeavesMade plan before after status.Limit = ⊥

@@ -4,13 +4,20 @@ use Rattle.report_text.specs.declared.parts.Ending.{Ending}
 use Rattle.capture_loop.specs.declared.stop.Stop.{Stop}
 use Rattle.capture_loop.specs.Leaves.{LoopLeavesAll}
 use Rattle.command_line.specs.declared.plan.Plan.{Plan}
+use Rattle.packet_heads.specs.Links.{number_in}
+use Rattle.totals_runner.specs.declared.counting.Asked.{Asked}
 use Rattle.totals_runner.specs.Told.{IsTotalsLines, IsTotalsReport}
 use Rattle.mode_parts.specs.declared.status.Status.{Status}
 use Rattle.mode_parts.specs.Statuses.{status_by}
+
+-- what is asked of a run that counts
+abbrev pub asked_of : Plan → Asked
+asked_of plan = record { seats = plan.seats; framing = plan.framing }
 
 -- The run ended so, by its input or before, and what is put is the report of the packets that were counted then, by as
 -- many seats as the plan says, or a part of it.
 abbrev pub LeavesTotals : Plan → Type 0 → (first left before after : Option (List ℕ)) → Status → Type 0
 LeavesTotals plan read_failed first left before after answer =
     (end : Result Ending Stop) × (answer ≡ status_by end)
-    × LoopLeavesAll (IsTotalsLines plan.seats) (IsTotalsReport plan.seats) read_failed first left before after end
+    × LoopLeavesAll (IsTotalsLines (asked_of plan)) (IsTotalsReport (asked_of plan)) read_failed
+    (number_in plan.framing.link) first left before after end

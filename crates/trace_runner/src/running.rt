@@ -9,7 +9,11 @@ ghost use Rattle.command_line.specs.declared.plan.Mode.TheVariants.{Check, Make,
 ghost use Rattle.command_line.specs.Words.{IsInRange, reads};
 ghost use Rattle.serve_modes.specs.Headline.{LeavesAll, LeavesTried};
 ghost use Rattle.trace_runner.specs.Made.{LeavesMade};
-ghost use Rattle.mode_parts.specs.Statuses.{ReadsFailed, WritesFailed, status_for, status_up_to};
+ghost use Rattle.packet_heads.specs.Heads.{plain_framing};
+ghost use Rattle.packet_heads.specs.Links.{number_in};
+ghost use Rattle.mode_parts.specs.Statuses.{MarksFor, ReadsFailed, WritesFailed, status_for, status_up_to};
+ghost use Rattle.capture_loop.specs.Input.{StopsAt, packet_limit};
+ghost use Rattle.trace_runner.specs.Beyond.{ReadsNoPackets};
 ghost use Rattle.trace_runner.specs.Judged.{LeavesVerdict, status_of_text};
 ghost use Rattle.play_mode.specs.Playing.{LeavesPlayed, play_limit};
 ghost use Rattle.trace_runner.specs.Totalled.{LeavesTotals};
@@ -35,7 +39,8 @@ use std::thread::Threads;
 /// by step, by one schedule, and puts the report at once. `make` puts a made capture, and `trial` serves it and puts
 /// how many calls had each reply. `totals` goes through a capture as `serve` does, and counts its packets by adders in
 /// threads. `check` reads a report, and puts the line of its verdict. The gate is passed before each call that is
-/// served and each add, and told of each answer.
+/// served and each add, and told of each answer. Where a capture has more packets than a mode takes, `beyond` is where
+/// the first of these starts, in bytes from the input's first.
 pub fn run<R: Threads + Sync, S: Source, K: Sink, G: Gate + Sync>(
     rt: &R,
     alloc: Global,
@@ -43,6 +48,7 @@ pub fn run<R: Threads + Sync, S: Source, K: Sink, G: Gate + Sync>(
     source: &mut S,
     sink: &mut K,
     gate: &G,
+    beyond: &mut Option<u64>,
 ) -> Status
     // `serve`: what is put is the report of the input's packets, in one order of all calls with
     // the plain map's replies. So it is for the bytes that the source tells, and for those of them that were taken,
@@ -54,7 +60,7 @@ pub fn run<R: Threads + Sync, S: Source, K: Sink, G: Gate + Sync>(
     // Where nothing fails, the input that the bytes are decides which answer it is, want of memory apart.
     ensures exact { (plan : APlan) (bytes : List ℕ) (packets : List (List ℕ)) (ending : Result ℕ AnyFault) →
         reads (map string_bytes words.now) ≡ Some plan → plan.mode ≡ Serve →
-        S.left source.old ≡ Some bytes → Input bytes packets ending →
+        S.left source.old ≡ Some bytes → Input (number_in plan.framing.link) bytes packets ending →
         ¬ Rose (S.faults source.old) (S.faults source.new) →
         ¬ Rose (K.faults sink.old) (K.faults sink.new) →
         (result ≡ status_for packets ending) ⊎ (result ≡ Status.Memory) }
@@ -67,10 +73,23 @@ pub fn run<R: Threads + Sync, S: Source, K: Sink, G: Gate + Sync>(
     // Where nothing fails, here too the input decides.
     ensures exact_play { (plan : APlan) (bytes : List ℕ) (packets : List (List ℕ)) (ending : Result ℕ AnyFault) →
         reads (map string_bytes words.now) ≡ Some plan → plan.mode ≡ Play →
-        S.left source.old ≡ Some bytes → Input bytes packets ending →
+        S.left source.old ≡ Some bytes → Input (number_in plan.framing.link) bytes packets ending →
         ¬ Rose (S.faults source.old) (S.faults source.new) →
         ¬ Rose (K.faults sink.old) (K.faults sink.new) →
         (result ≡ status_up_to play_limit packets ending) ⊎ (result ≡ Status.Memory) }
+
+    // Where the first packet starts that is not served: it is told exactly if there are more than are taken.
+    ensures beyond { (plan : APlan) → reads (map string_bytes words.now) ≡ Some plan → plan.mode ≡ Serve →
+        MarksFor result beyond.old beyond.new
+        (StopsAt (number_in plan.framing.link) packet_limit (S.left source.old) (S.left source.new)) }
+    ensures beyond_play { (plan : APlan) → reads (map string_bytes words.now) ≡ Some plan → plan.mode ≡ Play →
+        MarksFor result beyond.old beyond.new
+        (StopsAt (number_in plan.framing.link) play_limit (S.left source.old) (S.left source.new)) }
+    ensures beyond_totals { (plan : APlan) → reads (map string_bytes words.now) ≡ Some plan → plan.mode ≡ Totals →
+        MarksFor result beyond.old beyond.new
+        (StopsAt (number_in plan.framing.link) packet_limit (S.left source.old) (S.left source.new)) }
+    ensures beyond_none { (plan : APlan) → reads (map string_bytes words.now) ≡ Some plan →
+        ReadsNoPackets plan.mode → beyond.new ≡ beyond.old }
 
     // `make`: what is put is the made capture, and nothing is read.
     ensures made { (plan : APlan) → reads (map string_bytes words.now) ≡ Some plan → plan.mode ≡ Make →
@@ -89,7 +108,7 @@ pub fn run<R: Threads + Sync, S: Source, K: Sink, G: Gate + Sync>(
     // Where nothing fails, here too the input decides.
     ensures exact_totals { (plan : APlan) (bytes : List ℕ) (packets : List (List ℕ)) (ending : Result ℕ AnyFault) →
         reads (map string_bytes words.now) ≡ Some plan → plan.mode ≡ Totals →
-        S.left source.old ≡ Some bytes → Input bytes packets ending →
+        S.left source.old ≡ Some bytes → Input (number_in plan.framing.link) bytes packets ending →
         ¬ Rose (S.faults source.old) (S.faults source.new) →
         ¬ Rose (K.faults sink.old) (K.faults sink.new) →
         (result ≡ status_for packets ending) ⊎ (result ≡ Status.Memory) }
@@ -111,6 +130,7 @@ pub fn run<R: Threads + Sync, S: Source, K: Sink, G: Gate + Sync>(
     ensures refused { reads (map string_bytes words.now) ≡ None → (result ≡ Status.Usage) ⊎ (result ≡ Status.Memory) }
     ensures unread { reads (map string_bytes words.now) ≡ None → source.new ≡ source.old }
     ensures unwritten { reads (map string_bytes words.now) ≡ None → sink.new ≡ sink.old }
+    ensures unmarked { reads (map string_bytes words.now) ≡ None → beyond.new ≡ beyond.old }
 
     // A device failed. Each read and each write that failed ends the run and is answered, want of memory apart, and a
     // write goes before a read.
@@ -122,7 +142,7 @@ pub fn run<R: Threads + Sync, S: Source, K: Sink, G: Gate + Sync>(
 {
     one_input();
     match read_words(alloc, words) {
-        Ok(plan) => run_plan(&Means { rt, alloc, gate }, &plan, source, sink),
+        Ok(plan) => run_plan(&Means { rt, alloc, gate }, &plan, source, sink, beyond),
         Err(WordsFault::Usage) => Status::Usage,
         Err(WordsFault::Memory) => Status::Memory,
     }
@@ -134,6 +154,7 @@ fn run_plan<R: Threads + Sync, S: Source, K: Sink, G: Gate + Sync>(
     plan: &Plan,
     source: &mut S,
     sink: &mut K,
+    beyond: &mut Option<u64>,
 ) -> Status
     requires { IsInRange plan.now }
     ensures headline { plan.now.mode ≡ Serve →
@@ -144,13 +165,20 @@ fn run_plan<R: Threads + Sync, S: Source, K: Sink, G: Gate + Sync>(
         (S.left source.new) (K.put sink.old) (K.put sink.new) result }
     ensures made { plan.now.mode ≡ Make →
         LeavesMade plan.now (K.put sink.old) (K.put sink.new) result × (source.new ≡ source.old) }
-    ensures tried { plan.now.mode ≡ Trial → plan.now.rows ≡ None →
+    ensures tried { plan.now.mode ≡ Trial → plan.now.rows ≡ None → plan.now.framing ≡ plain_framing →
         LeavesTried plan.now (K.put sink.old) (K.put sink.new) result × (source.new ≡ source.old) }
     ensures totals { plan.now.mode ≡ Totals →
         LeavesTotals plan.now (Rose (S.faults source.old) (S.faults source.new)) (S.left source.old)
         (S.left source.new) (K.put sink.old) (K.put sink.new) result }
     ensures checked { plan.now.mode ≡ Check →
         LeavesVerdict (S.left source.old) (S.left source.new) (K.put sink.old) (K.put sink.new) result }
+    ensures beyond { plan.now.mode ≡ Serve → MarksFor result beyond.old beyond.new
+        (StopsAt (number_in plan.now.framing.link) packet_limit (S.left source.old) (S.left source.new)) }
+    ensures beyond_play { plan.now.mode ≡ Play → MarksFor result beyond.old beyond.new
+        (StopsAt (number_in plan.now.framing.link) play_limit (S.left source.old) (S.left source.new)) }
+    ensures beyond_totals { plan.now.mode ≡ Totals → MarksFor result beyond.old beyond.new
+        (StopsAt (number_in plan.now.framing.link) packet_limit (S.left source.old) (S.left source.new)) }
+    ensures beyond_none { ReadsNoPackets plan.now.mode → beyond.new ≡ beyond.old }
     ensures no_usage { result ≡ Status.Usage → ⊥ }
     ensures read_fault { result ≡ Status.ReadFault → Rose (S.faults source.old) (S.faults source.new) }
     ensures write_fault { result ≡ Status.WriteFault → Rose (K.faults sink.old) (K.faults sink.new) }
@@ -159,11 +187,11 @@ fn run_plan<R: Threads + Sync, S: Source, K: Sink, G: Gate + Sync>(
     ensures counted { (S.faults source.old ≤ S.faults source.new) × (K.faults sink.old ≤ K.faults sink.new) }
 {
     match plan.mode {
-        Mode::Serve => serve(means, plan, source, sink),
-        Mode::Play => play(means.alloc, plan, source, sink),
+        Mode::Serve => serve(means, plan, source, sink, beyond),
+        Mode::Play => play(means.alloc, plan, source, sink, beyond),
         Mode::Make => make(means.alloc, plan, sink),
         Mode::Trial => try_plan(means, plan, sink),
         Mode::Check => check(means.alloc, source, sink),
-        Mode::Totals => count(means, plan, source, sink),
+        Mode::Totals => count(means, plan, source, sink, beyond),
     }
 }

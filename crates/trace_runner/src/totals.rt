@@ -3,7 +3,9 @@
 ghost use Rattle.std.specs.Prelude.{◌≡◌, ◌≤◌};
 ghost use Rattle.edge_traits.specs.Edge.{Rose};
 ghost use Rattle.command_line.specs.Words.{IsInRange};
-ghost use Rattle.mode_parts.specs.Statuses.{ReadsFailed, WritesFailed};
+ghost use Rattle.mode_parts.specs.Statuses.{MarksFor, ReadsFailed, WritesFailed};
+ghost use Rattle.capture_loop.specs.Input.{StopsAt, packet_limit};
+ghost use Rattle.packet_heads.specs.Links.{number_in};
 ghost use Rattle.trace_runner.specs.Totalled.{LeavesTotals};
 
 use capture_loop::{Means, Stop};
@@ -11,7 +13,7 @@ use command_line::Plan;
 use edge_traits::{Gate, Sink, Source};
 use mode_parts::Status;
 use std::thread::Threads;
-use totals_runner::count_input;
+use totals_runner::{Asked, count_input};
 
 /// Counts the source's packets by as many adders as the plan has seats, and puts the report into the sink.
 pub(crate) fn count<R: Threads + Sync, S: Source, K: Sink, G: Gate + Sync>(
@@ -19,6 +21,7 @@ pub(crate) fn count<R: Threads + Sync, S: Source, K: Sink, G: Gate + Sync>(
     plan: &Plan,
     source: &mut S,
     sink: &mut K,
+    beyond: &mut Option<u64>,
 ) -> Status
     requires { IsInRange plan.now }
     ensures leaves { LeavesTotals plan.now (Rose (S.faults source.old) (S.faults source.new)) (S.left source.old)
@@ -28,9 +31,15 @@ pub(crate) fn count<R: Threads + Sync, S: Source, K: Sink, G: Gate + Sync>(
     ensures reads { ReadsFailed result (S.failed source.old) (S.failed source.new) }
     ensures writes { WritesFailed result (K.failed sink.old) (K.failed sink.new) }
     ensures no_usage { result ≡ Status.Usage → ⊥ }
+    ensures beyond { MarksFor result beyond.old beyond.new
+        (StopsAt (number_in plan.now.framing.link) packet_limit (S.left source.old) (S.left source.new)) }
     ensures counted { (S.faults source.old ≤ S.faults source.new) × (K.faults sink.old ≤ K.faults sink.new) }
 {
-    match count_input(means, plan.seats, source, sink) {
+    let asked = Asked {
+        seats: plan.seats,
+        framing: plan.framing,
+    };
+    match count_input(means, &asked, source, sink, beyond) {
         Ok(ending) => Status::of_ending(&ending),
         Err(Stop::Memory) => Status::Memory,
         Err(Stop::NotPut) => Status::WriteFault,

@@ -28,7 +28,7 @@ pub fn command_line_laws()
         ≡ (if is_unsigned_in 1 16 t
         then Some (record default_plan { items = decimal t }) else None) }
     ensures any_line { (mode : Mode) (g : Given) (lists : Lists) → reads (line mode g lists)
-        ≡ (if list_all (λ b. b) (tests g) then asked mode g lists else None) }
+        ≡ (if list_all (λ b. b) (tests g lists) then asked mode g lists else None) }
     ensures round_trip { (p : Plan) → IsAskable p → reads (line_of p) ≡ Some (as_used p p.mode) }
     ensures unused { (words : List Text) (p : Plan) → reads words ≡ Some p → as_used p p.mode ≡ p }
     ensures no_words { faults [] ≡ ErrorKind.MissingRequiredArgument ∷ [] }

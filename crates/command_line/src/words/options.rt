@@ -63,10 +63,26 @@ pub const PACKETS: NumberOption<'static> = NumberOption {
     default: 1_000,
 };
 
+/// How many tags may stand before a protocol. Its number is used only where it is given.
+pub const TAGS: NumberOption<'static> = NumberOption {
+    name: "tags",
+    least: 0,
+    most: 4,
+    default: 0,
+};
+
+/// How many extension heads of IPv6 are looked through.
+pub const EXTENSIONS: NumberOption<'static> = NumberOption {
+    name: "extensions",
+    least: 0,
+    most: 8,
+    default: 0,
+};
+
 /// The options with a number.
-pub static NUMBERS: [NumberOption<'static>; 7] = [
-    SEATS, ITEMS, DEPTH, START, SEED, NUMBER, PACKETS,
+pub static NUMBERS: [NumberOption<'static>; 9] = [
+    SEATS, ITEMS, DEPTH, START, SEED, NUMBER, PACKETS, TAGS, EXTENSIONS,
 ];
 
 /// The options with a text.
-pub static TEXTS: [&str; 5] = ["hash", "share", "rows", "schedule", "stop"];
+pub static TEXTS: [&str; 6] = ["hash", "share", "rows", "schedule", "stop", "link"];

@@ -13,14 +13,18 @@ ghost use Rattle.command_line.specs.Words.{asked_rows, asked_schedule, asked_sto
 ghost use Rattle.command_line.specs.Words.{hashing_of, makes_capture, mode_of, number_if, number_in};
 ghost use Rattle.command_line.specs.Words.{plan_of, plan_with, rows_for, schedule_for, seats_in, share_in};
 ghost use Rattle.command_line.specs.Words.{share_of, start_in, stops_in, text_in, IsInRange};
+ghost use Rattle.command_line.specs.Words.{framing_in, link_in, link_of, reads_capture, tags_in};
 
 use crate::plan::{Mode, Plan};
 use crate::plays::{Schedule, Stops};
-use crate::words::options::{DEPTH, ITEMS, NUMBER, NumberOption, PACKETS, SEATS, SEED, START};
+use crate::words::options::{
+    DEPTH, EXTENSIONS, ITEMS, NUMBER, NumberOption, PACKETS, SEATS, SEED, START, TAGS,
+};
 use crate::words::plays::{schedule_of, stops_of};
 use crate::words::texts::rows_of;
 use clap::ArgMatches;
 use hash_bits::Hashing;
+use packet_heads::{Framing, Link};
 use std::alloc::{AllocError, Global};
 use step_counts::SeatRows;
 use trace_share::Share;
@@ -99,6 +103,16 @@ fn makes_capture(mode: Mode) -> bool
     match mode {
         Mode::Serve | Mode::Play | Mode::Totals | Mode::Check => false,
         Mode::Make | Mode::Trial => true,
+    }
+}
+
+/// The mode uses the options on how packets are framed.
+fn reads_capture(mode: Mode) -> bool
+    ensures { result ≡ reads_capture mode }
+{
+    match mode {
+        Mode::Serve | Mode::Play | Mode::Totals => true,
+        Mode::Make | Mode::Trial | Mode::Check => false,
     }
 }
 
@@ -181,6 +195,73 @@ fn share_in(mode: Mode, matches: &ArgMatches<'_>) -> Option<Share>
         Mode::Make | Mode::Totals | Mode::Check => Some(Share::Round),
         Mode::Trial => Some(Share::Flow),
     }
+}
+
+/// The link type of a number, as it stands.
+fn link_of(text: &str) -> Option<Link>
+    ensures { result ≡ link_of text.now }
+{
+    if text == "0" {
+        Some(Link::Null)
+    } else if text == "1" {
+        Some(Link::Ethernet)
+    } else if text == "9" {
+        Some(Link::Ppp)
+    } else if text == "12" {
+        Some(Link::Raw12)
+    } else if text == "14" {
+        Some(Link::Raw14)
+    } else if text == "101" {
+        Some(Link::Raw)
+    } else if text == "108" {
+        Some(Link::Loop)
+    } else if text == "113" {
+        Some(Link::LinuxSll)
+    } else if text == "228" {
+        Some(Link::Ipv4)
+    } else if text == "229" {
+        Some(Link::Ipv6)
+    } else if text == "276" {
+        Some(Link::LinuxSll2)
+    } else {
+        None
+    }
+}
+
+fn link_in(mode: Mode, matches: &ArgMatches<'_>) -> Option<Link>
+    ensures { result ≡ link_in mode (first_value (found_of matches.now)) }
+{
+    match mode {
+        Mode::Serve | Mode::Play | Mode::Totals => link_of(text(matches, "link", "1")),
+        Mode::Make | Mode::Trial | Mode::Check => Some(Link::Ethernet),
+    }
+}
+
+/// How many tags may stand before a protocol, where it is given.
+fn tags_in(mode: Mode, matches: &ArgMatches<'_>) -> Option<u8>
+    requires { AllByRecursion (Passes (found_of matches.now)) numbers }
+    ensures { result ≡ tags_in mode (first_value (found_of matches.now)) }
+{
+    if !reads_capture(mode) {
+        return None;
+    }
+    match matches.get_str("tags") {
+        Some(_) => Some(number(matches, &TAGS) as u8),
+        None => None,
+    }
+}
+
+/// How the packets of a capture are framed.
+fn framing_in(mode: Mode, matches: &ArgMatches<'_>) -> Option<Framing>
+    requires { AllByRecursion (Passes (found_of matches.now)) numbers }
+    ensures { result ≡ framing_in mode (first_value (found_of matches.now)) }
+{
+    let link = link_in(mode, matches)?;
+    Some(Framing {
+        link,
+        tags: tags_in(mode, matches),
+        extensions: number_if(reads_capture(mode), matches, &EXTENSIONS) as u8,
+    })
 }
 
 /// The rows of a text, automatic where there is no text.
@@ -318,6 +399,7 @@ fn plan_with(
     let start = start_in(mode, matches)?;
     let hashing = hashing_in(mode, matches)?;
     let share = share_in(mode, matches)?;
+    let framing = framing_in(mode, matches)?;
     let table = has_table(mode);
     let makes = makes_capture(mode);
     Some(Plan {
@@ -333,6 +415,7 @@ fn plan_with(
         stops,
         number: number_if(makes, matches, &NUMBER),
         packets: number_if(makes, matches, &PACKETS) as u32,
+        framing,
     })
 }
 

@@ -48,7 +48,15 @@ fn gate_sees_each_call_and_its_answer(rt: HostRuntime) -> Result<(), Fail> {
     let mut source = MemorySource::new(rt.alloc(), &file, 1000, &[])?;
     let mut sink = MemorySink::new(rt.alloc(), 2000, &[])?;
     let words = words_of(rt.alloc(), "serve --seats 1")?;
-    let status = run(&rt, rt.alloc(), &words, &mut source, &mut sink, &witness);
+    let status = run(
+        &rt,
+        rt.alloc(),
+        &words,
+        &mut source,
+        &mut sink,
+        &witness,
+        &mut None,
+    );
     assert!(rt; status == Status::Done);
     assert_eq!(rt; witness.seats.load(Ordering::SeqCst), 0);
     let digits = witness.digits.load(Ordering::SeqCst);
@@ -120,7 +128,15 @@ fn callers_pass_as_their_seats(rt: HostRuntime) -> Result<(), Fail> {
     let mut source = MemorySource::new(rt.alloc(), &file, 1000, &[])?;
     let mut sink = MemorySink::new(rt.alloc(), 4000, &[])?;
     let words = words_of(rt.alloc(), "serve --seats 8 --share round")?;
-    let status = run(&rt, rt.alloc(), &words, &mut source, &mut sink, &counter);
+    let status = run(
+        &rt,
+        rt.alloc(),
+        &words,
+        &mut source,
+        &mut sink,
+        &counter,
+        &mut None,
+    );
     assert!(rt; status == Status::Done);
     assert_eq!(rt; digits_of(&counter.passed), 22_221_111);
     assert_eq!(rt; digits_of(&counter.told), 22_221_111);
@@ -198,7 +214,15 @@ fn two_callers_meet(rt: HostRuntime) -> Result<(), Fail> {
         let mut source = MemorySource::new(rt.alloc(), &file, 1000, &[])?;
         let mut sink = MemorySink::new(rt.alloc(), 2000, &[])?;
         let words = words_of(rt.alloc(), line)?;
-        let status = run(&rt, rt.alloc(), &words, &mut source, &mut sink, &meeting);
+        let status = run(
+            &rt,
+            rt.alloc(),
+            &words,
+            &mut source,
+            &mut sink,
+            &meeting,
+            &mut None,
+        );
         assert!(rt; status == Status::Done, "{line}");
         assert_eq!(rt; meeting.first.saw.load(Ordering::SeqCst), batches, "{line}");
         assert_eq!(rt;
@@ -301,7 +325,15 @@ fn follow<R: Threads + Abort + Sync>(
     let mut source = MemorySource::new(alloc, &file, 1000, &[])?;
     let mut sink = MemorySink::new(alloc, 2000, &[])?;
     let words = words_of(alloc, line)?;
-    let status = run(rt, alloc, &words, &mut source, &mut sink, &follower);
+    let status = run(
+        rt,
+        alloc,
+        &words,
+        &mut source,
+        &mut sink,
+        &follower,
+        &mut None,
+    );
     assert!(rt; status == Status::Done, "{line}");
     assert_eq!(rt; follower.missed.load(Ordering::SeqCst), 0, "{line}");
     assert_eq!(rt; follower.digits.load(Ordering::SeqCst), digits, "{line}");
@@ -388,7 +420,15 @@ fn adders_follow_gate(rt: HostRuntime) -> Result<(), Fail> {
     let mut source = MemorySource::new(rt.alloc(), &file, 1000, &[])?;
     let mut sink = MemorySink::new(rt.alloc(), 2000, &[])?;
     let words = words_of(rt.alloc(), "totals --seats 2")?;
-    let status = run(&rt, rt.alloc(), &words, &mut source, &mut sink, &follower);
+    let status = run(
+        &rt,
+        rt.alloc(),
+        &words,
+        &mut source,
+        &mut sink,
+        &follower,
+        &mut None,
+    );
     assert!(rt; status == Status::Done);
     assert_eq!(rt; follower.missed.load(Ordering::SeqCst), 0);
     assert_eq!(rt; follower.digits.load(Ordering::SeqCst), 1234);

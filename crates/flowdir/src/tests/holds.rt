@@ -34,7 +34,7 @@ fn take_held(reader: &mut AnyReader) -> bool
 /// Whether an input's first packet comes by one read, and a second and a third without another.
 fn held_in(alloc: Global, input: &[u8]) -> Result<[bool; 3], AllocError> {
     let mut source = MemorySource::new(alloc, input, 100_000, &[2])?;
-    let Ok(mut reader) = AnyReader::open(alloc, &mut source) else {
+    let Ok(mut reader) = AnyReader::open(alloc, 1, &mut source) else {
         return Ok([false; 3]);
     };
     let first = reader.next(&mut source) == Ok(Item::Packet);

@@ -1,9 +1,10 @@
 -- The loop's facts say how far the input was read; the lemmas say what one packet more, or an ending, makes of it.
 use Rattle.std.proofs.Common.{◌≡◌, ◌+◌, ◌++◌, ◌∷◌, [], ℕ, List, length, refl, sym, ap, subst, ◌∙◌, append_assoc, append-nil, length-append, arith}
 use Rattle.std.proofs.lemmas.List.{length_push}
+use Rattle.capture_loop.specs.Input.{StopsAt}
 use Rattle.capture_loop.specs.Reading.{HaveCome}
 use Rattle.capture_loop.proofs.PacketLemmas.{packet_short}
-use Rattle.capture_loop.proofs.ReadingLemmas.{HaveCome-more, HaveEnded-ended}
+use Rattle.capture_loop.proofs.ReadingLemmas.{HaveCome-more, HaveEnded-ended, OnLimit-none}
 use Rattle.capture_loop.proofs.intake.read_rest.Goals as goal
 
 pub loop-packets-init : goal.loop-packets-init
@@ -11,14 +12,16 @@ loop-packets-init g c = record {
   going = c.requires.going;
   given = c.requires.given;
   from = omega arith;
+  way = refl;
   counted = omega arith;
   failed = refl;
   read = λ old holds count. (
     [],
     subst (λ (ps : List (List ℕ)). g.P.Pile.holds c.args.pile.now c.args.before ps) (sym (append-nil old)) holds,
     ap length (append-nil old) ∙ count,
-    λ first all many come.
-        subst (λ (ps : List (List ℕ)). HaveCome first (g.S.Source.left c.args.source.now) c.args.reader.now (all ++ ps))
+    λ link first all many come.
+        subst (λ (ps : List (List ℕ)). HaveCome link first (g.S.Source.left c.args.source.now) c.args.reader.now (all
+        ++ ps))
         (sym (append-nil old)) come,
   );
 }
@@ -29,10 +32,10 @@ returns-in-Some-clause-read g c = λ old holds count.
       r.0,
       r.1,
       r.2,
-      λ first all many come.
-          HaveEnded-ended c.args.limit first (g.S.Source.left c.loop-packets.source)
+      λ link first all many come.
+          HaveEnded-ended c.args.limit link first (g.S.Source.left c.loop-packets.source)
           (g.S.Source.left c.read_on.new.source) c.loop-packets.reader c.read_on.new.reader (all ++ (old ++ r.0))
-          c.in-Some.ending (r.3 first all many come)
+          c.in-Some.ending (r.3 link first all many come)
           (omega (arith, length-append all (old ++ r.0), many, r.2)) c.in-Some.ensures.ended,
     )
 
@@ -63,23 +66,24 @@ loop-packets-preserved g c =
       going = given.goes_on;
       given = given.given ∙ ap (λ n. n + 1) inv.given ∙ next;
       from = omega (arith, inv.from);
+      way = c.take.ensures.way ∙ inv.way;
       counted = omega (arith, inv.counted, c.read_on.ensures.counted);
       failed = c.in_default.ensures.failed ∙ inv.failed;
       read = λ old holds count.
           let r = inv.read old holds count in
-          let taken = c.in_ok-take.ensures c.args.before (old ++ r.0) r.1 (omega (arith, r.2)) in
+          let taken = c.in_ok-take.ensures.holds c.args.before (old ++ r.0) r.1 (omega (arith, r.2)) in
           let parts : (old ++ r.0) ++ packet ∷ [] ≡ old ++ (r.0 ++ packet ∷ []) =
           append_assoc old r.0 (packet ∷ []) in (
             r.0 ++ packet ∷ [],
             subst (λ (ps : List (List ℕ)). g.P.Pile.holds c.take.new.self c.args.before ps) parts taken,
             ap length (sym parts) ∙ length_push (old ++ r.0) packet ∙ ap (λ n. n + 1) r.2,
-            λ first all many come.
-                subst (λ (ps : List (List ℕ)). HaveCome first (g.S.Source.left c.read_on.new.source)
+            λ link first all many come.
+                subst (λ (ps : List (List ℕ)). HaveCome link first (g.S.Source.left c.read_on.new.source)
                 c.read_on.new.reader ps)
                 (ap (λ (p : List ℕ). (all ++ (old ++ r.0)) ++ p ∷ []) (sym c.packet.ensures)
                 ∙ append_assoc all (old ++ r.0) (packet ∷ []) ∙ ap (λ (ps : List (List ℕ)). all ++ ps) parts)
-                (HaveCome-more first (g.S.Source.left c.loop-packets.source) (g.S.Source.left c.read_on.new.source)
-                c.loop-packets.reader c.read_on.new.reader (all ++ (old ++ r.0)) (r.3 first all many come)
+                (HaveCome-more link first (g.S.Source.left c.loop-packets.source) (g.S.Source.left c.read_on.new.source)
+                c.loop-packets.reader c.read_on.new.reader (all ++ (old ++ r.0)) (r.3 link first all many come)
                 c.in_default.ensures.packet),
           );
     }
@@ -95,7 +99,20 @@ returns-clause-read g c = λ old holds count.
       r.0,
       r.1,
       omega (arith, r.2),
-      λ first all many come.
-          c.read_past.ensures.ended first (all ++ (old ++ r.0)) (r.3 first all many come)
+      λ link first all many come.
+          c.read_past.ensures.ended link first (all ++ (old ++ r.0)) (r.3 link first all many come)
           (omega (arith, length-append all (old ++ r.0), many, r.2)),
     )
+
+pub returns-in-Some-clause-beyond : goal.returns-in-Some-clause-beyond
+returns-in-Some-clause-beyond g c = λ old holds count link first all many come.
+    OnLimit-none c.loop-packets.reader c.read_on.new.reader (g.S.Source.left c.loop-packets.source)
+    (g.S.Source.left c.read_on.new.source) c.in-Some.ending
+    (StopsAt link c.args.limit first (g.S.Source.left c.read_on.new.source) c.read_on.new.reader.start)
+    c.in-Some.ensures.ended
+
+pub returns-clause-beyond : goal.returns-clause-beyond
+returns-clause-beyond g c = λ old holds count link first all many come.
+    let r = c.loop-packets.invariant.read old holds count in
+    c.read_past.ensures.beyond link first (all ++ (old ++ r.0)) (r.3 link first all many come)
+    (omega (arith, length-append all (old ++ r.0), many, r.2))

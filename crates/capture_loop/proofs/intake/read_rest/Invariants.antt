@@ -10,11 +10,12 @@ invariant-loop-packets g l =
       going : l.reader.ended ≡ false;
       given : l.reader.given ≡ l.before + l.packets;
       from : l.taken ≤ l.packets;
+      way : g.P.Pile.way l.pile ≡ g.P.Pile.way l.fn.pile;
       counted : g.S.Source.faults l.fn.source ≤ g.S.Source.faults l.source;
       failed : g.S.Source.failed l.source ≡ g.S.Source.failed l.fn.source;
       read : (old : List (List ℕ)) → g.P.Pile.holds l.fn.pile l.before old → length old ≡ l.taken →
           (more : List (List ℕ)) × g.P.Pile.holds l.pile l.before (old ++ more) × (length (old ++ more) ≡ l.packets)
-          × ((first : Option (List ℕ)) (all : List (List ℕ)) → length all ≡ l.before →
-          HaveCome first (left l.fn.source) l.fn.reader (all ++ old) →
-          HaveCome first (left l.source) l.reader (all ++ (old ++ more)));
+          × ((link : ℕ) (first : Option (List ℕ)) (all : List (List ℕ)) → length all ≡ l.before →
+          HaveCome link first (left l.fn.source) l.fn.reader (all ++ old) →
+          HaveCome link first (left l.source) l.reader (all ++ (old ++ more)));
     }

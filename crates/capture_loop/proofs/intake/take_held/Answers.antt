@@ -13,16 +13,17 @@ pub loop-packets-init : goal.loop-packets-init
 loop-packets-init g c = record {
   going = c.requires.going;
   given = omega (arith, c.requires.given);
+  way = refl;
   taken = (
     [],
     c.requires.none,
     refl,
-    λ first now all come. subst (HaveCome first now c.args.reader.now) (sym (append-nil all)) come,
+    λ link first now all come. subst (HaveCome link first now c.args.reader.now) (sym (append-nil all)) come,
   );
 }
 
-pub returns-then-not-next_held : goal.returns-then-not-next_held
-returns-then-not-next_held g c =
+pub returns-then-not-next_held-clause-taken : goal.returns-then-not-next_held-clause-taken
+returns-then-not-next_held-clause-taken g c =
     let inv = c.loop-packets.invariant in
     let t = inv.taken in (
       t.0,
@@ -60,25 +61,26 @@ loop-packets-preserved g c =
     record {
       going = given.goes_on;
       given = given.given ∙ ap (λ n. n + 1) inv.given ∙ next;
+      way = c.take.ensures.way ∙ inv.way;
       taken = (
         t.0 ++ packet ∷ [],
-        c.in_ok-take.ensures c.args.before t.0 t.1 (omega (arith, t.2)),
+        c.in_ok-take.ensures.holds c.args.before t.0 t.1 (omega (arith, t.2)),
         length_push t.0 packet ∙ ap (λ n. n + 1) t.2,
-        λ first now all come.
-            subst (HaveCome first now c.next_held.new.self)
+        λ link first now all come.
+            subst (HaveCome link first now c.next_held.new.self)
             (ap (λ (p : List ℕ). (all ++ t.0) ++ p ∷ []) (sym c.packet.ensures)
             ∙ append_assoc all t.0 (packet ∷ []))
-            (HaveCome-more first now now c.loop-packets.reader c.next_held.new.self (all ++ t.0)
-            (t.3 first now all come) ([], Consumes-nil now, given)),
+            (HaveCome-more link first now now c.loop-packets.reader c.next_held.new.self (all ++ t.0)
+            (t.3 link first now all come) ([], Consumes-nil now, given)),
       );
     }
 
-pub returns : goal.returns
-returns g c =
+pub returns-clause-taken : goal.returns-clause-taken
+returns-clause-taken g c =
     let inv = c.loop-packets.invariant in
     let t = inv.taken in (
       t.0,
-      c.in_ok-prepare.ensures c.args.before t.0 t.1,
+      c.in_ok-prepare.ensures.holds c.args.before t.0 t.1,
       omega (arith, t.2),
       record {
         come = t.3;

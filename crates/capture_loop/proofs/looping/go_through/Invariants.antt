@@ -15,17 +15,20 @@ invariant-batches g l =
       few : l.packets < 4000000;
       going : g.J.Job.going l.job l.packets;
       piled : (held : List (List ℕ)) × g.J.Pile.Pile.holds l.piles.now l.packets held × (length held ≡ l.ahead);
+      ways : (g.J.Pile.Pile.way l.piles.now ≡ g.J.Job.way l.job)
+          × (g.J.Pile.Pile.way l.piles.next ≡ g.J.Job.way l.job);
+      kept : l.piles.beyond ≡ l.fn.piles.beyond;
       counted_reads : g.S.Source.faults l.fn.source ≤ g.S.Source.faults l.source;
       counted_writes : g.K.Sink.faults l.fn.sink ≤ g.K.Sink.faults l.sink;
       reads_failed : g.S.Source.failed l.source ≡ g.S.Source.failed l.fn.source;
       writes_failed : g.K.Sink.failed l.sink ≡ g.K.Sink.failed l.fn.sink;
-      stands : (plan : g.row.P.Denot) (first before : Option (List ℕ)) →
+      stands : (plan : g.row.P.Denot) (link : ℕ) (first before : Option (List ℕ)) →
           g.J.Job.done l.fn.job plan [] l.fn.text.items →
           HasPut before (put l.fn.sink) l.fn.text.items l.fn.text.items →
-          HaveCome first (left l.fn.source) l.fn.reader [] →
-          (all held : List (List ℕ)) × Stands (g.J.Job.done l.job plan) first l.packets all before (put l.sink)
+          HaveCome link first (left l.fn.source) l.fn.reader [] →
+          (all held : List (List ℕ)) × Stands (g.J.Job.done l.job plan) link first l.packets all before (put l.sink)
           l.text.items × g.J.Pile.Pile.holds l.piles.now l.packets held × (length held ≡ l.ahead)
-          × HaveCome first (left l.source) l.reader (all ++ held);
+          × HaveCome link first (left l.source) l.reader (all ++ held);
     }
 
 abbrev pub decreases-batches : goal.decreases-batches

@@ -1,9 +1,15 @@
 -- The report was put whole, or in part, or nothing was put.
-use Rattle.std.proofs.Common.{subst, sym}
+use Rattle.std.proofs.Common.{Ok, refl, subst, sym}
 use Rattle.std.specs.Io.KnownBytes.{Appends}
 use Rattle.edge_traits.specs.Edge.{AppendsFront, Rose}
-use Rattle.play_mode.specs.Playing.{LeavesPlayed}
+use Rattle.packet_heads.specs.Links.{number_in}
+use Rattle.capture_loop.specs.Input.{StopsAt}
+use Rattle.mode_parts.specs.declared.status.Status.{Status}
+use Rattle.mode_parts.specs.Statuses.{MarksFor}
+use Rattle.play_mode.specs.Playing.{LeavesPlayed, play_limit}
 use Rattle.capture_loop.proofs.LeavesLemmas.{Keeps-same}
+use Rattle.capture_loop.proofs.LoopLemmas.{Marks-at}
+use Rattle.mode_parts.proofs.ExactLemmas.{MarksFor-end}
 use Rattle.play_mode.proofs.PlayLemmas.{LeavesPlayed-front, LeavesPlayed-nothing, LeavesPlayed-whole}
 use Rattle.play_mode.proofs.playing.play.Goals as goal
 
@@ -38,3 +44,15 @@ returns-in-Ok-report_of-clause-leaves g c =
     c.in-Ok.input.ending c.in-Ok.ensures.ended c.in-Ok-report_of.text.items c.in-Ok-report_of.ensures
     c.in-Ok.ensures.read_fault
     (subst (AppendsFront before after) c.deref.ensures.value c.in-Err-write_all.ensures.prefix)
+
+pub returns-in-Ok-write_all-clause-beyond : goal.returns-in-Ok-write_all-clause-beyond
+returns-in-Ok-write_all-clause-beyond g c =
+    let ending = c.in-Ok.input.ending in
+    let start = c.in-Ok.input.start in
+    let old = c.args.beyond.now in
+    let new = c.mark.new.beyond in
+    let stops = StopsAt (number_in c.args.plan.now.framing.link) play_limit (g.S.Source.left c.args.source.now)
+    (g.S.Source.left c.read_input.new.source) in
+    subst (λ (status : Status). MarksFor status old new stops) (sym c.of_ending.ensures)
+    (MarksFor-end (Ok ending) old new stops
+    (Marks-at (Ok ending) old old new start start stops refl refl c.mark.ensures c.in-Ok.ensures.start))

@@ -1,10 +1,15 @@
 -- The head line is held, and nothing was put.
-use Rattle.std.proofs.Common.{◌++◌, ◌<◌, ◌^◌, ap, subst, ◌∙◌}
+use Rattle.std.proofs.Common.{ℕ, ◌++◌, ◌<◌, ◌^◌, ap, refl, subst, ◌∙◌}
 use Rattle.report_text.specs.declared.parts.Head.{Head}
 use Rattle.report_told.specs.Rules.{seed_in}
 use Rattle.report_text.specs.Report.{head_line}
 use Rattle.edge_traits.specs.Edge.{Rose}
 use Rattle.capture_loop.proofs.LeavesLemmas.{Keeps-same}
+use Rattle.packet_heads.specs.Links.{number_in}
+use Rattle.capture_loop.specs.Input.{StopsAt, packet_limit}
+use Rattle.capture_loop.specs.Leaves.{LoopLeavesAll, Marks}
+use Rattle.mode_parts.proofs.ExactLemmas.{MarksFor-end}
+use Rattle.serve_modes.specs.Serving.{IsLines, IsWholeReport}
 use Rattle.serve_modes.proofs.HeadlineLemmas.{leaves_all, leaves_none}
 use Rattle.serve_modes.proofs.serving.serve_input.Goals as goal
 
@@ -16,10 +21,15 @@ returns-clause-leaves g c =
     (g.K.Sink.put c.run_job-answer.new.sink) c.promise_laws.ensures
     (subst (λ (head : Head). seed_in head.hashing < 2 ^ 64) c.head_of-head.ensures c.head_fits.ensures.seed)
     c.run_job-answer.result c.answer_fits.ensures
+    (subst (λ (link : ℕ). LoopLeavesAll (IsLines c.args.plan.now) (IsWholeReport c.args.plan.now)
+    (Rose (g.S.Source.faults c.args.source.now) (g.S.Source.faults c.run_job-answer.new.source)) link
+    (g.S.Source.left c.args.source.now) (g.S.Source.left c.run_job-answer.new.source) (g.K.Sink.put c.args.sink.now)
+    (g.K.Sink.put c.run_job-answer.new.sink) c.run_job-answer.result) c.number.ensures
     (c.run_job-answer.ensures.leaves c.args.plan.now
-    (c.in_ok-serving.ensures.done c.args.plan.now c.head_text.new.out.items c.service_of-service.ensures.asks
+    (c.in_ok-serving.ensures.done c.args.plan.now c.head_text.new.out.items c.service_of-service.ensures.asks refl
     (c.in_ok-head_text.ensures.appended
-    ∙ ap (λ t. t ++ head_line c.head_of-head.result) c.in_ok-text.ensures.items ∙ ap head_line c.head_of-head.ensures)))
+    ∙ ap (λ t. t ++ head_line c.head_of-head.result) c.in_ok-text.ensures.items ∙ ap head_line
+    c.head_of-head.ensures))))
 
 pub returns-in_err-text-clause-leaves : goal.returns-in_err-text-clause-leaves
 returns-in_err-text-clause-leaves g c =
@@ -55,3 +65,17 @@ returns-in_err-serving-clause-leaves g c =
     (g.S.Source.left c.args.source.now) (g.S.Source.left c.args.source.now) (g.K.Sink.put c.args.sink.now)
     (g.K.Sink.put c.args.sink.now) c.from_residual-in_err-serving.result c.from_residual-in_err-serving.ensures
     (Keeps-same (g.K.Sink.put c.args.sink.now))
+
+pub returns-clause-beyond : goal.returns-clause-beyond
+returns-clause-beyond g c =
+    let first = g.S.Source.left c.args.source.now in
+    let left = g.S.Source.left c.run_job-answer.new.source in
+    let marks = c.run_job-answer.ensures.beyond c.args.plan.now
+    (c.in_ok-serving.ensures.done c.args.plan.now c.head_text.new.out.items c.service_of-service.ensures.asks refl
+    (c.in_ok-head_text.ensures.appended
+    ∙ ap (λ t. t ++ head_line c.head_of-head.result) c.in_ok-text.ensures.items ∙ ap head_line
+    c.head_of-head.ensures)) in
+    MarksFor-end c.run_job-answer.result c.args.beyond.now c.run_job-answer.new.piles.beyond
+    (StopsAt (number_in c.args.plan.now.framing.link) packet_limit first left)
+    (subst (λ (link : ℕ). Marks c.run_job-answer.result c.args.beyond.now c.run_job-answer.new.piles.beyond
+    (StopsAt link packet_limit first left)) c.number.ensures marks)

@@ -1,8 +1,9 @@
 -- One frame more is dealt to its seat.
-use Rattle.std.proofs.Common.{◌≡◌, ◌%◌, ◌<◌, ℕ, List, [], Vec, Global, length, map, take, sym, ap, ◌∙◌, arith}
+use Rattle.std.proofs.Common.{◌≡◌, ◌%◌, ◌<◌, ℕ, List, Vec, Global, length, map, take, sym, ap, ◌∙◌, arith}
 use Rattle.std.proofs.Math.Nat.{mod-lt}
 use Rattle.std.proofs.lemmas.List.{get_or_default, length-map}
 use Rattle.std.proofs.lemmas.List.FromFn.{length-map-range_with_len}
+use Rattle.packet_adders.specs.declared.classes.Class.TheVariants.{Passed}
 use Rattle.packet_adders.specs.declared.frames.Frame.{Frame}
 use Rattle.totals_runner.specs.Frames.{frames_by, shares_in}
 use Rattle.totals_runner.proofs.FrameLemmas.{deal_more, pushed, shares_none}
@@ -41,7 +42,7 @@ loop-frame-preserved c =
     let below : seat < seats = mod-lt c.saturating_sub.result some in
     let inside : seat < length lists =
     omega (arith, below, many seats (take c.loop-frame.frame-index frames) lists c.loop-frame.invariant) in
-    let none : Frame = record { packet = 0; length = 0; first = [] } in
+    let none : Frame = record { packet = 0; length = 0; class = Passed } in
     deal_more seats frames c.loop-frame.frame-index _ none seat (map (λ (share : Vec Frame Global). share.items) lists)
     _ c.loop-frame-test.true (get_or_default frames c.loop-frame.frame-index none _ c.loop-frame-test.true)
     (ap (λ (n : ℕ). n % seats) c.saturating_sub.ensures) below c.loop-frame.invariant

@@ -1,8 +1,14 @@
 use Rattle.std.proofs.Common.{◌≡◌, Some, None, ap, sym, subst, ◌∙◌}
 use Rattle.command_line.specs.declared.plan.Plan.{Plan}
+use Rattle.packet_heads.specs.Links.{number_in}
+use Rattle.packet_heads.specs.Heads.{plain_framing}
+use Rattle.pcapng_reader.specs.Input.{Input}
+use Rattle.capture_loop.specs.Input.{StopsAt, packet_limit}
+use Rattle.mode_parts.specs.Statuses.{MarksFor}
+use Rattle.trace_runner.specs.Beyond.{ReadsNoPackets}
 use Rattle.serve_modes.specs.Headline.{LeavesAll, LeavesTried}
 use Rattle.trace_runner.specs.Made.{LeavesMade}
-use Rattle.play_mode.specs.Playing.{LeavesPlayed}
+use Rattle.play_mode.specs.Playing.{LeavesPlayed, play_limit}
 use Rattle.trace_runner.specs.Totalled.{LeavesTotals}
 use Rattle.edge_traits.specs.Edge.{Rose}
 use Rattle.capture_loop.proofs.LeavesLemmas.{Keeps-same}
@@ -30,7 +36,9 @@ returns-in-Ok-clause-headline g c = λ plan asked serves.
 pub returns-in-Ok-clause-exact : goal.returns-in-Ok-clause-exact
 returns-in-Ok-clause-exact g c = λ plan bytes packets ending asked serves told capture no_read no_write.
     let same : c.in-Ok.plan ≡ plan = same_plan (sym c.in-Ok.ensures.answers ∙ asked) in
-    Leaves-exact c.in-Ok.plan _ bytes _ _ _ c.run_plan.result packets ending (c.one_input.ensures bytes) capture
+    Leaves-exact c.in-Ok.plan _ bytes _ _ _ c.run_plan.result packets ending
+    (c.one_input.ensures (number_in c.in-Ok.plan.framing.link) bytes)
+    (subst (λ (p : Plan). Input (number_in p.framing.link) bytes packets ending) (sym same) capture)
     (λ is. no_read (c.run_plan.ensures.read_fault is)) (λ is. no_write (c.run_plan.ensures.write_fault is))
     ((c.run_plan.ensures.headline (ap (λ (p : Plan). p.mode) same ∙ serves)).told bytes told)
 
@@ -46,7 +54,9 @@ returns-in-Ok-clause-played g c = λ plan asked plays.
 pub returns-in-Ok-clause-exact_play : goal.returns-in-Ok-clause-exact_play
 returns-in-Ok-clause-exact_play g c = λ plan bytes packets ending asked plays told capture no_read no_write.
     let same : c.in-Ok.plan ≡ plan = same_plan (sym c.in-Ok.ensures.answers ∙ asked) in
-    LeavesPlay-exact c.in-Ok.plan _ bytes _ _ _ c.run_plan.result packets ending (c.one_input.ensures bytes) capture
+    LeavesPlay-exact c.in-Ok.plan _ bytes _ _ _ c.run_plan.result packets ending
+    (c.one_input.ensures (number_in c.in-Ok.plan.framing.link) bytes)
+    (subst (λ (p : Plan). Input (number_in p.framing.link) bytes packets ending) (sym same) capture)
     (λ is. no_read (c.run_plan.ensures.read_fault is)) (λ is. no_write (c.run_plan.ensures.write_fault is))
     ((c.run_plan.ensures.played (ap (λ (p : Plan). p.mode) same ∙ plays)).told bytes told)
 
@@ -74,8 +84,10 @@ returns-in-Err-Memory-clause-headline g c = λ plan asked serves.
 pub returns-in-Ok-clause-tried : goal.returns-in-Ok-clause-tried
 returns-in-Ok-clause-tried g c = λ plan asked tries.
     let same : c.in-Ok.plan ≡ plan = same_plan (sym c.in-Ok.ensures.answers ∙ asked) in
-    let none : c.in-Ok.plan.rows ≡ None = ap (λ (p : Plan). p.rows) same ∙ no_rows _ plan asked tries in
-    let tried = c.run_plan.ensures.tried (ap (λ (p : Plan). p.mode) same ∙ tries) none in (
+    let has = no_rows _ plan asked tries in
+    let none : c.in-Ok.plan.rows ≡ None = ap (λ (p : Plan). p.rows) same ∙ has.0 in
+    let plain : c.in-Ok.plan.framing ≡ plain_framing = ap (λ (p : Plan). p.framing) same ∙ has.1 in
+    let tried = c.run_plan.ensures.tried (ap (λ (p : Plan). p.mode) same ∙ tries) none plain in (
       subst (λ (p : Plan). LeavesTried p (g.K.Sink.put c.args.sink.now) (g.K.Sink.put c.run_plan.new.sink)
           c.run_plan.result) same tried.0,
       tried.1,
@@ -94,7 +106,9 @@ pub returns-in-Ok-clause-exact_totals : goal.returns-in-Ok-clause-exact_totals
 returns-in-Ok-clause-exact_totals g c = λ plan bytes packets ending asked counts told capture no_read no_write.
     let same : c.in-Ok.plan ≡ plan = same_plan (sym c.in-Ok.ensures.answers ∙ asked) in
     let left = c.run_plan.ensures.totals (ap (λ (p : Plan). p.mode) same ∙ counts) in
-    totals_exact _ _ _ bytes _ _ _ left.0 c.run_plan.result packets ending left.1 (c.one_input.ensures bytes) capture
+    totals_exact (number_in c.in-Ok.plan.framing.link) _ _ _ bytes _ _ _ left.0 c.run_plan.result packets ending left.1
+    (c.one_input.ensures (number_in c.in-Ok.plan.framing.link) bytes)
+    (subst (λ (p : Plan). Input (number_in p.framing.link) bytes packets ending) (sym same) capture)
     (λ is. no_read (c.run_plan.ensures.read_fault is)) (λ is. no_write (c.run_plan.ensures.write_fault is))
     (left.2.told bytes told)
 
@@ -120,3 +134,32 @@ pub returns-in-Err-Memory-clause-checked : goal.returns-in-Err-Memory-clause-che
 returns-in-Err-Memory-clause-checked g c = λ plan asked checks.
     check_nothing (g.S.Source.left c.args.source.now) (g.K.Sink.put c.args.sink.now) (g.K.Sink.put c.args.sink.now)
     (Keeps-same (g.K.Sink.put c.args.sink.now))
+
+pub returns-in-Ok-clause-beyond : goal.returns-in-Ok-clause-beyond
+returns-in-Ok-clause-beyond g c = λ plan asked serves.
+    let same : c.in-Ok.plan ≡ plan = same_plan (sym c.in-Ok.ensures.answers ∙ asked) in
+    subst (λ (p : Plan). MarksFor c.run_plan.result c.args.beyond.now c.run_plan.new.beyond
+    (StopsAt (number_in p.framing.link) packet_limit (g.S.Source.left c.args.source.now)
+    (g.S.Source.left c.run_plan.new.source))) same
+    (c.run_plan.ensures.beyond (ap (λ (p : Plan). p.mode) same ∙ serves))
+
+pub returns-in-Ok-clause-beyond_play : goal.returns-in-Ok-clause-beyond_play
+returns-in-Ok-clause-beyond_play g c = λ plan asked plays.
+    let same : c.in-Ok.plan ≡ plan = same_plan (sym c.in-Ok.ensures.answers ∙ asked) in
+    subst (λ (p : Plan). MarksFor c.run_plan.result c.args.beyond.now c.run_plan.new.beyond
+    (StopsAt (number_in p.framing.link) play_limit (g.S.Source.left c.args.source.now)
+    (g.S.Source.left c.run_plan.new.source))) same
+    (c.run_plan.ensures.beyond_play (ap (λ (p : Plan). p.mode) same ∙ plays))
+
+pub returns-in-Ok-clause-beyond_totals : goal.returns-in-Ok-clause-beyond_totals
+returns-in-Ok-clause-beyond_totals g c = λ plan asked counts.
+    let same : c.in-Ok.plan ≡ plan = same_plan (sym c.in-Ok.ensures.answers ∙ asked) in
+    subst (λ (p : Plan). MarksFor c.run_plan.result c.args.beyond.now c.run_plan.new.beyond
+    (StopsAt (number_in p.framing.link) packet_limit (g.S.Source.left c.args.source.now)
+    (g.S.Source.left c.run_plan.new.source))) same
+    (c.run_plan.ensures.beyond_totals (ap (λ (p : Plan). p.mode) same ∙ counts))
+
+pub returns-in-Ok-clause-beyond_none : goal.returns-in-Ok-clause-beyond_none
+returns-in-Ok-clause-beyond_none g c = λ plan asked none.
+    let same : c.in-Ok.plan ≡ plan = same_plan (sym c.in-Ok.ensures.answers ∙ asked) in
+    c.run_plan.ensures.beyond_none (subst (λ (p : Plan). ReadsNoPackets p.mode) (sym same) none)

@@ -34,6 +34,7 @@ returns-in-Packet-clause-answers g c =
       pending = w.window.unread;
       packet = w.window.last;
       offset = w.offset;
+      start = w.start;
       given = w.given;
       ended = w.ended;
     } in
@@ -65,6 +66,7 @@ returns-in-Fault-clause-answers g c =
       pending = w.window.unread;
       packet = w.window.last;
       offset = w.offset;
+      start = w.start;
       given = w.given;
       ended = w.ended;
     } in
@@ -94,6 +96,7 @@ returns-then-rest-eq0-clause-answers g c =
       pending = w.window.unread;
       packet = w.window.last;
       offset = w.offset;
+      start = w.start;
       given = w.given;
       ended = w.ended;
     } in
@@ -125,6 +128,7 @@ returns-else-rest-eq0-clause-answers g c =
       pending = w.window.unread;
       packet = w.window.last;
       offset = w.offset;
+      start = w.start;
       given = w.given;
       ended = w.ended;
     } in
@@ -157,6 +161,7 @@ returns-in-Err-clause-answers g c =
       pending = w.window.unread;
       packet = w.window.last;
       offset = w.offset;
+      start = w.start;
       given = w.given;
       ended = w.ended;
     } in

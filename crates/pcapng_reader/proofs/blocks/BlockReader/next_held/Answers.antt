@@ -18,6 +18,7 @@ returns-in-Packet-clause-packet c = λ _.
       pending = bytes;
       packet = w.window.last;
       offset = w.offset;
+      start = w.start;
       given = w.given;
       ended = w.ended;
     } in

@@ -43,7 +43,7 @@ returns-clause-served g c = λ plan batches put started before packets done goin
     let served = c.in_ok-batch.ensures.served in
     done_more plan c.args.self.now _ batches put before packets c.args.made.shared started c.args.made.kept served.0
     c.args.text.now.items c.close_printed.new.out.items done going.count opened (served.2 ∙ c.deref-2.ensures.value)
-    refl refl
+    refl refl refl
     (c.keep.ensures.served done.served served.0 done.has (served.1 ∙ c.deref.ensures.value)
     (served.2 ∙ c.deref-2.ensures.value ∙ sym c.deref-3.ensures.value) served.3 served.4)
     served.5

@@ -9,7 +9,7 @@ returns-clause-none c =
     let plan = c.args.plan.now in
     record {
       lines = head_line (head_of false plan);
-      done = c.in_ok-serving.ensures.done plan (head_line (head_of false plan)) c.requires.asks refl;
+      done = c.in_ok-serving.ensures.done plan (head_line (head_of false plan)) c.requires.asks refl refl;
       number = refl;
       packets = refl;
       none = refl;

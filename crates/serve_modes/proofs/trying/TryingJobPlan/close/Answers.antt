@@ -35,6 +35,7 @@ returns-clause-served g c = λ plan batches put started before packets tried goi
     let job : Serving = c.args.self.now.serving in
     let after : Serving = record {
       service = job.service;
+      framing = job.framing;
       workspace = c.close_counted.new.workspace;
       progress = c.keep.new.self;
       packets = job.packets + c.args.made.kept;
@@ -45,7 +46,7 @@ returns-clause-served g c = λ plan batches put started before packets tried goi
     let lines : List ℕ = batch_lines job.service.settings.seats (lines_of job.service job.progress.before served.0) in
     let more =
     done_more plan job after batches tried.lines before packets c.args.made.shared started c.args.made.kept served.0 []
-    lines done going.count opened (served.2 ∙ c.deref-2.ensures.value) refl refl
+    lines done going.count opened (served.2 ∙ c.deref-2.ensures.value) refl refl refl
     (c.keep.ensures.served done.served served.0 done.has (served.1 ∙ c.deref.ensures.value)
     (served.2 ∙ c.deref-2.ensures.value ∙ sym c.deref-3.ensures.value) served.3 served.4)
     refl in (

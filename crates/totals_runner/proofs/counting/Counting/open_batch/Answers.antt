@@ -7,9 +7,11 @@ use Rattle.std.proofs.lemmas.List.Elements.{All-weaker}
 use Rattle.sim_steps.specs.declared.adds.Totals.{Totals}
 use Rattle.sim_steps.specs.Layout.{AreSettings, Settings}
 use Rattle.sim_totals.specs.Values.{TableValue}
+use Rattle.packet_heads.specs.declared.framing.Framing.{Framing}
+use Rattle.packet_heads.proofs.WayLemmas.{same_way}
 use Rattle.packet_adders.specs.declared.frames.Frame.{Frame}
 use Rattle.totals_runner.specs.declared.frames.Frames.{Frames}
-use Rattle.totals_runner.specs.Frames.{HasFrames, frames_by, shares_in}
+use Rattle.totals_runner.specs.Frames.{AreFrames, HasFrames, frames_by, shares_in}
 use Rattle.totals_runner.specs.Seats.{AreFresh, HaveRoom}
 use Rattle.totals_runner.proofs.BatchLemmas.{counts_are, frame_settings, shares_few, shares_short}
 use Rattle.totals_runner.proofs.KeptLemmas.{frames_many, frames_short, shares_many, small_totals}
@@ -30,7 +32,7 @@ short_shares : (seats before : ℕ) (kept : Frames) (packets : List (List ℕ)) 
     All (λ (share : Vec Frame Global). vec_len share ≤ 4000000) shares
 short_shares seats before kept packets shares are has few =
     shares_few seats kept.frames.items shares are
-    (omega (arith, frames_many (before + 1) packets kept.frames.items has.are, few))
+    (omega (arith, frames_many kept.framing (before + 1) packets kept.frames.items has.are, few))
 
 pub counts_of-requires : goal.counts_of-requires
 counts_of-requires c =
@@ -56,7 +58,11 @@ open-requires c =
     (c.deref-3.ensures.value ∙ c.in_ok-counts.ensures
     ∙ ap (map (λ (share : Vec Frame Global). vec_len share)) c.deref-2.ensures.value
     ∙ counts_are c.args.self.now.seats frames shares.items are)
-    (omega (arith, frames_many (c.args.self.now.packets + 1) going.1 frames going.3.are, going.4))
+    (omega (
+      arith,
+      frames_many c.args.frames.now.framing (c.args.self.now.packets + 1) going.1 frames going.3.are,
+      going.4,
+    ))
     (small_totals c.args.self.now going.0 going.2
     (omega (arith, kept_many c.args.self.now going.0 going.2, going.4)))
 
@@ -67,7 +73,8 @@ overflow_cast-dealt c =
       arith,
       c.len.ensures,
       c.args.frames.now.frames.ok.0,
-      frames_many (c.args.self.now.packets + 1) going.1 c.args.frames.now.frames.items going.3.are,
+      frames_many c.args.frames.now.framing (c.args.self.now.packets + 1) going.1 c.args.frames.now.frames.items
+          going.3.are,
       going.4,
     )
 
@@ -122,7 +129,7 @@ returns-clause-ready c =
     All-weaker (λ (share : Vec Frame Global). vec_len share ≤ 4000000)
     (λ (share : Vec Frame Global). vec_len share < 2 ^ 32) (λ share less. omega (arith, less)) shares.items few in
     let short = shares_short seats frames shares.items are
-    (frames_short (c.args.self.now.packets + 1) going.1 frames going.3.are going.3.short) in
+    (frames_short c.args.frames.now.framing (c.args.self.now.packets + 1) going.1 frames going.3.are going.3.short) in
     let rooms = rooms_of c.deref-3.result.now c.args.self.now.totals c.in_ok-table.table.settings shares.items
     c.deref-2.result.now c.in_ok-table.ensures.settings (c.deref-3.ensures.value ∙ c.in_ok-counts.ensures)
     c.deref-2.ensures.value in
@@ -146,7 +153,7 @@ returns-clause-opened c = λ packets has.
     ≡ map (λ (seat : ℕ). length (frames_by seats seat frames)) (range_with_len 0 seats) =
     c.in_ok-counts.ensures ∙ ap (map (λ (share : Vec Frame Global). vec_len share)) c.deref-2.ensures.value
     ∙ counts_are seats frames shares.items are in
-    let many = frames_many (c.args.self.now.packets + 1) going.1 frames going.3.are in
+    let many = frames_many c.args.frames.now.framing (c.args.self.now.packets + 1) going.1 frames going.3.are in
     let ok : AreSettings t.settings =
     subst AreSettings (sym c.in_ok-table.ensures.settings)
     (frame_settings seats frames c.deref-3.result.now first c.args.self.now.some c.args.self.now.few
@@ -156,7 +163,8 @@ returns-clause-opened c = λ packets has.
     record {
       at = refl;
       frames = frames;
-      are = has.are;
+      are = subst (λ (f : Framing). AreFrames f (c.args.self.now.packets + 1) packets frames)
+          (same_way c.args.frames.now.framing c.args.self.now.framing c.requires.way) has.are;
       short = has.short;
       settings = opened_with seats frames c.deref-3.result.now first t.settings c.in_ok-table.ensures.settings
           (c.deref-3.ensures.value ∙ counts);
@@ -167,5 +175,5 @@ returns-clause-opened c = λ packets has.
       counts = counts;
       behind = has.behind;
       many = c.len.ensures ∙ c.args.frames.now.frames.ok.0
-          ∙ frames_many (c.args.self.now.packets + 1) packets frames has.are;
+          ∙ frames_many c.args.frames.now.framing (c.args.self.now.packets + 1) packets frames has.are;
     }
