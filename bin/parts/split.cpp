@@ -1,4 +1,5 @@
-// Splits captures by flow: `split FOLDER TASK PARTS TABLE HOW CAPTURE..`, or counts them: `split --count CAPTURE..`.
+// Splits captures by flow: `split LINK FOLDER TASK PARTS TABLE HOW CAPTURE..`, or counts them: `split LINK --count
+// CAPTURE..`. LINK is the number of the link type that is read, one of those of `flowdir serve --link`.
 //
 // A packet's class is a symmetric hash of its two addresses, so both ways of a flow have one class, and so have all
 // fragments of a datagram. TABLE has a byte for each class, its part; `-` stands for class modulo PARTS. A packet without
@@ -8,12 +9,13 @@
 // own    one capture is given. Each part is a capture of its own, in the format of that one, and part 0 has its ending:
 //        what is wrong or cut in the one is so in part 0, `shift` bytes earlier.
 // joined the captures are one input, one behind the other. Each part is records of a savefile, little-endian and without
-//        its head. A packet of an interface that is not Ethernet becomes one without bytes, which is passed as well.
+//        its head. A packet of an interface of another link type becomes one without bytes, which is passed as well.
 //
 // Written on standard output: `capture PACKETS ENDING` for each capture, in order, where ENDING is that of a report of
 // `flowdir serve` (docs/FORMATS.md), or `unread` and why; `part PACKETS BYTES` for each part; `shift N`. With --count:
 // `capture` lines, then `class PACKETS` for each class. No trust is needed in any of it: the reports are judged.
-// Sources: pcap-savefile(5), draft-ietf-opsawg-pcapng, IEEE 802.1Q, RFC 791, RFC 8200; SplitMix64's output function.
+// Sources: pcap-savefile(5), draft-ietf-opsawg-pcapng, the registry of link types, IEEE 802.1Q, RFC 791, RFC 8200,
+// RFC 1661; SplitMix64's output function.
 #include <cstdint>
 #include <cstdio>
 #include <cstdlib>
@@ -27,7 +29,7 @@
 namespace {
 
 constexpr unsigned CLASSES = 4096, MOST_PARTS = 256;
-constexpr uint32_t MOST_CAPTURED = 262144, MOST_BLOCK = 16777216, MOST_INTERFACES = 256, ETHERNET = 1;
+constexpr uint32_t MOST_CAPTURED = 262144, MOST_BLOCK = 16777216, MOST_INTERFACES = 256;
 constexpr uint32_t SECTION = 0x0a0d0d0a, INTERFACE = 1, SIMPLE = 3, ENHANCED = 6;
 
 uint32_t swapped(uint32_t word) { return __builtin_bswap32(word); }
@@ -66,18 +68,47 @@ uint64_t hash_of(const uint8_t *address, unsigned length) {
     return hash;
 }
 
+// The link type that is read.
+uint32_t link_read = 1;
+
+// What an EtherType at that place tells before a packet at another: 4, 6, or 0 for neither. Up to four tags are looked
+// through, whatever --tags says: a packet that is passed has no flow.
+unsigned typed(const uint8_t *frame, uint32_t length, unsigned place, unsigned &at) {
+    for (unsigned tags = 0; tags <= 4 && length >= at && length >= place + 2; tags++) {
+        unsigned type = frame[place] << 8 | frame[place + 1];
+        if (type == 0x0800) return 4;
+        if (type == 0x86dd) return 6;
+        if (type != 0x8100 && type != 0x88a8 && type != 0x9100) return 0;
+        place = at + 2;
+        at += 4;
+    }
+    return 0;
+}
+
+// The version of the packet in a frame, and where it begins; 0 for none. Where the head of the link tells no version,
+// or tells it once more, it is that of the packet's first byte.
+unsigned version_of(const uint8_t *frame, uint32_t length, unsigned &at) {
+    switch (link_read) {
+    case 1: return typed(frame, length, 12, at = 14);
+    case 113: return typed(frame, length, 14, at = 16);
+    case 276: return typed(frame, length, 0, at = 20);
+    case 0:
+    case 108: at = 4; break;
+    case 9:
+        at = length >= 2 && frame[0] == 0xff && frame[1] == 3 ? 2 : 0;
+        at += length > at && frame[at] % 2 == 1 ? 1 : 2;
+        break;
+    default: at = 0;
+    }
+    return length > at ? frame[at] >> 4 : 0;
+}
+
 // The class of a frame: of its two addresses; CLASSES if it has none.
 unsigned class_of(const uint8_t *frame, uint32_t length) {
-    if (length < 14) return CLASSES;
-    unsigned at = 14, type = frame[12] << 8 | frame[13];
-    if (type == 0x8100) {
-        if (length < 18) return CLASSES;
-        type = frame[16] << 8 | frame[17];
-        at = 18;
-    }
-    if (type == 0x0800 && length >= at + 20)
+    unsigned at = 0, version = version_of(frame, length, at);
+    if (version == 4 && length >= at + 20)
         return (hash_of(frame + at + 12, 4) + hash_of(frame + at + 16, 4)) % CLASSES;
-    if (type == 0x86dd && length >= at + 40)
+    if (version == 6 && length >= at + 40)
         return (hash_of(frame + at + 8, 16) + hash_of(frame + at + 24, 16)) % CLASSES;
     return CLASSES;
 }
@@ -163,7 +194,7 @@ struct Visitor {
     virtual ~Visitor() = default;
     // A savefile's head, and what stands before the packets of a pcapng section: its blocks of sections and interfaces.
     virtual void frame(const uint8_t *bytes, size_t length) = 0;
-    // A packet: its frame, if it is Ethernet's, and the bytes that hold it in the capture.
+    // A packet: its frame, if it is of the link type that is read, and the bytes that hold it in the capture.
     virtual void packet(const uint8_t *frame, uint32_t length, const uint8_t *whole, size_t size) = 0;
     // The bytes from the first on that are no packet; and that the head itself is none.
     virtual void ending(Input &input, bool of_head) = 0;
@@ -186,7 +217,7 @@ std::string through_savefile(Input &input, Visitor &visitor, uint64_t &packets) 
     } else if (half_at(head + 4, turned) != 2 || half_at(head + 6, turned) != 4) {
         wrong = fault("version", 4,
             std::to_string(half_at(head + 4, turned)) + "." + std::to_string(half_at(head + 6, turned)));
-    } else if ((word_at(head + 20, turned) & 0xffff) != ETHERNET) {
+    } else if ((word_at(head + 20, turned) & 0xffff) != link_read) {
         wrong = fault("link", 20, std::to_string(word_at(head + 20, turned) & 0xffff));
     }
     if (!wrong.empty()) {
@@ -292,8 +323,8 @@ private:
         if (captured > MOST_CAPTURED || at + ((captured + 3) & ~3u) + 4 > length)
             return fault("captured-length", input.offset, std::to_string(captured));
         packets++;
-        bool ethernet = interfaces[number].link == ETHERNET;
-        visitor.packet(input.front() + at, ethernet ? captured : 0, input.front(), length);
+        bool is_read = interfaces[number].link == link_read;
+        visitor.packet(input.front() + at, is_read ? captured : 0, input.front(), length);
         return "";
     }
     Input &input;
@@ -385,7 +416,7 @@ public:
         put(parts[0], input.front(), there);
         if (!of_head) return;
         // What is no capture at all is so in part 0 alone; the others are captures without packets.
-        const uint32_t head[6] = {0xa1b2c3d4, 0x00040002, 0, 0, MOST_CAPTURED, ETHERNET};
+        const uint32_t head[6] = {0xa1b2c3d4, 0x00040002, 0, 0, MOST_CAPTURED, link_read};
         for (unsigned p = 1; p < parts.size(); p++) put(parts[p], head, sizeof head);
     }
     void tell() {
@@ -431,7 +462,10 @@ std::vector<uint8_t> table_of(const char *name, unsigned parts) {
 } // namespace
 
 int main(int count, char **words) {
-    if (count >= 2 && strcmp(words[1], "--count") == 0) {
+    if (count < 3) return 2;
+    link_read = atoi(words[1]);
+    words++, count--;
+    if (strcmp(words[1], "--count") == 0) {
         Counting counting;
         go_through(words + 2, counting);
         for (uint64_t packets : counting.classes) printf("class %llu\n", (unsigned long long)packets);
