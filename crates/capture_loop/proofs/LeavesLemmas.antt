@@ -1,5 +1,5 @@
 -- What was put makes what a run leaves.
-use Rattle.std.proofs.Common.{◌≡◌, ◌≤◌, ◌⊎◌, ℕ, List, [], ◌∷◌, ◌++◌, length, Option, Some, None, Result, Ok, Err, inl, inr, refl, sym, ap, subst, ◌∙◌, append_assoc, append-nil, arith, IsErr, IsErrAnd}
+use Rattle.std.proofs.Common.{◌≡◌, ◌<◌, ◌≤◌, ◌⊎◌, ℕ, List, [], ◌∷◌, ◌++◌, length, Option, Some, None, Result, Ok, Err, inl, inr, refl, sym, ap, subst, ◌∙◌, append_assoc, append-nil, arith, IsErr, IsErrAnd}
 use Rattle.std.specs.List.{flat_map, AllByRecursion}
 use Rattle.std.specs.Io.KnownBytes.{Appends, Keeps}
 use Rattle.std.proofs.KnownBytes.{Appends-trans, Appends-nil, Consumes-nil}
@@ -71,10 +71,11 @@ HasPut-start now held = record { done = []; put = Appends-nil now; parts = refl;
 
 -- ---- batches
 
-all_more : (xs : List (List (List ℕ))) (x : List (List ℕ)) → AllByRecursion IsWhole xs → IsWhole x →
-    AllByRecursion IsWhole (xs ++ x ∷ [])
-all_more [] x all one = (one, tt)
-all_more (y ∷ xs) x all one = (all.0, all_more xs x all.1 one)
+all_more : (size : ℕ) (xs : List (List (List ℕ))) (x : List (List ℕ)) → AllByRecursion (IsWhole size) xs → IsWhole
+    size x →
+    AllByRecursion (IsWhole size) (xs ++ x ∷ [])
+all_more size [] x all one = (one, tt)
+all_more size (y ∷ xs) x all one = (all.0, all_more size xs x all.1 one)
 
 parts_more : (xs : List (List (List ℕ))) (x : List (List ℕ)) →
     flat_map (λ batch. batch) (xs ++ x ∷ []) ≡ flat_map (λ batch. batch) xs ++ x
@@ -82,21 +83,23 @@ parts_more [] x = append-nil x
 parts_more (y ∷ xs) x =
     ap (λ (ps : List (List ℕ)). y ++ ps) (parts_more xs x) ∙ sym (append_assoc y (flat_map (λ batch. batch) xs) x)
 
-pub AreWhole-none : AreWhole [] []
-AreWhole-none = record { parts = refl; each = tt }
+pub AreWhole-none : (size : ℕ) → AreWhole size [] []
+AreWhole-none size = record { parts = refl; each = tt }
 
-pub AreWhole-more : (all more : List (List ℕ)) (batches : List (List (List ℕ))) → AreWhole all batches →
-    length more ≡ 2048 → AreWhole (all ++ more) (batches ++ more ∷ [])
-AreWhole-more all more batches whole long =
+pub AreWhole-more : (size : ℕ) (all more : List (List ℕ)) (batches : List (List (List ℕ))) →
+    AreWhole size all batches →
+    length more ≡ size → AreWhole size (all ++ more) (batches ++ more ∷ [])
+AreWhole-more size all more batches whole long =
     record {
       parts = parts_more batches more ∙ ap (λ (ps : List (List ℕ)). ps ++ more) whole.parts;
-      each = all_more batches more whole.each long;
+      each = all_more size batches more whole.each long;
     }
 
 -- a last batch is begun, which may have fewer packets
-pub AreBatches-last : (all last : List (List ℕ)) (batches : List (List (List ℕ))) → AreWhole all batches →
-    length last ≤ 2048 → (last ≡ [] → batches ≡ []) → AreBatches (all ++ last) (batches ++ last ∷ [])
-AreBatches-last all last batches whole few begun =
+pub AreBatches-last : (size : ℕ) (all last : List (List ℕ)) (batches : List (List (List ℕ))) →
+    AreWhole size all batches →
+    length last ≤ size → (last ≡ [] → batches ≡ []) → AreBatches size (all ++ last) (batches ++ last ∷ [])
+AreBatches-last size all last batches whole few begun =
     record {
       front = batches;
       last = last;
@@ -108,12 +111,13 @@ AreBatches-last all last batches whole few begun =
     }
 
 -- or all batches are whole, and there are some
-last_of : (batch : List (List ℕ)) (batches : List (List (List ℕ))) → AllByRecursion IsWhole (batch ∷ batches) →
+last_of : (size : ℕ) (batch : List (List ℕ)) (batches : List (List (List ℕ))) → AllByRecursion (IsWhole size)
+    (batch ∷ batches) →
     (front : List (List (List ℕ))) × (last : List (List ℕ)) × (batch ∷ batches ≡ front ++ last ∷ [])
-    × AllByRecursion IsWhole front × IsWhole last
-last_of batch [] all = ([], batch, refl, tt, all.0)
-last_of batch (next ∷ batches) all =
-    let rest = last_of next batches all.1 in (
+    × AllByRecursion (IsWhole size) front × IsWhole size last
+last_of size batch [] all = ([], batch, refl, tt, all.0)
+last_of size batch (next ∷ batches) all =
+    let rest = last_of size next batches all.1 in (
       batch ∷ rest.0,
       rest.1,
       ap (λ (bs : List (List (List ℕ))). batch ∷ bs) rest.2,
@@ -121,15 +125,15 @@ last_of batch (next ∷ batches) all =
       rest.4,
     )
 
-long_not_none : (last : List (List ℕ)) → IsWhole last → last ≡ [] → ⊥
-long_not_none [] long none = omega (arith, long)
-long_not_none (p ∷ last) long none = cc
+long_not_none : (size : ℕ) (last : List (List ℕ)) → 0 < size → IsWhole size last → last ≡ [] → ⊥
+long_not_none size [] some long none = omega (arith, some, long)
+long_not_none size (p ∷ last) some long none = cc
 
-pub AreBatches-whole : (all : List (List ℕ)) (batches : List (List (List ℕ))) → AreWhole all batches →
-    0 ≤ length all → (length all ≡ 0) ⊎ AreBatches all batches
-AreBatches-whole all [] whole some = inl (ap length (sym whole.parts))
-AreBatches-whole all (batch ∷ batches) whole some =
-    let cut = last_of batch batches whole.each in
+pub AreBatches-whole : (size : ℕ) (all : List (List ℕ)) (batches : List (List (List ℕ))) →
+    AreWhole size all batches → 0 < size → (length all ≡ 0) ⊎ AreBatches size all batches
+AreBatches-whole size all [] whole some = inl (ap length (sym whole.parts))
+AreBatches-whole size all (batch ∷ batches) whole some =
+    let cut = last_of size batch batches whole.each in
     inr (record {
       front = cut.0;
       last = cut.1;
@@ -137,7 +141,7 @@ AreBatches-whole all (batch ∷ batches) whole some =
       all = whole.parts;
       whole = cut.3;
       few = omega (arith, cut.4);
-      begun = λ none. absurd (long_not_none cut.1 cut.4 none);
+      begun = λ none. absurd (long_not_none size cut.1 some cut.4 none);
     })
 
 -- ---- the input
@@ -170,20 +174,20 @@ HaveFirst-none link first =
 
 -- ---- what is left
 
-module _ (lines : Lines) (report : Reports) (read_failed : Type 0) (link : ℕ)
+module _ (size : ℕ) (lines : Lines) (report : Reports) (read_failed : Type 0) (link : ℕ)
     (first left before after : Option (List ℕ)) where
   -- nothing was put
   pub leaves_nothing : Keeps before after →
-      LoopLeavesAll lines report read_failed link first left before after (Err Memory)
+      LoopLeavesAll size lines report read_failed link first left before after (Err Memory)
   leaves_nothing kept =
       record { told = λ bytes told. inl kept; took = (first, ([], Consumes-nil first, inl kept)) }
 
   module _ (packets : List (List ℕ)) (batches : List (List (List ℕ))) (ending : Ending) (text : List ℕ)
-      (ended : HaveEnded packet_limit link first left packets ending) (cut : AreBatches packets batches)
+      (ended : HaveEnded packet_limit link first left packets ending) (cut : AreBatches size packets batches)
       (met : IsMet read_failed ending) where
     -- the whole report was put
     pub leaves_whole : report batches ending text → Appends before after text →
-        LoopLeavesAll lines report read_failed link first left before after (Ok ending)
+        LoopLeavesAll size lines report read_failed link first left before after (Ok ending)
     leaves_whole is put =
         record {
           told = λ bytes told. (met, (text, (packets, ended.told bytes told, (batches, cut, is)), put));
@@ -192,7 +196,7 @@ module _ (lines : Lines) (report : Reports) (read_failed : Type 0) (link : ℕ)
 
     -- or a front of it
     pub leaves_front : report batches ending text → AppendsFront before after text →
-        LoopLeavesAll lines report read_failed link first left before after (Err NotPut)
+        LoopLeavesAll size lines report read_failed link first left before after (Err NotPut)
     leaves_front is put =
         record {
           told = λ bytes told. inl (ending, met, (text, (packets, ended.told bytes told, (batches, cut, is)), put));
@@ -205,7 +209,7 @@ module _ (lines : Lines) (report : Reports) (read_failed : Type 0) (link : ℕ)
 
     -- or the lines of all batches
     pub leaves_less : lines batches text → Keeps before after ⊎ Appends before after text →
-        LoopLeavesAll lines report read_failed link first left before after (Err Memory)
+        LoopLeavesAll size lines report read_failed link first left before after (Err Memory)
     leaves_less is (inl kept) = leaves_nothing kept
     leaves_less is (inr put) =
         record {
@@ -223,9 +227,9 @@ module _ (lines : Lines) (report : Reports) (read_failed : Type 0) (link : ℕ)
 
   -- lines of whole batches were put, and how the input ends is not known
   pub leaves_before : (packets : List (List ℕ)) (batches : List (List (List ℕ))) (text : List ℕ) →
-      HaveFirst link first packets → AreWhole packets batches → lines batches text →
+      HaveFirst link first packets → AreWhole size packets batches → lines batches text →
       Keeps before after ⊎ Appends before after text →
-      LoopLeavesAll lines report read_failed link first left before after (Err Memory)
+      LoopLeavesAll size lines report read_failed link first left before after (Err Memory)
   leaves_before packets batches text firsts whole is (inl kept) = leaves_nothing kept
   leaves_before packets batches text firsts whole is (inr put) =
       record {
@@ -237,9 +241,9 @@ module _ (lines : Lines) (report : Reports) (read_failed : Type 0) (link : ℕ)
 
   module _ (reading : Reading) (packets : List (List ℕ)) (batches : List (List (List ℕ)))
       (text : List ℕ) (come : HaveCome link first left reading packets) (few : length packets ≤ packet_limit)
-      (whole : AreWhole packets batches) (is : lines batches text) where
+      (whole : AreWhole size packets batches) (is : lines batches text) where
     pub leaves_some : AppendsFront before after text →
-        LoopLeavesAll lines report read_failed link first left before after (Err NotPut)
+        LoopLeavesAll size lines report read_failed link first left before after (Err NotPut)
     leaves_some put =
         record {
           told = λ bytes told.
@@ -264,29 +268,29 @@ module _ (lines : Lines) (report : Reports) (read_failed : Type 0) (link : ℕ)
   -- a run that stops for want of memory
   pub leaves_memory : (result : Result Ending Stop) →
       IsErr result × IsErrAnd result (λ (stop : Stop). stop ≡ Memory) →
-      LoopLeavesAll lines report read_failed link first left before after (Err Memory) →
-      LoopLeavesAll lines report read_failed link first left before after result
+      LoopLeavesAll size lines report read_failed link first left before after (Err Memory) →
+      LoopLeavesAll size lines report read_failed link first left before after result
   leaves_memory (Ok ending) is leaves = absurd (cc)
   leaves_memory (Err stop) is leaves =
-      subst (λ (s : Stop). LoopLeavesAll lines report read_failed link first left before after (Err s)) (sym is.1)
+      subst (λ (s : Stop). LoopLeavesAll size lines report read_failed link first left before after (Err s)) (sym is.1)
       leaves
 
   -- and one that stops since a write failed
   pub leaves_not_put : (result : Result Ending Stop) →
       IsErr result × IsErrAnd result (λ (stop : Stop). stop ≡ NotPut) →
-      LoopLeavesAll lines report read_failed link first left before after (Err NotPut) →
-      LoopLeavesAll lines report read_failed link first left before after result
+      LoopLeavesAll size lines report read_failed link first left before after (Err NotPut) →
+      LoopLeavesAll size lines report read_failed link first left before after result
   leaves_not_put (Ok ending) is leaves = absurd (cc)
   leaves_not_put (Err stop) is leaves =
-      subst (λ (s : Stop). LoopLeavesAll lines report read_failed link first left before after (Err s)) (sym is.1)
+      subst (λ (s : Stop). LoopLeavesAll size lines report read_failed link first left before after (Err s)) (sym is.1)
       leaves
 
   -- a run that stops leaves what it leaves where a write failed, and where memory ran out
   pub leaves_stop : (stop : Stop) (A B : Type 0) →
       OnNotPut {T = Unit {0}} (Err stop) A → OnMemory {T = Unit {0}} (Err stop) B →
-      (A → LoopLeavesAll lines report read_failed link first left before after (Err NotPut)) →
-      (B → LoopLeavesAll lines report read_failed link first left before after (Err Memory)) →
-      LoopLeavesAll lines report read_failed link first left before after (Err stop)
+      (A → LoopLeavesAll size lines report read_failed link first left before after (Err NotPut)) →
+      (B → LoopLeavesAll size lines report read_failed link first left before after (Err Memory)) →
+      LoopLeavesAll size lines report read_failed link first left before after (Err stop)
   leaves_stop Memory A B a b on_a on_b = on_b b
   leaves_stop NotPut A B a b on_a on_b = on_a a
 

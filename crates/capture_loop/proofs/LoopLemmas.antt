@@ -1,5 +1,5 @@
 -- What the last lines, and a batch that could not be served or put, make of what a run leaves.
-use Rattle.std.proofs.Common.{◌≡◌, ◌≤◌, ◌+◌, ◌⊎◌, ℕ, List, [], ◌∷◌, ◌++◌, length, Option, Some, None, MatchOption, IfNone, IfOk, Result, Ok, Err, inl, inr, refl, sym, ap, subst, ◌∙◌, append_assoc, length-append, arith}
+use Rattle.std.proofs.Common.{◌≡◌, ◌<◌, ◌≤◌, ◌+◌, ◌⊎◌, ℕ, List, [], ◌∷◌, ◌++◌, length, Option, Some, None, MatchOption, IfNone, IfOk, Result, Ok, Err, inl, inr, refl, sym, ap, subst, ◌∙◌, append_assoc, length-append, arith}
 use Rattle.std.specs.List.{flat_map}
 use Rattle.std.specs.Io.KnownBytes.{Appends}
 use Rattle.std.proofs.KnownBytes.{Appends-trans}
@@ -27,79 +27,86 @@ Appends-more before mid after held text more put appended =
     (Appends-trans before mid after put.done (held ++ more) put.put appended)
 
 -- no batch is whole where there are no packets
-pub none_whole : (all : List (List ℕ)) (batches : List (List (List ℕ))) → AreWhole all batches → length all ≡ 0 →
-    batches ≡ []
-none_whole all [] whole none = refl
-none_whole all (batch ∷ batches) whole none =
-    let each : length batch ≡ 2048 = whole.each.0 in
+pub none_whole : (size : ℕ) (all : List (List ℕ)) (batches : List (List (List ℕ))) → 0 < size →
+    AreWhole size all batches → length all ≡ 0 → batches ≡ []
+none_whole size all [] some whole none = refl
+none_whole size all (batch ∷ batches) some whole none =
+    let each : length batch ≡ size = whole.each.0 in
     let sum = length-append batch (flat_map (λ (b : List (List ℕ)). b) batches) in
-    absurd (omega (arith, none, ap length whole.parts, sum, each))
+    absurd (omega (arith, some, none, ap length whole.parts, sum, each))
 
 no_packets : (last : List (List ℕ)) → last ≡ [] → length last ≡ 0
 no_packets last none = ap length none
 
-module _ (lines : Lines) (report : Reports) (read_failed : Type 0) (link : ℕ) (first left before : Option (List ℕ))
+module _ (size : ℕ) (lines : Lines) (report : Reports) (read_failed : Type 0) (link : ℕ)
+    (first left before : Option (List ℕ))
     (all : List (List ℕ)) (batches : List (List (List ℕ))) (ending : Ending)
-    (ended : HaveEnded packet_limit link first left all ending) (cut : AreBatches all batches)
+    (ended : HaveEnded packet_limit link first left all ending) (cut : AreBatches size all batches)
     (met : IsMet read_failed ending) where
   -- the last lines could not be made
   pub end_memory : (now : Option (List ℕ)) (held done : List ℕ) → HasPut before now held done → lines batches done →
-      LoopLeavesAll lines report read_failed link first left before now (Err Memory)
+      LoopLeavesAll size lines report read_failed link first left before now (Err Memory)
   end_memory now held done put is =
-      leaves_less lines report read_failed link first left before now all batches ending done ended cut met is
+      leaves_less size lines report read_failed link first left before now all batches ending done ended cut met is
       (HasPut-kept before now held done put)
 
   -- or not be put
   pub end_front : (mid after : Option (List ℕ)) (held done rest text : List ℕ) → HasPut before mid held done →
       text ≡ held ++ rest → report batches ending (done ++ rest) → AppendsFront mid after text →
-      LoopLeavesAll lines report read_failed link first left before after (Err NotPut)
+      LoopLeavesAll size lines report read_failed link first left before after (Err NotPut)
   end_front mid after held done rest text put is reported front =
-      leaves_front lines report read_failed link first left before after all batches ending (done ++ rest) ended cut met
+      leaves_front size lines report read_failed link first left before after all batches ending (done ++ rest) ended
+      cut met
       reported (HasPut-cut before mid after held done rest put (subst (AppendsFront mid after) is front))
 
   pub end_whole : (mid after : Option (List ℕ)) (held done rest text : List ℕ) → HasPut before mid held done →
       text ≡ held ++ rest → report batches ending (done ++ rest) → Appends mid after text →
-      LoopLeavesAll lines report read_failed link first left before after (Ok ending)
+      LoopLeavesAll size lines report read_failed link first left before after (Ok ending)
   end_whole mid after held done rest text put is reported appended =
-      leaves_whole lines report read_failed link first left before after all batches ending (done ++ rest) ended cut met
+      leaves_whole size lines report read_failed link first left before after all batches ending (done ++ rest) ended
+      cut met
       reported (Appends-more before mid after held done rest put (subst (Appends mid after) is appended))
 
   -- the lines of the last batch could not be put
   pub last_front : (after : Option (List ℕ)) (done : List ℕ) →
       ((rest : List ℕ) × report batches ending (done ++ rest)) → AppendsFront before after done →
-      LoopLeavesAll lines report read_failed link first left before after (Err NotPut)
+      LoopLeavesAll size lines report read_failed link first left before after (Err NotPut)
   last_front after done more front =
-      leaves_front lines report read_failed link first left before after all batches ending (done ++ more.0) ended cut
+      leaves_front size lines report read_failed link first left before after all batches ending (done ++ more.0)
+      ended cut
       met
       more.1 (AppendsFront-longer before after done more.0 front)
 
 -- a last batch is begun where there are packets of it, or none at all
-pub last_cut : (served : List (List (List ℕ)) → List ℕ → Type 0) (link : ℕ) (first : Option (List ℕ)) (many packets : ℕ)
+pub last_cut : (size : ℕ) (served : List (List (List ℕ)) → List ℕ → Type 0) (link : ℕ) (first : Option (List ℕ))
+    (many packets : ℕ)
     (all last : List (List ℕ)) (before now : Option (List ℕ)) (held : List ℕ) →
-    (stands : Stands served link first many all before now held) → length last ≡ packets → packets ≤ 2048 →
-    (packets ≡ 0 → many ≡ 0) → AreBatches (all ++ last) (stands.batches ++ last ∷ [])
-last_cut served link first many packets all last before now held stands count few begun =
-    AreBatches-last all last stands.batches stands.whole (omega (arith, count, few))
-    (λ none. none_whole all stands.batches stands.whole
+    (stands : Stands size served link first many all before now held) → length last ≡ packets → 0 < size →
+    packets ≤ size → (packets ≡ 0 → many ≡ 0) → AreBatches size (all ++ last) (stands.batches ++ last ∷ [])
+last_cut size served link first many packets all last before now held stands count some few begun =
+    AreBatches-last size all last stands.batches stands.whole (omega (arith, count, few))
+    (λ none. none_whole size all stands.batches some stands.whole
     (stands.count ∙ begun (sym count ∙ no_packets last none)))
 
 -- a run without packets has a batch all the same, and one with whole batches has them
-pub whole_cut : (all : List (List ℕ)) (batches : List (List (List ℕ))) → AreWhole all batches →
-    (length all ≡ 0 → ⊥) → AreBatches all batches
-whole_cut all batches whole some = choose (AreBatches-whole all batches whole (omega arith))
+pub whole_cut : (size : ℕ) (all : List (List ℕ)) (batches : List (List (List ℕ))) → AreWhole size all batches →
+    0 < size →
+    (length all ≡ 0 → ⊥) → AreBatches size all batches
+whole_cut size all batches whole large some = choose (AreBatches-whole size all batches whole large)
   where
-    choose : (length all ≡ 0) ⊎ AreBatches all batches → AreBatches all batches
+    choose : (length all ≡ 0) ⊎ AreBatches size all batches → AreBatches size all batches
     choose (inl none) = absurd (some none)
     choose (inr cut) = cut
 
 -- the last batch could not be served
-pub last_memory : (lines : Lines) (report : Reports) (read_failed : Type 0)
+pub last_memory : (size : ℕ) (lines : Lines) (report : Reports) (read_failed : Type 0)
     (served : List (List (List ℕ)) → List ℕ → Type 0) (link : ℕ) (first left : Option (List ℕ)) (many : ℕ)
     (all : List (List ℕ))
-    (before now : Option (List ℕ)) (held : List ℕ) → (stands : Stands served link first many all before now held) →
-    lines stands.batches stands.text → LoopLeavesAll lines report read_failed link first left before now (Err Memory)
-last_memory lines report read_failed served link first left many all before now held stands is =
-    leaves_before lines report read_failed link first left before now all stands.batches stands.text stands.firsts
+    (before now : Option (List ℕ)) (held : List ℕ) → (stands : Stands size served link first many all before now held) →
+    lines stands.batches stands.text → LoopLeavesAll size lines report read_failed link first left before now
+    (Err Memory)
+last_memory size lines report read_failed served link first left many all before now held stands is =
+    leaves_before size lines report read_failed link first left before now all stands.batches stands.text stands.firsts
     stands.whole is (HasPut-kept before now held stands.text stands.put)
 
 -- ---- a choice
@@ -123,37 +130,38 @@ OnNotPut-any (Err Memory) p = tt
 OnNotPut-any (Err NotPut) p = p
 
 -- before any batch the head line is held
-pub at_start : (served : List (List (List ℕ)) → List ℕ → Type 0) (link : ℕ) (first before now : Option (List ℕ))
-    (held : List ℕ) → served [] held → HasPut before now held held → Stands served link first 0 [] before now held
-at_start served link first before now held done put =
+pub at_start : (size : ℕ) (served : List (List (List ℕ)) → List ℕ → Type 0) (link : ℕ)
+    (first before now : Option (List ℕ))
+    (held : List ℕ) → served [] held → HasPut before now held held → Stands size served link first 0 [] before now held
+at_start size served link first before now held done put =
     record {
       batches = [];
       text = held;
       count = refl;
       firsts = HaveFirst-none link first;
-      whole = AreWhole-none;
+      whole = AreWhole-none size;
       done = done;
       put = put;
     }
 
 -- one whole batch more
-pub Stands-more : (served served_then : List (List (List ℕ)) → List ℕ → Type 0) (link : ℕ)
+pub Stands-more : (size : ℕ) (served served_then : List (List (List ℕ)) → List ℕ → Type 0) (link : ℕ)
     (first left : Option (List ℕ))
     (reading : Reading) (many more : ℕ) (all last : List (List ℕ)) (before mid after : Option (List ℕ))
-    (held held_then lines : List ℕ) → (stands : Stands served link first many all before mid held) →
-    HaveCome link first left reading (all ++ last) → length last ≡ more → more ≡ 2048 → many + more ≤ packet_limit →
+    (held held_then lines : List ℕ) → (stands : Stands size served link first many all before mid held) →
+    HaveCome link first left reading (all ++ last) → length last ≡ more → more ≡ size → many + more ≤ packet_limit →
     served_then (stands.batches ++ last ∷ []) (stands.text ++ lines) →
     HasPut before after held_then (stands.text ++ lines) →
-    Stands served_then link first (many + more) (all ++ last) before after held_then
-Stands-more served served_then link first left reading many more all last before mid after held held_then lines
-    stands come size whole few done put =
-    let count : length (all ++ last) ≡ many + more = omega (arith, length-append all last, stands.count, size) in
+    Stands size served_then link first (many + more) (all ++ last) before after held_then
+Stands-more size served served_then link first left reading many more all last before mid after held held_then lines
+    stands come long whole few done put =
+    let count : length (all ++ last) ≡ many + more = omega (arith, length-append all last, stands.count, long) in
     record {
       batches = stands.batches ++ last ∷ [];
       text = stands.text ++ lines;
       count = count;
       firsts = HaveFirst-come link first left reading (all ++ last) (omega (arith, count, few)) come;
-      whole = AreWhole-more all last stands.batches stands.whole (size ∙ whole);
+      whole = AreWhole-more size all last stands.batches stands.whole (long ∙ whole);
       done = done;
       put = put;
     }

@@ -20,27 +20,27 @@ abbrev pub Reports : Type 1
 Reports = List (List (List ℕ)) → Ending → List ℕ → Type 0
 
 -- the text is a report of these packets, and the lines of whole batches of them
-abbrev pub IsLoopReport : Reports → List (List ℕ) → Ending → List ℕ → Type 0
-IsLoopReport report packets ending text =
-    (batches : List (List (List ℕ))) × AreBatches packets batches × report batches ending text
+abbrev pub IsLoopReport : (size : ℕ) → Reports → List (List ℕ) → Ending → List ℕ → Type 0
+IsLoopReport size report packets ending text =
+    (batches : List (List (List ℕ))) × AreBatches size packets batches × report batches ending text
 
-abbrev pub IsLoopFront : Lines → List (List ℕ) → List ℕ → Type 0
-IsLoopFront lines packets text =
-    (batches : List (List (List ℕ))) × AreWhole packets batches × lines batches text
+abbrev pub IsLoopFront : (size : ℕ) → Lines → List (List ℕ) → List ℕ → Type 0
+IsLoopFront size lines packets text =
+    (batches : List (List (List ℕ))) × AreWhole size packets batches × lines batches text
 
-abbrev pub IsLoopTold : Lines → List (List ℕ) → List ℕ → Type 0
-IsLoopTold lines packets text =
-    (batches : List (List (List ℕ))) × AreBatches packets batches × lines batches text
+abbrev pub IsLoopTold : (size : ℕ) → Lines → List (List ℕ) → List ℕ → Type 0
+IsLoopTold size lines packets text =
+    (batches : List (List (List ℕ))) × AreBatches size packets batches × lines batches text
 
 -- of an input with these bytes, of which these are left, the text is the report, with this ending
-abbrev pub ReportsInput : ℕ → Reports → List ℕ → Option (List ℕ) → Ending → List ℕ → Type 0
-ReportsInput link report bytes left ending text =
-    (packets : List (List ℕ)) × Serves link bytes left packets ending × IsLoopReport report packets ending text
+abbrev pub ReportsInput : (size : ℕ) → ℕ → Reports → List ℕ → Option (List ℕ) → Ending → List ℕ → Type 0
+ReportsInput size link report bytes left ending text =
+    (packets : List (List ℕ)) × Serves link bytes left packets ending × IsLoopReport size report packets ending text
 
 -- and the text is the lines of all its batches
-abbrev pub TellsInput : ℕ → Lines → List ℕ → Option (List ℕ) → Ending → List ℕ → Type 0
-TellsInput link lines bytes left ending text =
-    (packets : List (List ℕ)) × Serves link bytes left packets ending × IsLoopTold lines packets text
+abbrev pub TellsInput : (size : ℕ) → ℕ → Lines → List ℕ → Option (List ℕ) → Ending → List ℕ → Type 0
+TellsInput size link lines bytes left ending text =
+    (packets : List (List ℕ)) × Serves link bytes left packets ending × IsLoopTold size lines packets text
 
 -- a front of a text was put
 abbrev pub PutsFront : (before after : Option (List ℕ)) → (List ℕ → Type 0) → Type 0
@@ -55,35 +55,43 @@ abbrev pub IsMet : (read_failed : Type 0) → Ending → Type 0
 IsMet read_failed ending = ending ≡ ReadFault → read_failed
 
 -- The whole report was put, with this ending.
-abbrev pub PutsInput : ℕ → Reports → List ℕ → Option (List ℕ) → Option (List ℕ) → Option (List ℕ) → Ending → Type 0
-PutsInput link report bytes left before after ending = PutsWhole before after
-    (ReportsInput link report bytes left ending)
+abbrev pub PutsInput : (size : ℕ) → ℕ → Reports → List ℕ → Option (List ℕ) → Option (List ℕ) → Option (List ℕ) →
+    Ending → Type 0
+PutsInput size link report bytes left before after ending = PutsWhole before after
+    (ReportsInput size link report bytes left ending)
 
 -- A front of the report was put, where the ending is known, and otherwise of the lines of the batches so far.
-abbrev pub PutsSome : ℕ → Lines → Reports → Type 0 → List ℕ → Option (List ℕ) → Option (List ℕ) → Option (List ℕ) →
+abbrev pub PutsSome : (size : ℕ) → ℕ → Lines → Reports → Type 0 → List ℕ → Option (List ℕ) → Option (List ℕ) → Option
+    (List ℕ) →
     Type 0
-PutsSome link lines report read_failed bytes left before after =
-    ((ending : Ending) × IsMet read_failed ending × PutsFront before after (ReportsInput link report bytes left ending))
-    ⊎ ((packets : List (List ℕ)) × Begins link bytes left packets × PutsFront before after (IsLoopFront lines packets))
+PutsSome size link lines report read_failed bytes left before after =
+    ((ending : Ending) × IsMet read_failed ending × PutsFront before after
+    (ReportsInput size link report bytes left ending))
+    ⊎ ((packets : List (List ℕ)) × Begins link bytes left packets × PutsFront before after
+    (IsLoopFront size lines packets))
 
 -- Where memory ran out, nothing was put, or the lines of all batches of an input whose ending is known, or the lines of
 -- the batches so far. More of the input may have been read.
-abbrev pub PutsLess : ℕ → Lines → Type 0 → List ℕ → Option (List ℕ) → Option (List ℕ) → Option (List ℕ) → Type 0
-PutsLess link lines read_failed bytes left before after =
+abbrev pub PutsLess : (size : ℕ) → ℕ → Lines → Type 0 → List ℕ → Option (List ℕ) → Option (List ℕ) → Option (List ℕ) →
+    Type 0
+PutsLess size link lines read_failed bytes left before after =
     Keeps before after
-    ⊎ (((ending : Ending) × IsMet read_failed ending × PutsWhole before after (TellsInput link lines bytes left ending))
-    ⊎ ((packets : List (List ℕ)) × IsFirst link bytes packets × PutsWhole before after (IsLoopFront lines packets)))
+    ⊎ (((ending : Ending) × IsMet read_failed ending × PutsWhole before after
+    (TellsInput size link lines bytes left ending))
+    ⊎ ((packets : List (List ℕ)) × IsFirst link bytes packets × PutsWhole before after
+    (IsLoopFront size lines packets)))
 
 -- What a run leaves that ended so: of the input's bytes these are left, and the sink had taken `before` and has taken
 -- `after`.
-abbrev pub Leaves : ℕ → Lines → Reports → Type 0 → List ℕ → Option (List ℕ) → Option (List ℕ) → Option (List ℕ) →
+abbrev pub Leaves : (size : ℕ) → ℕ → Lines → Reports → Type 0 → List ℕ → Option (List ℕ) → Option (List ℕ) → Option
+    (List ℕ) →
     Result Ending Stop → Type 0
-Leaves link lines report read_failed bytes left before after (Ok ending) =
-    IsMet read_failed ending × PutsInput link report bytes left before after ending
-Leaves link lines report read_failed bytes left before after (Err NotPut) =
-    PutsSome link lines report read_failed bytes left before after
-Leaves link lines report read_failed bytes left before after (Err Memory) =
-    PutsLess link lines read_failed bytes left before after
+Leaves size link lines report read_failed bytes left before after (Ok ending) =
+    IsMet read_failed ending × PutsInput size link report bytes left before after ending
+Leaves size link lines report read_failed bytes left before after (Err NotPut) =
+    PutsSome size link lines report read_failed bytes left before after
+Leaves size link lines report read_failed bytes left before after (Err Memory) =
+    PutsLess size link lines read_failed bytes left before after
 
 -- a fact of what was taken of a source; where memory ran out, of what had been taken at some moment of the run
 abbrev pub TookFor : Result Ending Stop → (first left : Option (List ℕ)) → (List ℕ → Type 0) → Type 0
@@ -94,11 +102,12 @@ TookFor (Err Memory) first left P = (between : Option (List ℕ)) × Took first 
 -- So it is for the bytes of a source, where they are told, and for those that were taken of it, as of a source that
 -- told just these: so these decide which answer it is. Of a source that tells nothing the second fact says only that
 -- there are some such bytes.
-pub record LoopLeavesAll (lines : Lines) (report : Reports) (read_failed : Type 0)
+pub record LoopLeavesAll (size : ℕ) (lines : Lines) (report : Reports) (read_failed : Type 0)
     (link : ℕ) (first left before after : Option (List ℕ)) (answer : Result Ending Stop) : Type 0 where
-  pub told : (bytes : List ℕ) → first ≡ Some bytes → Leaves link lines report read_failed bytes left before after answer
+  pub told : (bytes : List ℕ) → first ≡ Some bytes → Leaves size link lines report read_failed bytes left before after
+      answer
   pub took : TookFor answer first left
-      (λ taken. Leaves link lines report read_failed taken (Some []) before after answer)
+      (λ taken. Leaves size link lines report read_failed taken (Some []) before after answer)
 
 -- where the first packet starts that is too many: noted exactly if a run ended for that
 abbrev pub Marks : Result Ending Stop → (old new : Option ℕ) → (ℕ → Type 0) → Type 0

@@ -20,14 +20,15 @@ pub record HaveFirst (link : ℕ) (first : Option (List ℕ)) (packets : List (L
   pub told : (bytes : List ℕ) → first ≡ Some bytes → IsFirst link bytes packets
   pub took : (between : Option (List ℕ)) × Took first between (λ taken. IsFirst link taken packets)
 
--- so many packets, which are these, were served in whole batches, and the text was put or is held
-pub record Stands (served : List (List (List ℕ)) → List ℕ → Type 0) (link : ℕ) (first : Option (List ℕ)) (many : ℕ)
+-- so many packets, which are these, were served in whole batches of this size, and the text was put or is held
+pub record Stands (size : ℕ) (served : List (List (List ℕ)) → List ℕ → Type 0) (link : ℕ) (first : Option (List ℕ))
+    (many : ℕ)
     (all : List (List ℕ)) (before now : Option (List ℕ)) (held : List ℕ) : Type 0 where
   pub batches : List (List (List ℕ))
   pub text : List ℕ
   pub count : length all ≡ many
   pub firsts : HaveFirst link first all
-  pub whole : AreWhole all batches
+  pub whole : AreWhole size all batches
   pub done : served batches text
   pub put : HasPut before now held text
 

@@ -8,7 +8,7 @@ ghost use Rattle.capture_loop.specs.Input.{StopsAt};
 ghost use Rattle.capture_loop.specs.Reading.{HaveCome};
 ghost use Rattle.capture_loop.specs.Intake.{IsRead, IsTaken};
 
-use crate::job::{BATCH, PACKET_LIMIT, Pile};
+use crate::job::{MOST_BATCH, PACKET_LIMIT, Pile};
 use crate::opening::{read_on, read_past};
 use edge_traits::Source;
 use pcapng_reader::AnyReader;
@@ -24,11 +24,12 @@ pub struct Part {
     pub ending: Option<Ending>,
 }
 
-/// Reads the packets of a batch, behind so many that were read before, where so many of the batch were taken already.
-/// No more than `limit` are taken in all.
+/// Reads the packets of a batch of so many, behind so many that were read before, where so many of the batch were taken
+/// already. No more than `limit` are taken in all.
 pub fn read_rest<S: Source, P: Pile>(
     reader: &mut AnyReader,
     source: &mut S,
+    batch: u32,
     before: u32,
     taken: u32,
     limit: u32,
@@ -38,21 +39,21 @@ pub fn read_rest<S: Source, P: Pile>(
     requires given { reader.old.given ≡ before + taken }
     requires few { before < limit }
     requires limited { limit ≤ PACKET_LIMIT }
-    requires few_taken { (taken ≤ BATCH) × (before + taken ≤ limit) }
+    requires few_taken { (taken ≤ batch) × (batch ≤ MOST_BATCH) × (before + taken ≤ limit) }
     requires piled { (packets : List (List ℕ)) × P.holds pile.old before packets × (length packets ≡ taken) }
     ensures read { IfOk result (λ part. (old : List (List ℕ)) → P.holds pile.old before old → length old ≡ taken →
         (more : List (List ℕ)) × P.holds pile.new before (old ++ more) × (length (old ++ more) ≡ part.packets)
         × IsRead limit before (S.left source.old) (S.left source.new) reader.old reader.new old more part) }
     ensures way { P.way pile.new ≡ P.way pile.old }
     ensures goes_on { IfOk result (λ part. IfNone part.ending ((reader.new.ended ≡ false)
-        × (reader.new.given ≡ before + part.packets) × (part.packets ≡ BATCH)
+        × (reader.new.given ≡ before + part.packets) × (part.packets ≡ batch)
         × (before + part.packets < limit))) }
     ensures beyond { IfOk result (λ part. (old : List (List ℕ)) → P.holds pile.old before old →
         length old ≡ taken → (link : ℕ) (first : Option (List ℕ)) (all : List (List ℕ)) → length all ≡ before →
         HaveCome link first (S.left source.old) reader.old (all ++ old) →
         IfSome part.ending (λ ending. OnLimit ending
         (StopsAt link limit first (S.left source.new) reader.new.start))) }
-    ensures few_packets { IfOk result (λ part. (part.packets ≤ BATCH) × (before + part.packets ≤ limit)) }
+    ensures few_packets { IfOk result (λ part. (part.packets ≤ batch) × (before + part.packets ≤ limit)) }
     ensures ending { IfOk result (λ part. IfSome part.ending IsEnding) }
     ensures read_fault { IfOk result (λ part. part.ending ≡ Some Ending.ReadFault →
         Rose (S.faults source.old) (S.faults source.new)) }
@@ -60,7 +61,7 @@ pub fn read_rest<S: Source, P: Pile>(
     ensures failed { IfOk result (λ part. HasFailed part.ending (S.failed source.old) (S.failed source.new)) }
     ensures none_failed { OnErr result (S.failed source.new ≡ S.failed source.old) }
 {
-    let most = BATCH.min(limit - before);
+    let most = batch.min(limit - before);
     for packets in taken..most {
         if let Some(ending) = read_on(reader, source) {
             return Ok(Part {
@@ -86,18 +87,19 @@ pub fn read_rest<S: Source, P: Pile>(
 /// and prepares the pile where the batch is whole. Nothing is read.
 pub fn take_held<P: Pile>(
     reader: &mut AnyReader,
+    batch: u32,
     before: u32,
     pile: &mut P,
 ) -> Result<u32, AllocError>
     requires going { reader.old.ended ≡ false }
     requires given { reader.old.given ≡ before }
-    requires few { before < PACKET_LIMIT }
+    requires few { (before < PACKET_LIMIT) × (batch ≤ MOST_BATCH) }
     requires none { P.holds pile.old before [] }
     ensures way { P.way pile.new ≡ P.way pile.old }
     ensures taken { IfOk result (λ packets. (more : List (List ℕ)) × P.holds pile.new before more
-        × (length more ≡ packets) × IsTaken reader.old reader.new before more) }
+        × (length more ≡ packets) × IsTaken reader.old reader.new batch before more) }
 {
-    let most = BATCH.min(PACKET_LIMIT - before);
+    let most = batch.min(PACKET_LIMIT - before);
     for packets in 0..most {
         if !reader.next_held() {
             return Ok(packets);

@@ -20,6 +20,8 @@ pub struct Means<'a, R: Threads + Sync, G: Gate + Sync> {
     pub alloc: Global,
     /// What callers pass before each call.
     pub gate: &'a G,
+    /// How many packets a batch has, 1 to `MOST_BATCH`; the last one may have fewer.
+    pub batch: u32,
 }
 
 /// The packets of a batch, and those of the next one that are taken while it is served.
@@ -31,8 +33,11 @@ pub struct Piles<P: Pile> {
     pub beyond: Option<u64>,
 }
 
-/// How many packets a batch has; the last one may have fewer.
+/// How many packets a batch has where no word says it.
 pub const BATCH: u32 = 2_048;
+
+/// How many packets a batch has at most.
+pub const MOST_BATCH: u32 = 65_536;
 
 /// How many packets are taken at most.
 pub const PACKET_LIMIT: u32 = 4_000_000;
@@ -48,7 +53,7 @@ pub trait Pile {
     /// Takes the packet with this number, from 1.
     fn take(&mut self, number: u32, packet: &[u8]) -> Result<(), AllocError>
         requires some { (before : ℕ) × (packets : List (List ℕ)) × holds self.old before packets
-            × (number ≡ before + length packets + 1) × (length packets + 1 ≤ BATCH) }
+            × (number ≡ before + length packets + 1) × (length packets + 1 ≤ MOST_BATCH) }
         requires short { length packet.now ≤ 262144 }
         ensures way { way self.new ≡ way self.old }
         ensures holds { OnOk result ((before : ℕ) (packets : List (List ℕ)) → holds self.old before packets →
@@ -118,7 +123,7 @@ pub trait Job<P> {
         pile: &mut Self::Pile,
     ) -> Result<Opened<Self::Shared, Self::Worker, Self::Kept>, AllocError>
         requires going { (before : ℕ) × (packets : List (List ℕ)) × going self.old before
-            × Self.Pile.holds pile.old before packets × (length packets ≤ BATCH)
+            × Self.Pile.holds pile.old before packets × (length packets ≤ MOST_BATCH)
             × (before + length packets ≤ PACKET_LIMIT) }
         requires way { Self.Pile.way pile.old ≡ way self.old }
         ensures few { IfOk result (λ made. vec_len made.workers ≤ 8) }
@@ -142,7 +147,7 @@ pub trait Job<P> {
     ) -> Result<(), AllocError>
         requires going { (started : List Self.Worker) × (before : ℕ) × (packets : List (List ℕ)) × going self.old before
             × opened self.old made.shared started made.kept before packets
-            × AllZip (Self.Worker.done made.shared) started made.workers.items × (length packets ≤ BATCH)
+            × AllZip (Self.Worker.done made.shared) started made.workers.items × (length packets ≤ MOST_BATCH)
             × (before + length packets ≤ PACKET_LIMIT) }
         ensures way { OnOk result (way self.new ≡ way self.old) }
         ensures going { OnOk result ((started : List Self.Worker) (before : ℕ) (packets : List (List ℕ)) →

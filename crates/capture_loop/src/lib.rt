@@ -9,7 +9,7 @@ mod opening;
 mod stop;
 
 pub use intake::{Part, read_rest, take_held};
-pub use job::{BATCH, Job, Means, Opened, PACKET_LIMIT, Pile, Piles};
+pub use job::{BATCH, Job, MOST_BATCH, Means, Opened, PACKET_LIMIT, Pile, Piles};
 pub use looping::{mark, run_job};
 pub use opening::{Unopened, open, read_on, read_past};
 pub use stop::Stop;

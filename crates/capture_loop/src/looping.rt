@@ -14,7 +14,7 @@ ghost use Rattle.capture_loop.specs.Endings.{OnLimit};
 ghost use Rattle.capture_loop.specs.Input.{StopsAt, packet_limit};
 
 use crate::intake::{read_rest, take_held};
-use crate::job::{BATCH, Job, Means, Opened, PACKET_LIMIT, Pile, Piles};
+use crate::job::{Job, MOST_BATCH, Means, Opened, PACKET_LIMIT, Pile, Piles};
 use crate::opening::{Unopened, open};
 use crate::stop::Stop;
 use edge_traits::{Failed, Gate, Sink, Source, write_all};
@@ -39,10 +39,12 @@ pub fn run_job<R: Threads + Sync, S: Source, K: Sink, G: Gate + Sync, P, J: Job<
     text: &mut Vec<u8>,
     sink: &mut K,
 ) -> Result<Ending, Stop>
+    requires batch { (0 < means.now.batch) × (means.now.batch ≤ MOST_BATCH) }
     requires going { J.going job.old 0 }
     requires none { J.Pile.holds piles.old.now 0 [] }
     requires ways { (J.Pile.way piles.old.now ≡ J.way job.old) × (J.Pile.way piles.old.next ≡ J.way job.old) }
-    ensures leaves { (plan : P) → J.done job.old plan [] text.old.items → LoopLeavesAll (J.lines plan) (J.report plan)
+    ensures leaves { (plan : P) → J.done job.old plan [] text.old.items →
+        LoopLeavesAll means.now.batch (J.lines plan) (J.report plan)
         (Rose (S.faults source.old) (S.faults source.new))
         link (S.left source.old) (S.left source.new) (K.put sink.old) (K.put sink.new) result }
 
@@ -103,6 +105,7 @@ fn go_through<R: Threads + Sync, S: Source, K: Sink, G: Gate + Sync, P, J: Job<P
     sink: &mut K,
 ) -> Result<Ending, Stop>
     requires start { IsAtStart reader.old }
+    requires batch { (0 < means.now.batch) × (means.now.batch ≤ MOST_BATCH) }
     requires going { J.going job.old 0 }
     requires none { J.Pile.holds piles.old.now 0 [] }
     requires ways { (J.Pile.way piles.old.now ≡ J.way job.old) × (J.Pile.way piles.old.next ≡ J.way job.old) }
@@ -110,7 +113,8 @@ fn go_through<R: Threads + Sync, S: Source, K: Sink, G: Gate + Sync, P, J: Job<P
         faults ≤ S.faults source.old →
         J.done job.old plan [] text.old.items → HasPut before (K.put sink.old) text.old.items text.old.items →
         HaveCome link first (S.left source.old) reader.old [] →
-        LoopLeavesAll (J.lines plan) (J.report plan) (Rose faults (S.faults source.new)) link first (S.left source.new)
+        LoopLeavesAll means.now.batch (J.lines plan) (J.report plan) (Rose faults (S.faults source.new)) link first
+        (S.left source.new)
         before (K.put sink.new) result }
     ensures beyond { (plan : P) (link : ℕ) (first before : Option (List ℕ)) →
         J.done job.old plan [] text.old.items → HasPut before (K.put sink.old) text.old.items text.old.items →
@@ -127,8 +131,9 @@ fn go_through<R: Threads + Sync, S: Source, K: Sink, G: Gate + Sync, P, J: Job<P
     let mut packets = 0;
     let mut ahead = 0;
     'batches: loop {
+        let batch = means.batch;
         let pile = &mut piles.now;
-        let part = read_rest(reader, source, packets, ahead, PACKET_LIMIT, pile)?;
+        let part = read_rest(reader, source, batch, packets, ahead, PACKET_LIMIT, pile)?;
         match part.ending {
             Some(ending) => {
                 let last = Last {
@@ -163,7 +168,7 @@ fn serve<R: Threads + Sync, G: Gate + Sync, P, J: Job<P>, F: FnMut() -> A, A: Dr
     beside: &mut F,
 ) -> Result<A, AllocError>
     requires going { (before : ℕ) × (packets : List (List ℕ)) × J.going job.old before
-        × J.Pile.holds pile.old before packets × (length packets ≤ BATCH)
+        × J.Pile.holds pile.old before packets × (length packets ≤ MOST_BATCH)
         × (before + length packets ≤ PACKET_LIMIT) }
     requires way { J.Pile.way pile.old ≡ J.way job.old }
     requires beside { F.pre beside.old }
@@ -209,10 +214,11 @@ fn serve_ahead<R: Threads + Sync, G: Gate + Sync, P, J: Job<P>>(
     next: &mut J::Pile,
 ) -> Result<Result<u32, AllocError>, AllocError>
     requires going { (many : ℕ) × (packets : List (List ℕ)) × J.going job.old many
-        × J.Pile.holds pile.old many packets × (length packets ≤ BATCH) × (many + length packets ≤ PACKET_LIMIT) }
+        × J.Pile.holds pile.old many packets × (length packets ≤ MOST_BATCH)
+        × (many + length packets ≤ PACKET_LIMIT) }
     requires reads { reader.old.ended ≡ false }
     requires stands { reader.old.given ≡ before }
-    requires room { before < PACKET_LIMIT }
+    requires room { (before < PACKET_LIMIT) × (means.now.batch ≤ MOST_BATCH) }
     requires none { J.Pile.holds next.old before [] }
     requires way { J.Pile.way pile.old ≡ J.way job.old }
     ensures ways { OnOk result ((J.way job.new ≡ J.way job.old) × (J.Pile.way pile.new ≡ J.Pile.way pile.old)
@@ -224,8 +230,10 @@ fn serve_ahead<R: Threads + Sync, G: Gate + Sync, P, J: Job<P>>(
         J.Pile.holds pile.old many packets → (lines : List ℕ) × (text.new.items ≡ text.old.items ++ lines)
         × J.done job.new plan (batches ++ packets ∷ []) (put ++ lines)) }
     ensures ahead { IfOk result (λ taken. IfOk taken (λ packets. (more : List (List ℕ))
-        × J.Pile.holds next.new before more × (length more ≡ packets) × IsTaken reader.old reader.new before more)) }
+        × J.Pile.holds next.new before more × (length more ≡ packets)
+        × IsTaken reader.old reader.new means.now.batch before more)) }
 {
+    let batch = means.batch;
     serve::<R, G, P, J, _, _>(
         means,
         job,
@@ -233,11 +241,11 @@ fn serve_ahead<R: Threads + Sync, G: Gate + Sync, P, J: Job<P>>(
         text,
         &mut || -> Result<u32, AllocError>
             requires { (reader.now.ended ≡ false) × (reader.now.given ≡ before) × (before < PACKET_LIMIT)
-                × J.Pile.holds next.now before [] }
+                × (batch ≤ MOST_BATCH) × J.Pile.holds next.now before [] }
             ensures { (J.Pile.way next.exit.now ≡ J.Pile.way next.entry.now)
                 × IfOk result (λ packets. (more : List (List ℕ)) × J.Pile.holds next.exit.now before more
-                × (length more ≡ packets) × IsTaken reader.entry.now reader.exit.now before more) }
-        { take_held(reader, before, next) },
+                × (length more ≡ packets) × IsTaken reader.entry.now reader.exit.now batch before more) }
+        { take_held(reader, batch, before, next) },
     )
 }
 
@@ -265,7 +273,8 @@ fn serve_one<R: Threads + Sync, K: Sink, G: Gate + Sync, P, J: Job<P>>(
     sink: &mut K,
 ) -> Result<(), Stop>
     requires going { (many : ℕ) × (packets : List (List ℕ)) × J.going job.old many
-        × J.Pile.holds pile.old many packets × (length packets ≤ BATCH) × (many + length packets ≤ PACKET_LIMIT) }
+        × J.Pile.holds pile.old many packets × (length packets ≤ MOST_BATCH)
+        × (many + length packets ≤ PACKET_LIMIT) }
     requires way { J.Pile.way pile.old ≡ J.way job.old }
     ensures going { OnOk result ((many : ℕ) (packets : List (List ℕ)) → J.going job.old many →
         J.Pile.holds pile.old many packets → J.going job.new (many + length packets)) }
@@ -306,14 +315,16 @@ fn serve_last<R: Threads + Sync, K: Sink, G: Gate + Sync, P, J: Job<P>>(
     requires piled { (packets : List (List ℕ)) × J.Pile.holds pile.old many packets
         × (length packets ≡ last.packets) }
     requires way { J.Pile.way pile.old ≡ J.way job.old }
-    requires few { (last.packets ≤ BATCH) × (many + last.packets ≤ PACKET_LIMIT) }
+    requires batch { (0 < means.now.batch) × (means.now.batch ≤ MOST_BATCH) }
+    requires few { (last.packets ≤ means.now.batch) × (many + last.packets ≤ PACKET_LIMIT) }
     requires ending { IsEnding last.ending }
     ensures leaves { (plan : P) (faults now : ℕ) (link : ℕ) (first left before : Option (List ℕ))
         (all packets : List (List ℕ)) →
-        Stands (J.done job.old plan) link first many all before (K.put sink.old) text.old.items →
+        Stands means.now.batch (J.done job.old plan) link first many all before (K.put sink.old) text.old.items →
         J.Pile.holds pile.old many packets → length packets ≡ last.packets →
         HaveEnded packet_limit link first left (all ++ packets) last.ending → IsMet (Rose faults now) last.ending →
-        LoopLeavesAll (J.lines plan) (J.report plan) (Rose faults now) link first left before (K.put sink.new) result }
+        LoopLeavesAll means.now.batch (J.lines plan) (J.report plan) (Rose faults now) link first left before
+        (K.put sink.new) result }
     ensures same { IfOk result (λ ending. ending ≡ last.ending) }
     ensures write_fault { OnNotPut result (Rose (K.faults sink.old) (K.faults sink.new)) }
     ensures writes { RunWrites result (K.failed sink.old) (K.failed sink.new) }
@@ -338,11 +349,12 @@ fn end_run<K: Sink, P, J: Job<P>>(
 ) -> Result<Ending, Stop>
     requires going { J.going job.now packets }
     requires ending { IsEnding ending }
-    ensures leaves { (plan : P) (faults now : ℕ) (link : ℕ) (first left before : Option (List ℕ)) (all : List (List ℕ))
+    ensures leaves { (plan : P) (batch faults now link : ℕ) (first left before : Option (List ℕ)) (all : List (List ℕ))
         (batches : List (List (List ℕ))) (done : List ℕ) → J.done job.now plan batches done →
-        AreBatches all batches → HasPut before (K.put sink.old) text.old.items done →
+        AreBatches batch all batches → HasPut before (K.put sink.old) text.old.items done →
         HaveEnded packet_limit link first left all ending → IsMet (Rose faults now) ending →
-        LoopLeavesAll (J.lines plan) (J.report plan) (Rose faults now) link first left before (K.put sink.new) result }
+        LoopLeavesAll batch (J.lines plan) (J.report plan) (Rose faults now) link first left before (K.put sink.new)
+        result }
     ensures same { IfOk result (λ last. last ≡ ending) }
     ensures write_fault { OnNotPut result (Rose (K.faults sink.old) (K.faults sink.new)) }
     ensures writes { RunWrites result (K.failed sink.old) (K.failed sink.new) }

@@ -17,7 +17,7 @@ use Rattle.trace_share.specs.declared.deals.Share.TheVariants.{Round, Block, Flo
 use Rattle.packet_heads.specs.declared.framing.Link.{Link}
 use Rattle.packet_heads.specs.declared.framing.Link.TheVariants as link
 use Rattle.packet_heads.specs.Heads.{plain_framing}
-use Rattle.command_line.specs.Command.{Number, capture_number, depth, extensions, items, packets, seats, seed, start}
+use Rattle.command_line.specs.Command.{Number, batch, capture_number, depth, extensions, items, packets, seats, seed, start}
 use Rattle.command_line.specs.Command.{tags}
 use Rattle.command_line.specs.CommandLines.{IsAskable, as_used, asked, asked_framing, default_plan, given_of, hash_text, is_in}
 use Rattle.command_line.specs.CommandLines.{line_of}
@@ -106,7 +106,8 @@ all_pass p h =
     (and (passes capture_number p.number (omega arith) (omega arith) h.number)
     (and (passes packets p.packets (omega arith) h.range.packets (omega arith))
     (and (passes extensions p.framing.extensions (omega arith) h.extensions (omega (arith, h.extensions)))
-    (and (tags_pass p.framing.tags h.tags) refl))))))))
+    (and (passes batch p.batch h.range.batch.0 h.range.batch.1 (omega (arith, h.range.batch.1)))
+    (and (tags_pass p.framing.tags h.tags) refl)))))))))
 
 serve_back : (p : Plan) → IsAskable p → asked Serve (given_of p) (lists_of p) ≡ Some (as_used p Serve)
 serve_back p h =
@@ -119,6 +120,7 @@ serve_back p h =
     let sh = share_back p.share in
     let rs = rows_back p.rows h.range.rows in
     let fr = framing_back p h in
+    let bt = read_back p.batch (omega (arith, h.range.batch.1)) in
     λ i. (rs i) >>= (λ rows. (s i) >>= (λ start. (hs i) >>= (λ hashing. (sh i) >>= (λ share. (fr i) >>= (λ framing.
     Some (record {
       mode = Serve;
@@ -133,6 +135,7 @@ serve_back p h =
       stops = replicate (n i) None;
       number = 0;
       packets = 1000;
+      batch = bt i;
       framing = framing;
     }))))))
 
@@ -165,6 +168,7 @@ play_back p h =
       stops = stops;
       number = 0;
       packets = 1000;
+      batch = 2048;
       framing = framing;
     }))))))))
 
@@ -184,6 +188,7 @@ trial_back p h =
     let hs = read_back (seed_of p.hashing) h.seed in
     let x = read_back p.number h.number in
     let k = read_back p.packets (omega (arith, h.range.packets)) in
+    let bt = read_back p.batch (omega (arith, h.range.batch.1)) in
     λ i. (s i) >>= (λ start. Some (record {
       mode = Trial;
       seats = n i;
@@ -197,6 +202,7 @@ trial_back p h =
       stops = replicate (n i) None;
       number = x i;
       packets = k i;
+      batch = bt i;
       framing = plain_framing;
     }))
 
@@ -205,10 +211,12 @@ totals_back p h =
     let few : p.seats ≤ 8 = omega (arith, h.range.settings.seats_in_range) in
     let n = read_back p.seats (omega arith) in
     let fr = framing_back p h in
+    let bt = read_back p.batch (omega (arith, h.range.batch.1)) in
     λ i. (fr i) >>= (λ framing. Some (record default_plan {
       mode = Totals;
       seats = n i;
       stops = replicate (n i) None;
+      batch = bt i;
       framing = framing;
     }))
 

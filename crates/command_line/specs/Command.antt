@@ -93,8 +93,12 @@ tags = number (codes "tags") 0 4 0
 abbrev pub extensions : Number
 extensions = number (codes "extensions") 0 8 0
 
+-- how many packets a batch has
+abbrev pub batch : Number
+batch = number (codes "batch") 2048 65536 2048
+
 abbrev pub numbers : List Number
-numbers = seats ∷ items ∷ depth ∷ start ∷ seed ∷ capture_number ∷ packets ∷ tags ∷ extensions ∷ []
+numbers = seats ∷ items ∷ depth ∷ start ∷ seed ∷ capture_number ∷ packets ∷ tags ∷ extensions ∷ batch ∷ []
 
 abbrev pub texts : List Text
 texts = codes "hash" ∷ codes "share" ∷ codes "rows" ∷ codes "schedule" ∷ codes "stop" ∷ codes "link" ∷ []

@@ -15,7 +15,7 @@ use Rattle.packet_heads.specs.declared.framing.Framing.{Framing}
 use Rattle.packet_heads.specs.declared.framing.Link.{Link}
 use Rattle.packet_heads.specs.declared.framing.Link.TheVariants as link
 use Rattle.packet_heads.specs.Heads.{plain_framing}
-use Rattle.command_line.specs.Command.{Number, capture_number, depth, extensions, flowdir_app, items, packets, seats}
+use Rattle.command_line.specs.Command.{Number, batch, capture_number, depth, extensions, flowdir_app, items, packets, seats}
 use Rattle.command_line.specs.Command.{seed, start, tags}
 use Rattle.command_line.specs.Plays.{colon, most_segments, most_slots, most_steps, star}
 use Rattle.command_line.specs.Texts.{comma}
@@ -45,6 +45,7 @@ default_plan = record {
   stops = None ∷ None ∷ [];
   number = 0;
   packets = 1000;
+  batch = 2048;
   framing = plain_framing;
 }
 
@@ -66,6 +67,7 @@ pub record Given : Type 0 where
   pub packets : Text
   pub link : Text
   pub extensions : Text
+  pub batch : Text
 
 abbrev pub mode_text : Mode → Text
 mode_text Serve = codes "serve"
@@ -80,7 +82,7 @@ line_with mode g more = mode_text mode ∷ (codes "--seats=" ++ g.seats) ∷ (co
     ∷ (codes "--depth=" ++ g.depth) ∷ (codes "--start=" ++ g.start) ∷ (codes "--hash=" ++ g.hash)
     ∷ (codes "--seed=" ++ g.seed) ∷ (codes "--share=" ++ g.share) ∷ (codes "--number=" ++ g.number)
     ∷ (codes "--packets=" ++ g.packets) ∷ (codes "--link=" ++ g.link)
-    ∷ (codes "--extensions=" ++ g.extensions) ∷ more
+    ∷ (codes "--extensions=" ++ g.extensions) ∷ (codes "--batch=" ++ g.batch) ∷ more
 
 -- the texts that have no default
 pub record Lists : Type 0 where
@@ -104,10 +106,10 @@ is_in n text = is_unsigned_in n.least n.most text
 
 -- is each number one in its range?
 abbrev pub tests : Given → Lists → List Bool
-tests g lists = is_in seats g.seats ∷ is_in items g.items ∷ is_in depth g.depth ∷ is_in start g.start ∷ is_in seed
-    g.seed
+tests g lists =
+    is_in seats g.seats ∷ is_in items g.items ∷ is_in depth g.depth ∷ is_in start g.start ∷ is_in seed g.seed
     ∷ is_in capture_number g.number ∷ is_in packets g.packets ∷ is_in extensions g.extensions
-    ∷ option_map_or (is_in tags) lists.tags true ∷ []
+    ∷ is_in batch g.batch ∷ option_map_or (is_in tags) lists.tags true ∷ []
 
 -- how the packets of a capture are framed, by the texts
 abbrev pub asked_framing : Given → Lists → Option Framing
@@ -136,6 +138,7 @@ asked Serve g lists = do
     stops = replicate (decimal g.seats) None;
     number = 0;
     packets = 1000;
+    batch = decimal g.batch;
     framing = framing;
   })
 asked Play g lists = do
@@ -159,6 +162,7 @@ asked Play g lists = do
     stops = stops;
     number = 0;
     packets = 1000;
+    batch = 2048;
     framing = framing;
   })
 asked Make g lists = Some (record default_plan {
@@ -181,6 +185,7 @@ asked Trial g lists = do
     stops = replicate (decimal g.seats) None;
     number = decimal g.number;
     packets = decimal g.packets;
+    batch = decimal g.batch;
     framing = plain_framing;
   })
 asked Totals g lists = do
@@ -189,6 +194,7 @@ asked Totals g lists = do
     mode = Totals;
     seats = decimal g.seats;
     stops = replicate (decimal g.seats) None;
+    batch = decimal g.batch;
     framing = framing;
   })
 asked Check g lists = Some (record default_plan { mode = Check })
@@ -234,6 +240,7 @@ given_of p = record {
   packets = written p.packets;
   link = link_text p.framing.link;
   extensions = written p.framing.extensions;
+  batch = written p.batch;
 }
 
 -- four numbers with commas between
@@ -307,6 +314,7 @@ as_used p Serve = record {
   stops = replicate p.seats None;
   number = 0;
   packets = 1000;
+  batch = p.batch;
   framing = p.framing;
 }
 as_used p Play = record {
@@ -322,6 +330,7 @@ as_used p Play = record {
   stops = p.stops;
   number = 0;
   packets = 1000;
+  batch = 2048;
   framing = p.framing;
 }
 as_used p Make = record default_plan { mode = Make; number = p.number; packets = p.packets }
@@ -338,12 +347,14 @@ as_used p Trial = record {
   stops = replicate p.seats None;
   number = p.number;
   packets = p.packets;
+  batch = p.batch;
   framing = plain_framing;
 }
 as_used p Totals = record default_plan {
   mode = Totals;
   seats = p.seats;
   stops = replicate p.seats None;
+  batch = p.batch;
   framing = p.framing;
 }
 as_used p Check = record default_plan { mode = Check }

@@ -14,14 +14,15 @@ use Rattle.clap.specs.Simple.{matches_of}
 use Rattle.clap.specs.Faults.{fault_of}
 use Rattle.hash_bits.specs.declared.hashing.Hashing.{Hashing}
 use Rattle.hash_bits.specs.declared.hashing.Hashing.TheVariants.{Mix, Ports}
-use Rattle.step_counts.specs.Ranges.{AreInRange}
+use Rattle.step_counts.specs.Ranges.{AreInRange, IsWithin}
 use Rattle.step_counts.specs.declared.rows.SeatRows.{SeatRows}
 use Rattle.trace_share.specs.declared.deals.Share.{Share}
 use Rattle.trace_share.specs.declared.deals.Share.TheVariants.{Round, Block, Flow}
 use Rattle.packet_heads.specs.declared.framing.Framing.{Framing}
 use Rattle.packet_heads.specs.declared.framing.Link.{Link}
 use Rattle.packet_heads.specs.declared.framing.Link.TheVariants as link
-use Rattle.command_line.specs.Command.{Number, capture_number, depth, extensions, flowdir_app, items, packets, seats, seed, start}
+use Rattle.command_line.specs.Command.{Number, batch, capture_number, depth, extensions, flowdir_app, items, packets}
+use Rattle.command_line.specs.Command.{seats, seed, start}
 use Rattle.command_line.specs.Plays.{schedule_of, stops_of}
 use Rattle.command_line.specs.Texts.{AreRowsInRange, at_most, rows_of}
 use Rattle.line_fields.specs.Reading.{◌>>=◌}
@@ -84,6 +85,15 @@ makes_capture mode.Make = true
 makes_capture mode.Trial = true
 makes_capture mode.Totals = false
 makes_capture mode.Check = false
+
+-- the mode goes through a capture batch by batch: it uses `batch`
+abbrev pub has_batches : Mode → Bool
+has_batches mode.Serve = true
+has_batches mode.Play = false
+has_batches mode.Make = false
+has_batches mode.Trial = true
+has_batches mode.Totals = true
+has_batches mode.Check = false
 
 -- the mode reads a capture: it uses `link`, `tags` and `extensions`
 abbrev pub reads_capture : Mode → Bool
@@ -229,6 +239,7 @@ plan_with mode rows schedule stops given = do
     stops = stops;
     number = number_if (makes_capture mode) given capture_number;
     packets = number_if (makes_capture mode) given packets;
+    batch = number_if (has_batches mode) given batch;
     framing = framing;
   })
 
@@ -246,6 +257,7 @@ pub record IsInRange (p : Plan) : Type 0 where
   pub settings : AreInRange p.seats p.items p.depth p.start
   pub rows : IfSome p.rows AreRowsInRange
   pub packets : p.packets ≤ packets.most
+  pub batch : IsWithin 2048 65536 p.batch
 
 -- the plan that the words ask for: none where the command does not take them
 unfoldable pub reads : List Text → Option Plan

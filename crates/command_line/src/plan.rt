@@ -49,6 +49,8 @@ pub struct Plan {
     pub number: u64,
     /// How many packets the made capture has, 0 to 4,000,000.
     pub packets: u32,
+    /// How many packets a batch has, 2,048 to 65,536; the last one may have fewer.
+    pub batch: u32,
     /// The link type of the capture that is read, and what is looked through in its packets.
     pub framing: Framing,
 }

@@ -14,7 +14,7 @@ use Rattle.mode_parts.proofs.CallLemmas.{MakeCalls-more}
 
 -- the next packet was taken
 pub holds_more : (old new : CallPile) (before : ℕ) (packets : List (List ℕ)) (packet : List ℕ) (number : ℕ) →
-    HoldsCalls old before packets → number ≡ before + length packets + 1 → length packets + 1 ≤ 2048 →
+    HoldsCalls old before packets → number ≡ before + length packets + 1 → length packets + 1 ≤ 65536 →
     TakesCall old.framing number packet old.calls.items new.calls.items →
     ((first last : ℕ) → AreBetween first last old.calls.items → number ≡ last + 1 →
     AreBetween first number new.calls.items) →

@@ -1,5 +1,5 @@
 -- How the calls of a plan are served, and what the head line tells of it.
-use Rattle.std.specs.Prelude.{◌≡◌, Bool}
+use Rattle.std.specs.Prelude.{◌≡◌, Bool, if◌then◌else◌}
 use Rattle.step_counts.specs.Made.{IsMadeOf}
 use Rattle.report_text.specs.declared.parts.Head.{Head}
 use Rattle.batch_deals.specs.declared.service.Service.{Service}
@@ -12,7 +12,7 @@ pub record IsServiceOf (plan : Plan) (service : Service) : Type 0 where
   pub share : service.share ≡ plan.share
   pub rows : service.rows ≡ plan.rows
 
--- what the head line tells, of a play or of calls that are served
+-- what the head line tells, of a play or of calls that are served; a play has one batch
 abbrev pub head_of : (play : Bool) → Plan → Head
 head_of play plan =
     record {
@@ -23,4 +23,5 @@ head_of play plan =
       start = plan.start;
       hashing = plan.hashing;
       share = plan.share;
+      batch = if play then 2048 else plan.batch;
     }

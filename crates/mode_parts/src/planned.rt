@@ -7,6 +7,7 @@ ghost use Rattle.command_line.specs.Words.{IsInRange};
 ghost use Rattle.mode_parts.specs.Planned.{IsServiceOf, head_of};
 
 use batch_deals::Service;
+use capture_loop::BATCH;
 use command_line::Plan;
 use report_text::Head;
 use step_counts::Settings;
@@ -40,5 +41,6 @@ pub fn head_of(play: bool, plan: &Plan) -> Head
         start: plan.start,
         hashing: plan.hashing,
         share: plan.share,
+        batch: if play { BATCH } else { plan.batch },
     }
 }

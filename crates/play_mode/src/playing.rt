@@ -23,7 +23,7 @@ ghost use Rattle.play_mode.specs.Playing.{IsPlayOf, LeavesPlayed, play_in, play_
 use crate::laws::playing_laws;
 use batch_deals::Service;
 use batch_rows::updates_of;
-use capture_loop::{Unopened, mark, open, read_rest};
+use capture_loop::{BATCH, Unopened, mark, open, read_rest};
 use command_line::Plan;
 use core_steps::CoreWorld;
 use edge_traits::{Failed, Sink, Source, write_all};
@@ -115,7 +115,7 @@ fn read_input<S: Source>(
     match open(alloc, framing.link.number(), source) {
         Ok(mut reader) => {
             let mut pile = CallPile::with_room(alloc, service, framing, PLAY_LIMIT as usize)?;
-            let part = read_rest(&mut reader, source, 0, 0, PLAY_LIMIT, &mut pile)?;
+            let part = read_rest(&mut reader, source, BATCH, 0, 0, PLAY_LIMIT, &mut pile)?;
             match part.ending {
                 Some(ending) => Ok(Input {
                     packets: part.packets,

@@ -84,7 +84,7 @@ ends_body b is =
 
 some_head : Head
 some_head =
-    record { play = false; seats = 1; items = 1; depth = 0; start = 0; hashing = Mix 0; share = Round }
+    record { play = false; seats = 1; items = 1; depth = 0; start = 0; hashing = Mix 0; share = Round; batch = 2048 }
 
 some_head_is : IsHead some_head
 unfolding some_head
@@ -96,6 +96,7 @@ some_head_is = record {
     start_in_range = (omega arith, omega arith);
   };
   seed = omega arith;
+  batch = record { range = (omega arith, omega arith); one = λ play. refl };
 }
 
 ends_start : Ends start

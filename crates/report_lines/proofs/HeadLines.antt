@@ -1,16 +1,19 @@
 -- The head line can be read back.
-use Rattle.std.proofs.Common.{◌≡◌, ℕ, ◌≤◌, nat_lt, nat_le, ◌&&◌, Bool, true, cond, codes, List, [], ◌∷◌, ◌++◌, Some, None, refl, sym, ap, ◌∙◌, arith}
+use Rattle.std.proofs.Common.{◌≡◌, ℕ, ◌≤◌, nat_lt, nat_le, ◌&&◌, Bool, true, cond, codes, List, [], ◌∷◌, ◌++◌, Option, Some, None, refl, sym, ap, ◌∙◌, arith}
 use Rattle.std.specs.Prelude.{decimal}
 use Rattle.std.proofs.lemmas.Option.{cond_some}
 use Rattle.hash_bits.specs.declared.hashing.Hashing.{Hashing}
 use Rattle.hash_bits.specs.declared.hashing.Hashing.TheVariants.{Mix, Ports}
 use Rattle.trace_share.specs.declared.deals.Share.{Share}
-use Rattle.report_text.specs.Report.{head_line, hash_words, mode_word, share_word}
+use Rattle.report_text.specs.Report.{batch_words, head_line, hash_words, mode_word, share_word}
 use Rattle.report_text.specs.declared.parts.Head.{Head}
+use Rattle.line_fields.proofs.BindLemmas.{bind_some}
+use Rattle.line_fields.specs.Reading.{◌>>=◌}
 use Rattle.report_told.specs.Rules.{IsHead, seed_in}
 use Rattle.report_lines.specs.Fields.{most_64}
-use Rattle.report_lines.specs.Lines.{head_at, head_behind, ranged}
+use Rattle.report_lines.specs.Lines.{batch_at, head_at, head_behind, ranged}
 use Rattle.report_lines.proofs.Behind.{behind, line_behind}
+use Rattle.report_lines.proofs.BatchField.{BatchTakes, batch_again, batch_cut, batch_takes, batch_text}
 use Rattle.report_lines.proofs.HeadFields.{hashing_text}
 use Rattle.report_lines.proofs.PartLaws.{number, mode, hashing, share, Part, known, field, Values, spelled, Fitting, ReadSo, Finds, IsLine, found_as, reads_again, reads_takes}
 
@@ -18,14 +21,14 @@ abbrev head_parts : List Part
 head_parts =
     known (codes "flowdir ") ∷ field mode ∷ known (codes " seats ") ∷ field (number 8) ∷ known (codes " items ")
     ∷ field (number 16) ∷ known (codes " depth ") ∷ field (number 12) ∷ known (codes " start ") ∷ field (number 12)
-    ∷ known (codes " hash ") ∷ field hashing ∷ known (codes " share ") ∷ field share ∷ known (codes "\n") ∷ []
+    ∷ known (codes " hash ") ∷ field hashing ∷ known (codes " share ") ∷ field share ∷ []
 
 abbrev head_values : Head → Values head_parts
 head_values head =
     (head.play, (head.seats, (head.items, (head.depth, (head.start, (head.hashing, (head.share, tt)))))))
 
-abbrev head_of : Values head_parts → Head
-head_of values = record {
+abbrev head_of : Values head_parts → (batch : ℕ) → Head
+head_of values batch = record {
   play = values.0;
   seats = values.1.0;
   items = values.1.1.0;
@@ -33,29 +36,36 @@ head_of values = record {
   start = values.1.1.1.1.0;
   hashing = values.1.1.1.1.1.0;
   share = values.1.1.1.1.1.1.0;
+  batch = batch;
 }
 
+-- what is read behind the share
+abbrev head_made : Values head_parts → List ℕ → Option (Head × List ℕ)
+head_made values left = batch_at values.0 left >>= λ batch. ranged (head_of values batch.0) batch.1
+
 -- the words behind `hash`
-hash_behind : (hash : Hashing) (dealt : Share) (rest : List ℕ) →
-    behind (hash_words hash ++ (codes "share" ∷ share_word dealt ∷ [])) rest
-    ≡ 32 ∷ (hashing_text hash ++ (codes " share " ++ (share_word dealt ++ (10 ∷ rest))))
-hash_behind (Mix seed) dealt rest = refl
-hash_behind (Ports seed) dealt rest = refl
+hash_behind : (hash : Hashing) (dealt : Share) (more : List (List ℕ)) (rest : List ℕ) →
+    behind (hash_words hash ++ (codes "share" ∷ share_word dealt ∷ more)) rest
+    ≡ 32 ∷ (hashing_text hash ++ (codes " share " ++ (share_word dealt ++ behind more rest)))
+hash_behind (Mix seed) dealt more rest = refl
+hash_behind (Ports seed) dealt more rest = refl
 
 abbrev pub head_text : Head → List ℕ → List ℕ
 head_text head rest = head_line head ++ rest
 
-head_spelled : (head : Head) (rest : List ℕ) → head_text head rest ≡ spelled head_parts (head_values head) rest
+head_spelled : (head : Head) (rest : List ℕ) →
+    head_text head rest ≡ spelled head_parts (head_values head) (batch_text head.batch rest)
 unfolding head_line
 head_spelled head rest =
     line_behind (codes "flowdir") (mode_word head.play
     ∷ codes "seats" ∷ decimal head.seats ∷ codes "items" ∷ decimal head.items
     ∷ codes "depth" ∷ decimal head.depth ∷ codes "start" ∷ decimal head.start
-    ∷ codes "hash" ∷ (hash_words head.hashing ++ (codes "share" ∷ share_word head.share ∷ []))) rest
+    ∷ codes "hash" ∷ (hash_words head.hashing
+    ++ (codes "share" ∷ share_word head.share ∷ batch_words head.batch))) rest
     ∙ ap (λ (b : List ℕ). codes "flowdir " ++ (mode_word head.play ++ (codes " seats " ++ (decimal head.seats
     ++ (codes " items " ++ (decimal head.items ++ (codes " depth " ++ (decimal head.depth ++ (codes " start "
     ++ (decimal head.start ++ (codes " hash" ++ b)))))))))))
-    (hash_behind head.hashing head.share rest)
+    (hash_behind head.hashing head.share (batch_words head.batch) rest)
 
 in_range : (head : Head) → IsHead head →
     (nat_lt 0 head.seats && nat_lt 0 head.items && nat_le head.start head.depth) ≡ true
@@ -74,32 +84,37 @@ head_again head rest is =
     let start : head.start ≤ 12 = omega (arith, is.settings.start_in_range.1) in
     let seed : seed_in head.hashing ≤ most_64 = omega (arith, is.seed) in
     ap head_at (head_spelled head rest)
-    ∙ reads_again head_parts (λ values left. ranged (head_of values) left) (head_values head) rest (omega arith)
+    ∙ reads_again head_parts head_made (head_values head) (batch_text head.batch rest) (omega arith)
     (tt, (seats, (items, (depth, (start, (seed, (tt, tt)))))))
-    (refl, (refl, (refl, (refl, (refl, (refl, (refl, tt)))))))
+    (refl, (refl, (refl, (refl, (refl, (refl, (batch_cut head.batch rest, tt)))))))
+    ∙ ap (λ (o : Option (ℕ × List ℕ)). o >>= λ batch. ranged (head_of (head_values head) batch.0) batch.1)
+    (batch_again head.play head.batch rest is.batch)
     ∙ ap (λ (b : Bool). cond b (Some (head, rest)) None) (in_range head is)
 
 range_is : (seats items depth start : ℕ) → (nat_lt 0 seats && nat_lt 0 items && nat_le start depth) ≡ true →
     (1 ≤ seats) × (1 ≤ items) × (start ≤ depth)
 range_is seats items depth start test = (grind arith, grind arith, grind arith)
 
-found_head : (bytes : List ℕ) (head : Head) (rest : List ℕ) (values : Values head_parts) (left : List ℕ) →
-    bytes ≡ spelled head_parts values left → Fitting head_parts values →
-    ranged (head_of values) left ≡ Some (head, rest) → Finds head_text IsHead bytes head rest
-found_head bytes head rest values left text fits then =
-    let made : Head = head_of values in
-    let tested : ((nat_lt 0 (head_of values).seats && nat_lt 0 (head_of values).items
-    && nat_le (head_of values).start (head_of values).depth) ≡ true)
-    × (◌≡◌ {A = Head × List ℕ} (head_of values, left) (head, rest)) =
-    cond_some (nat_lt 0 (head_of values).seats && nat_lt 0 (head_of values).items
-    && nat_le (head_of values).start (head_of values).depth) (head_of values, left) (head, rest) then in
-    let range : (1 ≤ (head_of values).seats) × (1 ≤ (head_of values).items)
-    × ((head_of values).start ≤ (head_of values).depth) =
-    range_is (head_of values).seats (head_of values).items (head_of values).depth (head_of values).start
-    tested.0 in
-    let seed : seed_in (head_of values).hashing ≤ most_64 = fits.1.1.1.1.1.0 in
-    let found : Finds head_text IsHead bytes (head_of values) left = record {
-      text_is = text ∙ sym (head_spelled (head_of values) left);
+found_head : (bytes : List ℕ) (head : Head) (rest : List ℕ) (values : Values head_parts) (left : List ℕ) (batch : ℕ)
+    (last : List ℕ) → bytes ≡ spelled head_parts values left → Fitting head_parts values →
+    BatchTakes values.0 left batch last → ranged (head_of values batch) last ≡ Some (head, rest) →
+    Finds head_text IsHead bytes head rest
+found_head bytes head rest values left batch last text fits line then =
+    let tested : ((nat_lt 0 (head_of values batch).seats && nat_lt 0 (head_of values batch).items
+    && nat_le (head_of values batch).start (head_of values batch).depth) ≡ true)
+    × (◌≡◌ {A = Head × List ℕ} (head_of values batch, last) (head, rest)) =
+    cond_some (nat_lt 0 (head_of values batch).seats && nat_lt 0 (head_of values batch).items
+    && nat_le (head_of values batch).start (head_of values batch).depth) (head_of values batch, last) (head, rest) then
+    in
+    let range : (1 ≤ (head_of values batch).seats) × (1 ≤ (head_of values batch).items)
+    × ((head_of values batch).start ≤ (head_of values batch).depth) =
+    range_is (head_of values batch).seats (head_of values batch).items (head_of values batch).depth
+    (head_of values batch).start tested.0 in
+    let seed : seed_in (head_of values batch).hashing ≤ most_64 = fits.1.1.1.1.1.0 in
+    let found : Finds head_text IsHead bytes (head_of values batch) last = record {
+      text_is =
+          text ∙ ap (λ (b : List ℕ). spelled head_parts values b) line.text_is
+          ∙ sym (head_spelled (head_of values batch) last);
       fits = record {
         settings = record {
           seats_in_range = (range.0, fits.1.0);
@@ -108,18 +123,22 @@ found_head bytes head rest values left text fits then =
           start_in_range = (omega arith, range.2);
         };
         seed = omega (arith, seed);
+        batch = line.fits;
       };
     } in
-    found_as head_text IsHead bytes (head_of values) head left rest found
+    found_as head_text IsHead bytes (head_of values batch) head last rest found
     (ap (λ (x : Head × List ℕ). Some x) tested.1)
 
 head_takes : (bytes : List ℕ) (head : Head) (rest : List ℕ) → head_at bytes ≡ Some (head, rest) →
     Finds head_text IsHead bytes head rest
 unfolding head_at head_behind
 head_takes bytes head rest is =
-    let read : ReadSo head_parts (λ values left. ranged (head_of values) left) bytes (head, rest) =
-    reads_takes head_parts (λ values left. ranged (head_of values) left) bytes (head, rest) (omega arith) is in
-    found_head bytes head rest read.values read.left read.text read.fits read.then
+    let read : ReadSo head_parts head_made bytes (head, rest) =
+    reads_takes head_parts head_made bytes (head, rest) (omega arith) is in
+    let last = bind_some (batch_at read.values.0 read.left)
+    (λ batch. ranged (head_of read.values batch.0) batch.1) (head, rest) read.then in
+    found_head bytes head rest read.values read.left last.0.0 last.0.1 read.text read.fits
+    (batch_takes read.values.0 read.left last.0.0 last.0.1 last.1) last.2
 
 pub head_is_line : IsLine head_at head_text IsHead
 head_is_line = record { again = head_again; takes = head_takes }

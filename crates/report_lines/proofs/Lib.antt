@@ -7,6 +7,7 @@ pub mod FaultFields
 pub mod InputFields
 pub mod SeenFields
 pub mod PartLaws
+pub mod BatchField
 pub mod Behind
 pub mod TailLines
 pub mod HeadLines

@@ -25,7 +25,7 @@ use Rattle.line_fields.proofs.Feeds.{HasNoFeed, no_feed-append}
 use Rattle.line_fields.proofs.Scan.{IsCut}
 use Rattle.flow_reading.specs.Flows.{IsFlow}
 use Rattle.report_text.specs.Lines.{line, spaced, counts_word, hexadecimal}
-use Rattle.report_text.specs.Report.{head_line, mode_word, share_word, hash_words, call_words, steps_words, after_words, full_words, short_word, session_line, input_line, ending_words, capture_words, fault_words}
+use Rattle.report_text.specs.Report.{batch_words, head_line, mode_word, share_word, hash_words, call_words, steps_words, after_words, full_words, short_word, session_line, input_line, ending_words, capture_words, fault_words}
 use Rattle.report_text.specs.declared.parts.Head.{Head}
 use Rattle.report_text.specs.declared.parts.Ending.{Ending}
 use Rattle.report_text.specs.declared.parts.Ending.TheVariants.{Done, ReadFault, Limit, Fault}
@@ -101,6 +101,13 @@ hash_feeds (Mix seed) small =
 hash_feeds (Ports seed) small =
     (no_feed-known (codes "ports") refl, (no_feed-known (codes "seed") refl, (number seed (omega arith), tt)))
 
+batch_feeds : (batch : ℕ) → batch ≤ 65536 → NoFeeds (batch_words batch)
+batch_feeds batch small = go (batch == 2048)
+  where
+    go : (b : Bool) → NoFeeds (cond b [] (codes "batch" ∷ decimal batch ∷ []))
+    go true = tt
+    go false = (no_feed-known (codes "batch") refl, (number batch (omega arith), tt))
+
 pub head_cut : (head : Head) → IsHead head → IsCut (head_line head)
 unfolding head_line
 head_cut head is =
@@ -128,9 +135,12 @@ head_cut head is =
                       number head.start (omega arith),
                       (
                         no_feed-known (codes "hash") refl,
-                        no_feeds-append (hash_words head.hashing) (codes "share" ∷ share_word head.share ∷ [])
-                            (hash_feeds head.hashing is.seed)
-                            (no_feed-known (codes "share") refl, (share_feed head.share, tt)),
+                        no_feeds-append (hash_words head.hashing)
+                            (codes "share" ∷ share_word head.share ∷ batch_words head.batch)
+                            (hash_feeds head.hashing is.seed) (
+                              no_feed-known (codes "share") refl,
+                              (share_feed head.share, batch_feeds head.batch is.batch.range.1),
+                            ),
                       ),
                     ),
                   ),

@@ -1,6 +1,6 @@
 -- The lines of a report, each read at the front of some bytes: what it tells and the bytes behind it, or nothing.
 -- Source: docs/FORMATS.md, the report.
-use Rattle.std.specs.Prelude.{◌≡◌, ℕ, Bool, ◌++◌, nat_lt, nat_le, ◌&&◌, List, [], codes, length, if◌then◌else◌, Option, Some, None}
+use Rattle.std.specs.Prelude.{◌≡◌, ℕ, Bool, not, ◌++◌, nat_lt, nat_le, ◌&&◌, List, [], codes, length, if◌then◌else◌, Option, Some, None}
 use Rattle.plain_map.specs.declared.keys.Pair.{Pair}
 use Rattle.plain_map.specs.declared.calls.Call.{Call}
 use Rattle.plain_map.specs.declared.records.Seen.{Seen}
@@ -24,6 +24,19 @@ abbrev pub ranged : Head → List ℕ → Option (Head × List ℕ)
 ranged head rest =
     if nat_lt 0 head.seats && nat_lt 0 head.items && nat_le head.start head.depth then Some (head, rest) else None
 
+-- ` batch N` and the end of the line, of calls that are served in batches of another number than 2,048
+abbrev pub told_batch : (play : Bool) → List ℕ → Option (ℕ × List ℕ)
+told_batch play bytes = do
+  batch ← number_at 65536 bytes
+  rest ← text_at (codes "\n") batch.1
+  if not play && nat_lt 2048 batch.0 then Some (batch.0, rest) else None
+
+-- how many packets a batch has, and the end of the line
+unfoldable pub batch_at : (play : Bool) → List ℕ → Option (ℕ × List ℕ)
+batch_at play bytes =
+    behind_or (text_at (codes "\n") bytes) (λ rest. Some (2048, rest))
+    (behind_or (text_at (codes " batch ") bytes) (told_batch play) None)
+
 -- the head line behind the items of a class
 unfoldable pub head_behind : (play : Bool) (seats items : ℕ) → List ℕ → Option (Head × List ℕ)
 head_behind play seats items bytes = do
@@ -35,7 +48,7 @@ head_behind play seats items bytes = do
   hashing ← hashing_at before_hash
   before_share ← text_at (codes " share ") hashing.1
   share ← share_at before_share
-  rest ← text_at (codes "\n") share.1
+  batch ← batch_at play share.1
   ranged (record {
     play = play;
     seats = seats;
@@ -44,7 +57,8 @@ head_behind play seats items bytes = do
     start = start.0;
     hashing = hashing.0;
     share = share.0;
-  }) rest
+    batch = batch.0;
+  }) batch.1
 
 -- the head line
 unfoldable pub head_at : List ℕ → Option (Head × List ℕ)

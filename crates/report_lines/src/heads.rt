@@ -3,7 +3,7 @@
 ghost use Rattle.std.specs.Prelude.{◌≡◌};
 ghost use Rattle.line_fields.specs.Reading.{Gives};
 ghost use Rattle.report_lines.specs.Fields.{hashing_at, mode_at, share_at};
-ghost use Rattle.report_lines.specs.Lines.{head_at, head_behind};
+ghost use Rattle.report_lines.specs.Lines.{batch_at, head_at, head_behind};
 
 use hash_bits::Hashing;
 use line_fields::{number, text};
@@ -37,7 +37,7 @@ fn head_behind(play: bool, seats: u32, items: u32, bytes: &[u8]) -> Option<(Head
     let (hashing, rest) = hashing(rest)?;
     let rest = text(rest, b" share ")?;
     let (share, rest) = share(rest)?;
-    let rest = text(rest, b"\n")?;
+    let (batch, rest) = batch(play, rest)?;
     let head = Head {
         play,
         seats,
@@ -46,9 +46,28 @@ fn head_behind(play: bool, seats: u32, items: u32, bytes: &[u8]) -> Option<(Head
         start: start as u32,
         hashing,
         share,
+        batch,
     };
     if seats > 0 && items > 0 && start <= depth {
         Some((head, rest))
+    } else {
+        None
+    }
+}
+
+// How many packets a batch has, and the bytes behind the line.
+#[tactic(auto, unfolding(crate::specs::Lines::batch_at))]
+fn batch(play: bool, bytes: &[u8]) -> Option<(u32, &[u8])>
+    ensures { Gives (λ x. (x.0, x.1.now)) result (batch_at play bytes.now) }
+{
+    if let Some(rest) = text(bytes, b"\n") {
+        return Some((2_048, rest));
+    }
+    let rest = text(bytes, b" batch ")?;
+    let (batch, rest) = number(rest, 65_536)?;
+    let rest = text(rest, b"\n")?;
+    if !play && batch > 2_048 {
+        Some((batch as u32, rest))
     } else {
         None
     }

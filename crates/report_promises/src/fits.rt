@@ -4,7 +4,7 @@ ghost use Rattle.std.specs.Prelude.{◌≡◌, ◌<◌, ◌^◌};
 ghost use Rattle.step_counts.specs.Made.{IsMadeOf};
 ghost use Rattle.step_counts.specs.StepCounts.{step_bound};
 ghost use Rattle.report_text.specs.Report.{IsCaptureFault, IsEnding, IsFormatFault};
-ghost use Rattle.report_told.specs.Rules.{IsAnyFaultTold, IsEndingTold, IsFaultTold, IsHead, IsTail, seed_in};
+ghost use Rattle.report_told.specs.Rules.{IsAnyFaultTold, IsBatch, IsEndingTold, IsFaultTold, IsHead, IsTail, seed_in};
 
 use capture_faults::{AnyFault, CaptureFault};
 use hash_bits::Hashing;
@@ -101,7 +101,8 @@ pub fn ending_fits(ending: Ending)
 
 /// A head of these settings can be told.
 pub fn head_fits(head: &Head, settings: &Settings)
-    requires { IsMadeOf settings.now head.now.seats head.now.items head.now.depth head.now.start }
+    requires settings { IsMadeOf settings.now head.now.seats head.now.items head.now.depth head.now.start }
+    requires batch { IsBatch head.now.play head.now.batch }
     ensures { IsHead head.now }
 {
     seed_fits(head.hashing);

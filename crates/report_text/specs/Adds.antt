@@ -8,7 +8,7 @@ use Rattle.plain_map.specs.declared.records.CallId.{CallId}
 use Rattle.batch_history.specs.Batches.{with_counts}
 use Rattle.report_text.specs.declared.adds.TotalsTail.{TotalsTail}
 use Rattle.report_text.specs.Lines.{line}
-use Rattle.report_text.specs.Report.{after_words, input_line, order_lines, steps_words}
+use Rattle.report_text.specs.Report.{after_words, batch_words, input_line, order_lines, steps_words}
 
 -- the word for a class
 abbrev pub class_word : ℕ → List ℕ
@@ -16,9 +16,10 @@ class_word zero = codes "tcp"
 class_word (suc zero) = codes "udp"
 class_word (suc (suc other)) = codes "passed"
 
--- `flowdir totals seats N`
-unfoldable pub totals_head : ℕ → List ℕ
-totals_head seats = line (codes "flowdir" ∷ codes "totals" ∷ codes "seats" ∷ decimal seats ∷ [])
+-- `flowdir totals seats N`, and then ` batch M` or nothing
+unfoldable pub totals_head : (seats batch : ℕ) → List ℕ
+totals_head seats batch =
+    line (codes "flowdir" ∷ codes "totals" ∷ codes "seats" ∷ decimal seats ∷ batch_words batch)
 
 -- what was answered when the seats had made so many adds before
 abbrev pub added_on : (before : List ℕ) → Added → Added
@@ -59,11 +60,12 @@ add_batch_lines seats batch = flat_map (add_line seats) batch.answers ++ order_l
 
 pub record TotalsReport : Type 0 where
   pub seats : ℕ
+  pub batch : ℕ
   pub batches : List AddBatch
   pub tail : TotalsTail
 
 -- the whole text
 unfoldable pub totals_report : TotalsReport → List ℕ
 totals_report report =
-    totals_head report.seats
+    totals_head report.seats report.batch
     ++ (flat_map (add_batch_lines report.seats) report.batches ++ totals_tail report.tail)

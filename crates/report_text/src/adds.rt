@@ -7,6 +7,7 @@ ghost use Rattle.report_text.specs.Report.{IsEnding};
 ghost use Rattle.report_text.specs.Lines.{room, Puts, text_in};
 
 use crate::calls::put_after;
+use crate::head::put_batch;
 use crate::line::Line;
 use crate::parts::Ending;
 use crate::pieces::{append, begin_line, end_line, put_named, put_number, put_word};
@@ -27,12 +28,12 @@ pub struct TotalsTail {
 }
 
 /// Appends the head line.
-pub fn totals_head_text(out: &mut Vec<u8>, seats: u32) -> Result<(), AllocError>
-    ensures appended { OnOk result (out.new.items ≡ out.old.items ++ totals_head seats) }
+pub fn totals_head_text(out: &mut Vec<u8>, seats: u32, batch: u32) -> Result<(), AllocError>
+    ensures appended { OnOk result (out.new.items ≡ out.old.items ++ totals_head seats batch) }
     ensures kept { OnErr result (out.new.items ≡ out.old.items) }
 {
     let mut line = Line::new();
-    put_head(&mut line, seats);
+    put_head(&mut line, seats, batch);
     append(out, &line)
 }
 
@@ -69,13 +70,14 @@ pub fn totals_tail_text(out: &mut Vec<u8>, tail: &TotalsTail) -> Result<(), Allo
 }
 
 // Appends the head line.
-fn put_head(out: &mut Line, seats: u32)
+fn put_head(out: &mut Line, seats: u32, batch: u32)
     requires { 64 ≤ room out.old }
-    ensures { text_in out.new ≡ text_in out.old ++ totals_head seats }
+    ensures { text_in out.new ≡ text_in out.old ++ totals_head seats batch }
 {
     begin_line(out, b"flowdir");
     put_word(out, b"totals");
     put_named(out, b"seats", seats);
+    put_batch(out, batch);
     end_line(out);
 }
 

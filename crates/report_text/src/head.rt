@@ -1,7 +1,7 @@
 //! The head line.
 
 ghost use Rattle.std.specs.Prelude.{◌≡◌, ◌+◌, ◌≤◌, ◌++◌, length, OnOk, OnErr};
-ghost use Rattle.report_text.specs.Report.{head_line, hash_words, mode_word, share_word};
+ghost use Rattle.report_text.specs.Report.{batch_words, head_line, hash_words, mode_word, share_word};
 ghost use Rattle.report_text.specs.Lines.{room, Puts, text_in};
 
 use crate::line::Line;
@@ -10,6 +10,9 @@ use crate::pieces::{append, begin_line, end_line, put_named, put_word};
 use hash_bits::Hashing;
 use std::alloc::AllocError;
 use trace_share::Share;
+
+/// A batch has so many packets where the head line does not tell it.
+const BATCH: u32 = 2_048;
 
 /// Appends the head line.
 pub fn head_text(out: &mut Vec<u8>, head: &Head) -> Result<(), AllocError>
@@ -36,7 +39,19 @@ fn put_head(out: &mut Line, head: &Head)
     put_hashing(out, head.hashing);
     put_word(out, b"share");
     put_word(out, share_word(head.share));
+    put_batch(out, head.batch);
     end_line(out);
+}
+
+/// Appends how many packets a batch has, where it is not the common number.
+pub(crate) fn put_batch(out: &mut Line, batch: u32)
+    requires { 17 ≤ room out.old }
+    ensures puts { Puts (text_in out.old) (batch_words batch) (text_in out.new) }
+    ensures taken { room out.old ≤ room out.new + 17 }
+{
+    if batch != BATCH {
+        put_named(out, b"batch", batch);
+    }
 }
 
 // The mode's word.

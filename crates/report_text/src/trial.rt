@@ -4,6 +4,7 @@ ghost use Rattle.std.specs.Prelude.{◌≡◌, ◌+◌, ◌≤◌, ◌++◌, OnO
 ghost use Rattle.report_text.specs.Trials.{answers_line, sessions_line, trial_line, trial_lines};
 ghost use Rattle.report_text.specs.Lines.{room, text_in};
 
+use crate::head::put_batch;
 use crate::line::Line;
 use crate::pieces::{append, begin_line, end_line, put_named, put_number, put_word};
 use std::alloc::AllocError;
@@ -19,6 +20,8 @@ pub struct Trial {
     pub depth: u32,
     pub start: u32,
     pub seed: u64,
+    /// How many packets a batch had.
+    pub batch: u32,
     pub calls: u64,
     /// Of the calls, those with each reply.
     pub new: u64,
@@ -47,9 +50,9 @@ pub fn trial_text(out: &mut Vec<u8>, trial: &Trial) -> Result<(), AllocError>
 
 // Appends the settings of a trial.
 fn put_trial(out: &mut Line, trial: &Trial)
-    requires { 165 ≤ room out.old }
+    requires { 182 ≤ room out.old }
     ensures appended { text_in out.new ≡ text_in out.old ++ trial_line trial.now }
-    ensures taken { room out.old ≤ room out.new + 165 }
+    ensures taken { room out.old ≤ room out.new + 182 }
 {
     begin_line(out, b"flowdir");
     put_word(out, b"trial");
@@ -60,6 +63,7 @@ fn put_trial(out: &mut Line, trial: &Trial)
     put_named(out, b"depth", trial.depth);
     put_named(out, b"start", trial.start);
     put_named(out, b"seed", trial.seed);
+    put_batch(out, trial.batch);
     end_line(out);
 }
 

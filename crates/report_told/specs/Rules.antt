@@ -1,11 +1,11 @@
 -- Which reports are in the grammar: what each line may tell, and what it may tell beside the lines before it.
 -- Source: docs/FORMATS.md, the report.
-use Rattle.std.specs.Prelude.{◌≡◌, ℕ, ◌+◌, ◌-◌, ◌^◌, ◌<◌, ◌≤◌, ◌==◌, true, List, [], ◌∷◌, ◌++◌, count_by, flat_map, length, replicate, All}
+use Rattle.std.specs.Prelude.{◌≡◌, ℕ, ◌+◌, ◌-◌, ◌^◌, ◌<◌, ◌≤◌, ◌==◌, Bool, true, List, [], ◌∷◌, ◌++◌, count_by, flat_map, length, replicate, All}
 use Rattle.hash_bits.specs.declared.hashing.Hashing.{Hashing}
 use Rattle.hash_bits.specs.declared.hashing.Hashing.TheVariants.{Mix, Ports}
 use Rattle.step_counts.specs.declared.settings.Settings.{Settings}
 use Rattle.step_counts.specs.declared.rows.SeatRows.{SeatRows}
-use Rattle.step_counts.specs.Ranges.{AreInRange}
+use Rattle.step_counts.specs.Ranges.{AreInRange, IsWithin}
 use Rattle.step_counts.specs.Made.{IsMadeOf}
 use Rattle.step_counts.specs.StepCounts.{need_of, step_bound}
 use Rattle.plain_map.specs.declared.keys.Pair.{Pair}
@@ -40,10 +40,16 @@ abbrev pub seed_in : Hashing → ℕ
 seed_in (Mix seed) = seed
 seed_in (Ports seed) = seed
 
+-- how many packets a batch can have; a play has one batch, of which no number is told
+pub record IsBatch (play : Bool) (batch : ℕ) : Type 0 where
+  pub range : IsWithin 2048 65536 batch
+  pub one : play ≡ true → batch ≡ 2048
+
 -- settings of a table
 pub record IsHead (head : Head) : Type 0 where
   pub settings : AreInRange head.seats head.items head.depth head.start
   pub seed : seed_in head.hashing < 2 ^ 64
+  pub batch : IsBatch head.play head.batch
 
 -- these are the head's settings
 abbrev pub IsSettingsOf : Head → Settings → Type 0

@@ -22,6 +22,7 @@ use Rattle.capture_loop.specs.Input.{packet_limit}
 use Rattle.command_line.specs.declared.plan.Plan.{Plan}
 use Rattle.report_text.specs.declared.parts.Ending.{Ending}
 use Rattle.report_text.specs.Report.{Report, report_of}
+use Rattle.step_counts.specs.Ranges.{IsWithin as Within}
 use Rattle.report_told.specs.Rules.{IsEndingTold, IsHead, IsTail, Rise, seed_in, times}
 use Rattle.report_told.specs.Points.{IsShortEnough, rules_told}
 use Rattle.report_told.specs.Verdicts.{Certified}
@@ -104,11 +105,11 @@ serve_is_good plan service packets calls batches ending made done few fitting he
 pub serve_is_certified : GoodIsCertified → (plan : Plan) (service : Service) (packets : List (List ℕ))
     (calls : List (ℕ × Call)) (batches : List Served) (ending : Ending) → MakeCalls plan.framing 1 packets calls →
     AreDone plan service calls batches → length packets ≤ packet_limit → All IsFitting calls →
-    seed_in plan.hashing < 2 ^ 64 → IsEndingTold ending →
+    seed_in plan.hashing < 2 ^ 64 → Within 2048 65536 plan.batch → IsEndingTold ending →
     Certified (report_of (run_report plan service (length packets) batches ending))
-serve_is_certified certified plan service packets calls batches ending made done few fitting seed told =
+serve_is_certified certified plan service packets calls batches ending made done few fitting seed range told =
     certified (run_report plan service (length packets) batches ending)
     (all_calls [] (map (history_in service) batches))
     (serve_is_good plan service packets calls batches ending made done few fitting
-    (head_told false plan service done.asks seed)
+    (head_told false plan service done.asks seed range)
     (tail_told plan service packets calls batches ending made done few told))

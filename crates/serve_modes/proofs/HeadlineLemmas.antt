@@ -1,5 +1,5 @@
 -- What the loop over batches of packets leaves is what `serve` leaves.
-use Rattle.std.proofs.Common.{◌≡◌, ◌≤◌, ◌<◌, ◌^◌, ℕ, ◌+◌, ◌*◌, suc, zero, List, [], ◌∷◌, ◌++◌, length, map, Option, Some, Result, Ok, Err, sym, ◌∙◌, ap, subst, refl, inl, inr, append_assoc, length-append, arith}
+use Rattle.std.proofs.Common.{◌≡◌, ◌≤◌, ◌<◌, ◌^◌, ℕ, ◌+◌, ◌*◌, suc, zero, List, [], ◌∷◌, ◌++◌, length, map, Option, Some, Result, Ok, Err, sym, ◌∙◌, ap, subst, refl, inl, inr, append_assoc, length-append, mul-zero, arith}
 use Rattle.std.specs.Prelude.{slice_index_or}
 use Rattle.std.specs.Io.KnownBytes.{Keeps}
 use Rattle.std.specs.Result.{IfOk, IsErr, IsErrAnd}
@@ -14,10 +14,11 @@ use Rattle.batch_deals.specs.declared.service.Service.{Service}
 use Rattle.batch_runner.specs.Served.{Served}
 use Rattle.capture_loop.specs.declared.stop.Stop.{Stop}
 use Rattle.capture_loop.specs.declared.stop.Stop.TheVariants.{Memory, NotPut}
-use Rattle.capture_loop.specs.Batches.{AreBatches, IsWhole, batch_length}
+use Rattle.capture_loop.specs.Batches.{AreBatches, IsWhole}
 use Rattle.capture_loop.specs.Leaves.{IsLoopFront, IsLoopReport, IsLoopTold, Leaves as LoopLeaves, LoopLeavesAll, PutsInput, ReportsInput, RunReads}
 use Rattle.capture_loop.specs.Input.{Serves, packet_limit}
 use Rattle.command_line.specs.declared.plan.Plan.{Plan}
+use Rattle.step_counts.specs.Ranges.{IsWithin}
 use Rattle.report_told.specs.Rules.{IsEndingTold, seed_in}
 use Rattle.report_told.specs.Verdicts.{Certified}
 use Rattle.report_promises.specs.Good.{GoodIsCertified}
@@ -31,7 +32,7 @@ use Rattle.serve_modes.specs.Served.{AreDone, ServedArePromised, run_report}
 use Rattle.serve_modes.specs.Serving.{AreServedOf, IsLines, IsServedSo, IsWholeReport, joined}
 use Rattle.serve_modes.specs.Headline.{IsFront, IsReport, IsTold, Leaves, LeavesAll, PutsReport, Reports}
 use Rattle.mode_parts.specs.Statuses.{ReadsFailed, status_by, status_of}
-use Rattle.serve_modes.proofs.EndLemmas.{between_is_batch, last_count}
+use Rattle.serve_modes.proofs.EndLemmas.{batch_more, between_is_batch, last_count}
 use Rattle.mode_parts.proofs.FittingCalls.{calls_fit}
 use Rattle.serve_modes.proofs.GoodServes.{serve_is_certified}
 
@@ -83,69 +84,73 @@ same_count framing (batch ∷ batches) before served are =
     ap length are.2 ∙ ap suc (same_count framing batches (before + length batch) are.1 are.5)
 
 -- whole batches, but for the last
-abbrev AreCut : List (List (List ℕ)) → Type 0
-AreCut [] = Unit {0}
-AreCut (batch ∷ batches) = (length batch ≤ 2048) × (0 < length batches → length batch ≡ 2048) × AreCut batches
+abbrev AreCut : (size : ℕ) → List (List (List ℕ)) → Type 0
+AreCut size [] = Unit {0}
+AreCut size (batch ∷ batches) =
+    (length batch ≤ size) × (0 < length batches → length batch ≡ size) × AreCut size batches
 
-cut_whole : (batches : List (List (List ℕ))) → AllByRecursion IsWhole batches → AreCut batches
-cut_whole [] each = tt
-cut_whole (batch ∷ batches) each = (omega (arith, each.0), λ more. each.0, cut_whole batches each.1)
+cut_whole : (size : ℕ) (batches : List (List (List ℕ))) → AllByRecursion (IsWhole size) batches → AreCut size batches
+cut_whole size [] each = tt
+cut_whole size (batch ∷ batches) each = (omega (arith, each.0), λ more. each.0, cut_whole size batches each.1)
 
-cut_last : (front : List (List (List ℕ))) (last : List (List ℕ)) → AllByRecursion IsWhole front →
-    length last ≤ 2048 → AreCut (front ++ last ∷ [])
-cut_last [] last each few = (few, λ more. absurd (omega (arith, more)), tt)
-cut_last (batch ∷ front) last each few = (omega (arith, each.0), λ more. each.0, cut_last front last each.1 few)
+cut_last : (size : ℕ) (front : List (List (List ℕ))) (last : List (List ℕ)) → AllByRecursion (IsWhole size) front →
+    length last ≤ size → AreCut size (front ++ last ∷ [])
+cut_last size [] last each few = (few, λ more. absurd (omega (arith, more)), tt)
+cut_last size (batch ∷ front) last each few =
+    (omega (arith, each.0), λ more. each.0, cut_last size front last each.1 few)
 
 -- each call is of its batch: of the first, or of one of the others
-batch_at : (j before : ℕ) (batch : List (List ℕ)) (batches : List (List (List ℕ))) (first : Served)
-    (others : List Served) → batch_length * j ≡ before → length batch ≤ 2048 →
-    (0 < length batches → length batch ≡ 2048) → AreBetween before (before + length batch) first.calls →
+batch_at : (size j before : ℕ) (batch : List (List ℕ)) (batches : List (List (List ℕ))) (first : Served)
+    (others : List Served) → size * j ≡ before → length batch ≤ size →
+    (0 < length batches → length batch ≡ size) → AreBetween before (before + length batch) first.calls →
     length others ≡ length batches →
-    (length batch ≡ 2048 → (m : ℕ) → m < length (calls_in others) →
-    All (IsOfBatch (j + 1 + m)) (slice_index_or (calls_in others) m [])) →
+    (length batch ≡ size → (m : ℕ) → m < length (calls_in others) →
+    All (IsOfBatch size (suc j + m)) (slice_index_or (calls_in others) m [])) →
     (k : ℕ) → k < length (first.calls ∷ calls_in others) →
-    All (IsOfBatch (j + k)) (slice_index_or (first.calls ∷ calls_in others) k [])
-batch_at j before batch batches first others whole few full between many next zero inside =
+    All (IsOfBatch size (j + k)) (slice_index_or (first.calls ∷ calls_in others) k [])
+batch_at size j before batch batches first others whole few full between many next zero inside =
     let same : j ≡ j + 0 = omega arith in
-    subst (λ (n : ℕ). All (IsOfBatch n) first.calls) same
-    (between_is_batch j before (length batch) first.calls whole few between)
-batch_at j before batch batches first others whole few full between many next (suc m) inside =
-    let same : j + 1 + m ≡ j + suc m = omega arith in
+    subst (λ (n : ℕ). All (IsOfBatch size n) first.calls) same
+    (between_is_batch size j before (length batch) first.calls whole few between)
+batch_at size j before batch batches first others whole few full between many next (suc m) inside =
+    let same : suc j + m ≡ j + suc m = omega arith in
     let some : 0 < length batches = omega (arith, inside, length-map others (λ (b : Served). b.calls), many) in
-    subst (λ (n : ℕ). All (IsOfBatch n) (slice_index_or (calls_in others) m [])) same
+    subst (λ (n : ℕ). All (IsOfBatch size n) (slice_index_or (calls_in others) m [])) same
     (next (full some) m (omega (arith, inside)))
 
-batch_of : (framing : Framing) (batches : List (List (List ℕ))) (j before : ℕ) (served : List Served) →
-    AreServedOf framing batches before served →
-    batch_length * j ≡ before → AreCut batches → (k : ℕ) → k < length (calls_in served) →
-    All (IsOfBatch (j + k)) (slice_index_or (calls_in served) k [])
-batch_of framing [] j before served none whole cut k within =
+batch_of : (size : ℕ) (framing : Framing) (batches : List (List (List ℕ))) (j before : ℕ) (served : List Served) →
+    AreServedOf framing batches before served → size * j ≡ before → AreCut size batches → (k : ℕ) →
+    k < length (calls_in served) → All (IsOfBatch size (j + k)) (slice_index_or (calls_in served) k [])
+batch_of size framing [] j before served none whole cut k within =
     absurd (omega (arith, within, ap (λ (s : List Served). length (calls_in s)) none))
-batch_of framing (batch ∷ batches) j before served are whole cut k within =
-    subst (λ (s : List Served). All (IsOfBatch (j + k)) (slice_index_or (calls_in s) k [])) (sym are.2)
-    (batch_at j before batch batches are.0 are.1 whole cut.0 cut.1 are.4
+batch_of size framing (batch ∷ batches) j before served are whole cut k within =
+    subst (λ (s : List Served). All (IsOfBatch size (j + k)) (slice_index_or (calls_in s) k [])) (sym are.2)
+    (batch_at size j before batch batches are.0 are.1 whole cut.0 cut.1 are.4
     (same_count framing batches (before + length batch) are.1 are.5)
     (λ full m inside.
-    batch_of framing batches (j + 1) (before + length batch) are.1 are.5 (omega (arith, whole, full)) cut.2 m inside) k
+    batch_of size framing batches (suc j) (before + length batch) are.1 are.5
+    (batch_more size j before whole ∙ ap (λ (n : ℕ). before + n) (sym full)) cut.2 m inside) k
     (subst (λ (s : List Served). k < length (calls_in s)) are.2 within))
 
-cut_of : (framing : Framing) (batches : List (List (List ℕ))) (served : List Served) →
-    AreServedOf framing batches 0 served → AreCut batches →
-    AreOfBatches (all_in served) (calls_in served)
-cut_of framing batches served are cut =
+cut_of : (size : ℕ) (framing : Framing) (batches : List (List (List ℕ))) (served : List Served) →
+    AreServedOf framing batches 0 served → AreCut size batches →
+    AreOfBatches size (all_in served) (calls_in served)
+cut_of size framing batches served are cut =
     record {
       parts = refl;
       each = λ k within.
           let same : 0 + k ≡ k = omega arith in
-          subst (λ (n : ℕ). All (IsOfBatch n) (slice_index_or (calls_in served) k [])) same
-          (batch_of framing batches 0 0 served are (omega arith) cut k within);
+          subst (λ (n : ℕ). All (IsOfBatch size n) (slice_index_or (calls_in served) k [])) same
+          (batch_of size framing batches 0 0 served are (mul-zero size) cut k within);
     }
 
-whole_length : (batches : List (List (List ℕ))) → AllByRecursion IsWhole batches →
-    length (joined batches) ≡ 2048 * length batches
-whole_length [] each = omega arith
-whole_length (batch ∷ batches) each =
-    omega (arith, length-append batch (joined batches), each.0, whole_length batches each.1)
+whole_length : (size : ℕ) (batches : List (List (List ℕ))) → AllByRecursion (IsWhole size) batches →
+    size * length batches ≡ length (joined batches)
+whole_length size [] each = mul-zero size
+whole_length size (batch ∷ batches) each =
+    let sum : length (batch ++ joined batches) ≡ length (joined batches) + size =
+    omega (arith, length-append batch (joined batches), each.0) in
+    batch_more size (length batches) (length (joined batches)) (whole_length size batches each.1) ∙ sym sum
 
 joined-append : (front : List (List (List ℕ))) (last : List (List ℕ)) →
     length (joined (front ++ last ∷ [])) ≡ length (joined front) + length last
@@ -159,30 +164,30 @@ joined-append (batch ∷ front) last =
     )
 
 -- how many batches there are of an input whose end is known
-all_count : (packets : List (List ℕ)) (batches : List (List (List ℕ))) → AreBatches packets batches →
-    length batches ≡ batch_count (length packets)
-all_count packets batches cut =
+all_count : (size : ℕ) (packets : List (List ℕ)) (batches : List (List (List ℕ))) → 0 < size →
+    AreBatches size packets batches → length batches ≡ batch_count size (length packets)
+all_count size packets batches some cut =
     let many : length batches ≡ suc (length cut.front) =
     omega (arith, ap length cut.parts, length-append cut.front (cut.last ∷ [])) in
-    let size : length packets ≡ length (joined cut.front) + length cut.last =
+    let all : length packets ≡ length (joined cut.front) + length cut.last =
     ap length (sym cut.all) ∙ ap (λ (bs : List (List (List ℕ))). length (joined bs)) cut.parts
     ∙ joined-append cut.front cut.last in
     let none : length cut.last ≡ 0 → length (joined cut.front) ≡ 0 = λ empty.
-    omega (arith, whole_length cut.front cut.whole, ap length (cut.begun (nil_from_length cut.last empty))) in
+    ap (λ (bs : List (List (List ℕ))). length (joined bs)) (cut.begun (nil_from_length cut.last empty)) in
     many
-    ∙ last_count (length (joined cut.front)) (length cut.last) (length cut.front)
-    (sym (whole_length cut.front cut.whole)) cut.few none
-    ∙ ap batch_count (sym size)
+    ∙ last_count size (length (joined cut.front)) (length cut.last) (length cut.front) some
+    (whole_length size cut.front cut.whole) cut.few none
+    ∙ ap (batch_count size) (sym all)
 
 -- ---- texts
 
-module _ (law : ServedArePromised) (plan : Plan) where
+module _ (law : ServedArePromised) (plan : Plan) (range : IsWithin 2048 65536 plan.batch) where
   done : (service : Service) (batches : List (List (List ℕ))) (served : List Served) →
-      IsServedSo plan service batches served → AreCut batches → AreDone plan service (all_in served) served
+      IsServedSo plan service batches served → AreCut plan.batch batches → AreDone plan service (all_in served) served
   done service batches served is cut =
       record {
         asks = is.asks;
-        cut = cut_of plan.framing batches served is.of cut;
+        cut = cut_of plan.batch plan.framing batches served is.of cut;
         served = is.each;
         promised = law service served is.each;
       }
@@ -194,24 +199,26 @@ module _ (law : ServedArePromised) (plan : Plan) where
       subst (λ (ps : List (List ℕ)). MakeCalls plan.framing 1 ps (all_in served)) is
       (calls_made plan.framing batches 0 served are)
 
-  cut_batches : (packets : List (List ℕ)) (batches : List (List (List ℕ))) → AreBatches packets batches →
-      AreCut batches
-  cut_batches packets batches cut = subst AreCut (sym cut.parts) (cut_last cut.front cut.last cut.whole cut.few)
+  cut_batches : (packets : List (List ℕ)) (batches : List (List (List ℕ))) → AreBatches plan.batch packets batches →
+      AreCut plan.batch batches
+  cut_batches packets batches cut =
+      subst (AreCut plan.batch) (sym cut.parts) (cut_last plan.batch cut.front cut.last cut.whole cut.few)
 
   -- the calls of these packets were served in as many batches as these are
   pub served_at : (packets : List (List ℕ)) (batches : List (List (List ℕ))) (service : Service)
       (served : List Served) →
-      AreBatches packets batches → IsServedSo plan service batches served →
+      AreBatches plan.batch packets batches → IsServedSo plan service batches served →
       (calls : List (ℕ × Call)) × MakeCalls plan.framing 1 packets calls × AreDone plan service calls served
-      × (length served ≡ batch_count (length packets))
+      × (length served ≡ batch_count plan.batch (length packets))
   served_at packets batches service served cut is = (
     all_in served,
     made packets batches served cut.all is.of,
     done service batches served is (cut_batches packets batches cut),
-    same_count plan.framing batches 0 served is.of ∙ all_count packets batches cut,
+    same_count plan.framing batches 0 served is.of
+        ∙ all_count plan.batch packets batches (omega (arith, range.0)) cut,
   )
 
-  front_of : (packets : List (List ℕ)) (text : List ℕ) → IsLoopFront (IsLines plan) packets text →
+  front_of : (packets : List (List ℕ)) (text : List ℕ) → IsLoopFront plan.batch (IsLines plan) packets text →
       IsFront plan packets text
   front_of packets text front =
       let batches : List (List (List ℕ)) = front.0 in
@@ -222,18 +229,14 @@ module _ (law : ServedArePromised) (plan : Plan) where
         (
           lines.0,
           lines.1,
-          done lines.0 batches lines.1 lines.2 (cut_whole batches whole.each),
-          omega (
-            arith,
-            same_count plan.framing batches 0 lines.1 lines.2.of,
-            whole_length batches whole.each,
-            ap length whole.parts,
-          ),
+          done lines.0 batches lines.1 lines.2 (cut_whole plan.batch batches whole.each),
+          ap (λ (n : ℕ). plan.batch * n) (same_count plan.framing batches 0 lines.1 lines.2.of)
+              ∙ whole_length plan.batch batches whole.each ∙ ap length whole.parts,
           lines.3,
         ),
       )
 
-  told_of : (packets : List (List ℕ)) (text : List ℕ) → IsLoopTold (IsLines plan) packets text →
+  told_of : (packets : List (List ℕ)) (text : List ℕ) → IsLoopTold plan.batch (IsLines plan) packets text →
       IsTold plan packets text
   told_of packets text told =
       let lines = told.2 in
@@ -241,7 +244,7 @@ module _ (law : ServedArePromised) (plan : Plan) where
       (at.0, at.1, lines.0, lines.1, at.2, at.3, lines.3)
 
   report_at : (packets : List (List ℕ)) (ending : Ending) (text : List ℕ) →
-      IsLoopReport (IsWholeReport plan) packets ending text → IsReport plan packets ending text
+      IsLoopReport plan.batch (IsWholeReport plan) packets ending text → IsReport plan packets ending text
   report_at packets ending text report =
       let cut = report.1 in
       let lines = report.2 in
@@ -261,7 +264,7 @@ module _ (law : ServedArePromised) (plan : Plan) where
   -- ---- what is left
 
   reports_at : (bytes : List ℕ) (left : Option (List ℕ)) (ending : Ending) (text : List ℕ) →
-      ReportsInput (number_in plan.framing.link) (IsWholeReport plan) bytes left ending text →
+      ReportsInput plan.batch (number_in plan.framing.link) (IsWholeReport plan) bytes left ending text →
       Reports plan bytes left ending text
   reports_at bytes left ending text reports = (reports.0, reports.1, report_at reports.0 ending text reports.2)
 
@@ -287,18 +290,20 @@ module _ (law : ServedArePromised) (plan : Plan) where
         let report = reports.2.2 in
         subst Certified (sym report.4)
         (serve_is_certified good plan report.0 packets calls report.1 ending makes report.2
-        (few_served bytes left packets ending reports.1) (calls_fit plan.framing 1 packets calls makes) seed told)
+        (few_served bytes left packets ending reports.1) (calls_fit plan.framing 1 packets calls makes) seed
+        range told)
 
   module _ (read_failed : Type 0) (bytes : List ℕ) (left before after : Option (List ℕ)) where
     put_whole : GoodIsCertified → seed_in plan.hashing < 2 ^ 64 → (ending : Ending) → IsEndingTold ending →
-        PutsInput (number_in plan.framing.link) (IsWholeReport plan) bytes left before after ending →
+        PutsInput plan.batch (number_in plan.framing.link) (IsWholeReport plan) bytes left before after ending →
         PutsReport plan bytes left before after ending
     put_whole good seed ending told puts =
         let reports : Reports plan bytes left ending puts.0 = reports_at bytes left ending puts.0 puts.1 in
         (puts.0, (reports, certified_at good seed bytes left ending puts.0 told reports), puts.2)
 
     of_ok : GoodIsCertified → seed_in plan.hashing < 2 ^ 64 → (ending : Ending) → IsEndingTold ending →
-        LoopLeaves (number_in plan.framing.link) (IsLines plan) (IsWholeReport plan) read_failed bytes left before
+        LoopLeaves plan.batch (number_in plan.framing.link) (IsLines plan) (IsWholeReport plan) read_failed bytes left
+        before
         after (Ok ending) →
         Leaves plan read_failed bytes left before after (status_of ending)
     of_ok good seed (Done rest) told leaves = (rest, put_whole good seed (Done rest) told leaves.1)
@@ -306,7 +311,8 @@ module _ (law : ServedArePromised) (plan : Plan) where
     of_ok good seed (Limit limit) told leaves = (limit, put_whole good seed (Limit limit) told leaves.1)
     of_ok good seed (Fault found) told leaves = put_whole good seed (Fault found) told leaves.1
 
-    of_not_put : LoopLeaves (number_in plan.framing.link) (IsLines plan) (IsWholeReport plan) read_failed bytes left
+    of_not_put : LoopLeaves plan.batch (number_in plan.framing.link) (IsLines plan) (IsWholeReport plan) read_failed
+        bytes left
         before after (Err NotPut) →
         Leaves plan read_failed bytes left before after status.WriteFault
     of_not_put (inl ended) =
@@ -317,7 +323,8 @@ module _ (law : ServedArePromised) (plan : Plan) where
         )
     of_not_put (inr begun) = inr (begun.0, begun.1, (begun.2.0, front_of begun.0 begun.2.0 begun.2.1, begun.2.2))
 
-    of_memory : LoopLeaves (number_in plan.framing.link) (IsLines plan) (IsWholeReport plan) read_failed bytes left
+    of_memory : LoopLeaves plan.batch (number_in plan.framing.link) (IsLines plan) (IsWholeReport plan) read_failed
+        bytes left
         before after (Err Memory) →
         Leaves plan read_failed bytes left before after status.Memory
     of_memory (inl kept) = inl kept
@@ -333,14 +340,16 @@ module _ (law : ServedArePromised) (plan : Plan) where
 
   module _ (read_failed : Type 0) (first left before after : Option (List ℕ)) where
     ok_at : GoodIsCertified → seed_in plan.hashing < 2 ^ 64 → (ending : Ending) → IsEndingTold ending →
-        LoopLeavesAll (IsLines plan) (IsWholeReport plan) read_failed (number_in plan.framing.link) first left before
+        LoopLeavesAll plan.batch (IsLines plan) (IsWholeReport plan) read_failed (number_in plan.framing.link) first
+        left before
         after (Ok ending) →
         (bytes : List ℕ) → first ≡ Some bytes → Leaves plan read_failed bytes left before after (status_of ending)
     ok_at good seed ending told leaves bytes is =
         of_ok read_failed bytes left before after good seed ending told (leaves.told bytes is)
 
     ok_all : GoodIsCertified → seed_in plan.hashing < 2 ^ 64 → (ending : Ending) → IsEndingTold ending →
-        LoopLeavesAll (IsLines plan) (IsWholeReport plan) read_failed (number_in plan.framing.link) first left before
+        LoopLeavesAll plan.batch (IsLines plan) (IsWholeReport plan) read_failed (number_in plan.framing.link) first
+        left before
         after (Ok ending) →
         LeavesAll plan read_failed first left before after (status_of ending)
     ok_all good seed (Done rest) told leaves =
@@ -382,7 +391,8 @@ module _ (law : ServedArePromised) (plan : Plan) where
 
     pub leaves_all : GoodIsCertified → seed_in plan.hashing < 2 ^ 64 → (result : Result Ending Stop) →
         IfOk result IsEndingTold →
-        LoopLeavesAll (IsLines plan) (IsWholeReport plan) read_failed (number_in plan.framing.link) first left before
+        LoopLeavesAll plan.batch (IsLines plan) (IsWholeReport plan) read_failed (number_in plan.framing.link) first
+        left before
         after result →
         LeavesAll plan read_failed first left before after (status_by result)
     leaves_all good seed (Ok ending) told leaves = ok_all good seed ending told leaves

@@ -386,9 +386,10 @@ module _ (service : Service) (batches : List Served) (are : AreServed service []
   )
 
   -- where no call is a tally either, no reply is a sum
-  none_summed : (calls : List (ℕ × Call)) → AreOfBatches calls (map (λ (batch : Served). batch.calls) batches) →
+  none_summed : (size : ℕ) (calls : List (ℕ × Call)) → AreOfBatches size calls
+      (map (λ (batch : Served). batch.calls) batches) →
       HasNoTally calls → service.rows ≡ None → count (by_reply is_sum) (all_answers batches) ≡ 0
-  none_summed calls cut no_tally none =
+  none_summed size calls cut no_tally none =
       let asked : calls ≡ map asked_of (all_answers batches) =
       sym cut.parts ∙ calls_are batches ∙ sym (promised.answered none) in
       let counted = none_tallied (all_answers batches) (subst HasNoTally asked no_tally) in
@@ -397,14 +398,15 @@ module _ (service : Service) (batches : List Served) (are : AreServed service []
       (order_replies (by_call is_tally) ∙ counted)
 
   pub trial-adds_up : (plan : Plan) (calls : List (ℕ × Call)) →
-      AreOfBatches calls (map (λ (batch : Served). batch.calls) batches) → HasNoTally calls → service.rows ≡ None →
+      AreOfBatches plan.batch calls (map (λ (batch : Served). batch.calls) batches) → HasNoTally calls → service.rows ≡
+      None →
       AddsUp (tried_of plan batches)
   trial-adds_up plan calls cut no_tally none = record {
     replies = omega (
       arith,
       by_replies (answers_in (outcomes_in batches)),
       answered_or_refused (outcomes_in batches),
-      none_summed calls cut no_tally none,
+      none_summed plan.batch calls cut no_tally none,
     );
     none_refused = none_refused none;
     sessions = sessions_left;

@@ -15,6 +15,7 @@ use Rattle.pcapng_reader.specs.Laws.{HasOneInput}
 use Rattle.pcapng_reader.proofs.InputFacts.{no_pcapng}
 use Rattle.report_text.specs.declared.parts.Ending.{Ending}
 use Rattle.report_text.specs.declared.parts.Ending.TheVariants.{Done, ReadFault, Limit, Fault}
+use Rattle.step_counts.specs.Ranges.{IsWithin}
 use Rattle.command_line.specs.declared.plan.Plan.{Plan}
 use Rattle.capture_loop.specs.Leaves.{IsLoopReport, Leaves, PutsInput, ReportsInput}
 use Rattle.capture_loop.specs.Input.{HoldsPackets, Serves, packet_limit}
@@ -106,24 +107,26 @@ pub IsTrial-put :
     (plan : Plan) (read_failed : Type 0) (left : Option (List ℕ)) (ending : Ending) (put : List ℕ) →
     HasOneInput 1 (made_capture plan.number plan.packets) → HoldsMade plan.number plan.packets →
     plan.packets ≤ packet_limit → (read_failed → ⊥) → ServedArePromised → plan.rows ≡ None →
-    plan.framing ≡ plain_framing →
-    Leaves (number_in plan.framing.link) (IsNoText plan) (IsTrialOf plan) read_failed
+    plan.framing ≡ plain_framing → IsWithin 2048 65536 plan.batch →
+    Leaves plan.batch (number_in plan.framing.link) (IsNoText plan) (IsTrialOf plan) read_failed
     (made_capture plan.number plan.packets) left (Some [])
     (Some put) (Ok ending) →
     IsTrial plan put
-IsTrial-put plan read_failed left ending put one law few none_failed promised none plain leaves =
+IsTrial-put plan read_failed left ending put one law few none_failed promised none plain range leaves =
     let link : number_in plan.framing.link ≡ 1 = ap (λ (f : Framing). number_in f.link) plain in
     let bytes : List ℕ = made_capture plan.number plan.packets in
-    let puts : PutsInput (number_in plan.framing.link) (IsTrialOf plan) bytes left (Some []) (Some put) ending =
+    let puts :
+    PutsInput plan.batch (number_in plan.framing.link) (IsTrialOf plan) bytes left (Some []) (Some put) ending =
     leaves.1 in
-    let input : ReportsInput (number_in plan.framing.link) (IsTrialOf plan) bytes left ending puts.0 = puts.1 in
+    let input : ReportsInput plan.batch (number_in plan.framing.link) (IsTrialOf plan) bytes left ending puts.0 =
+    puts.1 in
     let packets : List (List ℕ) = input.0 in
-    let report : IsLoopReport (IsTrialOf plan) packets ending puts.0 = input.2 in
+    let report : IsLoopReport plan.batch (IsTrialOf plan) packets ending puts.0 = input.2 in
     let trial : IsTrialOf plan report.0 ending puts.0 = report.2 in
     let holds =
     made_packets plan.number plan.packets left packets ending one law few (λ is. none_failed (leaves.0 is))
     (subst (λ (n : ℕ). Serves n bytes left packets ending) link input.1) in
-    let at = served_at promised plan packets report.0 trial.0 trial.1 report.1 trial.2 in
+    let at = served_at promised plan range packets report.0 trial.0 trial.1 report.1 trial.2 in
     let frames = frames_made plan.number plan.packets packets one law holds in (
       packets,
       at.0,

@@ -21,7 +21,6 @@ use Rattle.packet_heads.specs.Links.{number_in}
 use Rattle.mode_parts.specs.declared.status.Status.{Status}
 use Rattle.mode_parts.specs.declared.status.Status.TheVariants as status
 use Rattle.serve_modes.specs.Batches.{batch_count}
-use Rattle.capture_loop.specs.Batches.{batch_length}
 use Rattle.mode_parts.specs.PacketCalls.{MakeCalls}
 use Rattle.capture_loop.specs.Leaves.{IsMet, PutsFront, PutsWhole}
 use Rattle.capture_loop.specs.Input.{Begins, HoldsPackets, IsFirst, Serves}
@@ -34,13 +33,14 @@ use Rattle.mode_parts.specs.Statuses.{TookFor}
 abbrev pub IsReportOf : Plan → ℕ → List (ℕ × Call) → Ending → List ℕ → Type 0
 IsReportOf plan packets calls ending text =
     (service : Service) × (batches : List Served) × AreDone plan service calls batches
-    × (length batches ≡ batch_count packets) × (text ≡ report_of (run_report plan service packets batches ending))
+    × (length batches ≡ batch_count plan.batch packets) ×
+    (text ≡ report_of (run_report plan service packets batches ending))
 
 -- the text is the head line and the lines of the whole batches of so many packets, whose calls are these
 abbrev pub IsFrontOf : Plan → ℕ → List (ℕ × Call) → List ℕ → Type 0
 IsFrontOf plan packets calls text =
     (service : Service) × (batches : List Served) × AreDone plan service calls batches
-    × (batch_length * length batches ≡ packets) × (text ≡ lines_so_far plan service batches)
+    × (plan.batch * length batches ≡ packets) × (text ≡ lines_so_far plan service batches)
 
 abbrev pub IsReport : Plan → List (List ℕ) → Ending → List ℕ → Type 0
 IsReport plan packets ending text =
@@ -55,7 +55,7 @@ IsFront plan packets text =
 abbrev pub IsTold : Plan → List (List ℕ) → List ℕ → Type 0
 IsTold plan packets text =
     (calls : List (ℕ × Call)) × MakeCalls plan.framing 1 packets calls × (service : Service) × (batches : List Served)
-    × AreDone plan service calls batches × (length batches ≡ batch_count (length packets))
+    × AreDone plan service calls batches × (length batches ≡ batch_count plan.batch (length packets))
     × (text ≡ lines_so_far plan service batches)
 
 -- of an input with these bytes, of which these are left, the text is the report, with this ending
@@ -134,6 +134,7 @@ trial_of plan totals sessions =
       depth = plan.depth;
       start = plan.start;
       seed = seed_of plan.hashing;
+      batch = plan.batch;
       calls = totals.calls;
       new = totals.replies.new;
       old = totals.replies.old;
@@ -164,7 +165,7 @@ IsTrial plan text =
     (packets : List (List ℕ)) × (calls : List (ℕ × Call)) × (service : Service) × (batches : List Served)
     × HoldsPackets (number_in plan.framing.link) (made_capture plan.number plan.packets) packets (Ok 0) × MakeCalls
     plan.framing 1 packets calls
-    × AreDone plan service calls batches × (length batches ≡ batch_count (length packets))
+    × AreDone plan service calls batches × (length batches ≡ batch_count plan.batch (length packets))
     × AddsUp (tried_of plan batches) × (text ≡ trial_lines (tried_of plan batches))
 
 -- what `trial` leaves

@@ -56,7 +56,7 @@ ServedArePromised =
 -- holds.
 pub record AreDone (plan : Plan) (service : Service) (calls : List (ℕ × Call)) (batches : List Served) : Type 0 where
   pub asks : IsServiceOf plan service
-  pub cut : AreOfBatches calls (map (λ (batch : Served). batch.calls) batches)
+  pub cut : AreOfBatches plan.batch calls (map (λ (batch : Served). batch.calls) batches)
   pub served : AreServed service [] batches
   pub promised : IsPromised service batches
 

@@ -80,7 +80,7 @@ CallWorker = SeatWorker (Vec Outcome Global)
 pub record HasOpenedFor {K : Type 0} (holds : K → List Outcome → Type 0) (room : K → ℕ) (job : Serving)
     (t : TableValue) (workers : List (SeatWorker K)) (many before : ℕ) (packets : List (List ℕ)) : Type 0 where
   pub count : many ≡ length packets
-  pub few : length packets ≤ 2048
+  pub few : length packets ≤ 65536
   pub make : MakeCalls job.framing (before + 1) packets job.calls.items
   pub between : AreBetween before (before + length packets) job.calls.items
   pub opens : IsOpened holds room job.service job.progress.pairs.items job.calls.items t workers

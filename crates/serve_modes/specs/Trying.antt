@@ -33,6 +33,7 @@ pub record HasTried (job : Trying) (plan : Plan) (batches : List (List (List ℕ
   pub done : HasDone job.serving plan batches lines
   pub number : job.number ≡ plan.number
   pub packets : job.packets ≡ plan.packets
+  pub batch : job.batch ≡ plan.batch
   pub none : put ≡ []
 
 -- a worker that keeps what its calls came to, all in all

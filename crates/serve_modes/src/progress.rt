@@ -4,7 +4,7 @@ ghost use Rattle.std.specs.Prelude.{◌≡◌, ◌≤◌, ◌+◌, List, [], ◌
 ghost use Rattle.batch_deals.specs.declared.service.Service.{Service};
 ghost use Rattle.batch_runner.specs.Served.{IsServed, Served};
 ghost use Rattle.batch_runner.specs.Told.{CanGoOn, IsToldBy};
-ghost use Rattle.capture_loop.specs.declared.job.TheConstants.{BATCH, PACKET_LIMIT};
+ghost use Rattle.capture_loop.specs.declared.job.TheConstants.{MOST_BATCH, PACKET_LIMIT};
 
 use batch_deals::Service;
 use batch_runner::{Batch, Totals, go_on};
@@ -44,7 +44,7 @@ impl Progress {
 
     /// Keeps what a batch of these calls came to.
     pub fn keep(&mut self, service: &Service, calls: &[(u32, Call)], batch: Batch)
-        requires few { length calls.now ≤ BATCH }
+        requires few { length calls.now ≤ MOST_BATCH }
         requires texts { HasTexts calls.now }
         requires going { IsGoing service.now self.old }
         requires all { self.old.totals.calls ≤ PACKET_LIMIT }

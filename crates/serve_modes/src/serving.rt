@@ -10,7 +10,7 @@ ghost use Rattle.report_told.specs.Rules.{IsEndingTold};
 ghost use Rattle.trace_share.specs.Work.{IsLogOf};
 ghost use Rattle.batch_deals.specs.Dealt.{IsDealt};
 ghost use Rattle.batch_runner.specs.Seats.{HasWorked};
-ghost use Rattle.capture_loop.specs.declared.job.TheConstants.{BATCH, PACKET_LIMIT};
+ghost use Rattle.capture_loop.specs.declared.job.TheConstants.{MOST_BATCH, PACKET_LIMIT};
 ghost use Rattle.capture_loop.specs.Input.{StopsAt, packet_limit};
 ghost use Rattle.capture_loop.specs.Leaves.{RunReads, RunWrites};
 ghost use Rattle.capture_loop.specs.Looping.{OnNotPut};
@@ -31,7 +31,7 @@ use batch_deals::{Dealt, Service, deal_batch};
 use batch_runner::{
     Asked, OpenBatch, SeatWorker, Workspace, close_printed, open_batch, served_laws,
 };
-use capture_loop::{BATCH, Job, Means, Opened, PACKET_LIMIT, Piles, Stop, run_job};
+use capture_loop::{Job, MOST_BATCH, Means, Opened, PACKET_LIMIT, Piles, Stop, run_job};
 use command_line::Plan;
 use edge_traits::{Gate, Sink, Source};
 use mode_parts::{CallPile, Status, head_of, put_sessions, service_of};
@@ -45,8 +45,8 @@ use std::mem;
 use std::thread::Threads;
 use trace_share::Outcome;
 
-/// Room for the lines of a batch: 2,048 of calls, of up to about 200 bytes each, and those of its order.
-const TEXT_ROOM: usize = 450_000;
+/// Room for the lines of a packet: that of its call, of up to about 200 bytes, and its part of the order.
+const LINE_ROOM: usize = 220;
 
 /// The batches so far, and how they are served.
 #[derive(Drop)]
@@ -63,8 +63,13 @@ pub(crate) struct Serving {
 }
 
 impl Serving {
-    /// None yet.
-    pub fn new(alloc: Global, service: Service, framing: Framing) -> Result<Serving, AllocError>
+    /// None yet; the batches have so many packets.
+    pub fn new(
+        alloc: Global,
+        service: Service,
+        framing: Framing,
+        batch: u32,
+    ) -> Result<Serving, AllocError>
         requires given { ForSome service.rows (AreBelow (2 ^ 32)) }
         ensures going { IfOk result (λ serving. IsServing serving 0) }
         ensures done { IfOk result (λ serving. (plan : APlan) (text : List ℕ) → IsServiceOf plan service →
@@ -73,7 +78,7 @@ impl Serving {
         ensures service { IfOk result (λ serving. serving.service ≡ service) }
         ensures framing { IfOk result (λ serving. serving.framing ≡ framing) }
     {
-        let calls = Vec::with_capacity(alloc, BATCH as usize)?;
+        let calls = Vec::with_capacity(alloc, batch as usize)?;
         Ok(Serving {
             service,
             framing,
@@ -86,7 +91,7 @@ impl Serving {
 
     /// The pile's calls as they were dealt before, or else dealt now. The only error is want of memory.
     pub fn dealt_of(&self, pile: &mut CallPile) -> Result<Dealt, AllocError>
-        requires few { length pile.old.calls.items ≤ BATCH }
+        requires few { length pile.old.calls.items ≤ MOST_BATCH }
         requires dealt { ForSome pile.old.dealt (IsDealt pile.old.service pile.old.calls.items) }
         requires way { way_of pile.old.framing ≡ way_of self.now.framing }
         ensures dealt { IfOk result (IsDealt self.now.service pile.old.calls.items) }
@@ -161,7 +166,7 @@ impl Job<Plan> for Serving {
     ) -> Result<(), AllocError>
         requires going { (started : List CallWorker) × (before : ℕ) × (packets : List (List ℕ))
             × IsServing self.old before × HasOpened self.old made.shared started made.kept before packets
-            × AllZip (HasWorked IsLogOf) started made.workers.items × (length packets ≤ BATCH)
+            × AllZip (HasWorked IsLogOf) started made.workers.items × (length packets ≤ MOST_BATCH)
             × (before + length packets ≤ PACKET_LIMIT) }
         ensures way { OnOk result (way_of self.new.framing ≡ way_of self.old.framing) }
         ensures going { OnOk result ((started : List CallWorker) (before : ℕ) (packets : List (List ℕ)) →
@@ -227,7 +232,8 @@ pub fn serve<R: Threads + Sync, S: Source, K: Sink, G: Gate + Sync>(
     sink: &mut K,
     beyond: &mut Option<u64>,
 ) -> Status
-    requires { IsInRange plan.now }
+    requires range { IsInRange plan.now }
+    requires batch { means.now.batch ≡ plan.now.batch }
     ensures leaves { LeavesAll plan.now (Rose (S.faults source.old) (S.faults source.new)) (S.left source.old)
         (S.left source.new) (K.put sink.old) (K.put sink.new) result }
     ensures read_fault { result ≡ Status.ReadFault → Rose (S.faults source.old) (S.faults source.new) }
@@ -255,7 +261,8 @@ fn serve_input<R: Threads + Sync, S: Source, K: Sink, G: Gate + Sync>(
     sink: &mut K,
     beyond: &mut Option<u64>,
 ) -> Result<Ending, Stop>
-    requires { IsInRange plan.now }
+    requires range { IsInRange plan.now }
+    requires batch { means.now.batch ≡ plan.now.batch }
     ensures leaves { LeavesAll plan.now (Rose (S.faults source.old) (S.faults source.new)) (S.left source.old)
         (S.left source.new) (K.put sink.old) (K.put sink.new) (status_by result) }
     ensures read_fault { result ≡ Ok Ending.ReadFault → Rose (S.faults source.old) (S.faults source.new) }
@@ -270,16 +277,17 @@ fn serve_input<R: Threads + Sync, S: Source, K: Sink, G: Gate + Sync>(
     promise_laws();
     let service = service_of(plan);
     let alloc = means.alloc;
-    let mut text = Vec::with_capacity(alloc, TEXT_ROOM)?;
+    let batch = means.batch as usize;
+    let mut text = Vec::with_capacity(alloc, batch * LINE_ROOM)?;
     let head = head_of(false, plan);
     head_fits(&head, &service.settings);
     head_text(&mut text, &head)?;
     let mut piles = Piles {
-        now: CallPile::with_room(alloc, service, plan.framing, BATCH as usize)?,
-        next: CallPile::with_room(alloc, service, plan.framing, BATCH as usize)?,
+        now: CallPile::with_room(alloc, service, plan.framing, batch)?,
+        next: CallPile::with_room(alloc, service, plan.framing, batch)?,
         beyond: *beyond,
     };
-    let mut serving = Serving::new(alloc, service, plan.framing)?;
+    let mut serving = Serving::new(alloc, service, plan.framing, means.batch)?;
     let answer = run_job::<R, S, K, G, Plan, Serving>(
         means,
         plan.framing.link.number(),

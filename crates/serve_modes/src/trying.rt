@@ -7,7 +7,7 @@ ghost use Rattle.edge_traits.specs.Edge.{Rose};
 ghost use Rattle.word_rows.specs.Shape.{AreBelow};
 ghost use Rattle.batch_runner.specs.Seats.{HasWorked};
 ghost use Rattle.batch_runner.specs.Totals.{IsTotalOf};
-ghost use Rattle.capture_loop.specs.declared.job.TheConstants.{BATCH, PACKET_LIMIT};
+ghost use Rattle.capture_loop.specs.declared.job.TheConstants.{MOST_BATCH, PACKET_LIMIT};
 ghost use Rattle.command_line.specs.declared.plan.Plan.{Plan as APlan};
 ghost use Rattle.command_line.specs.Words.{IsInRange};
 ghost use Rattle.packet_heads.specs.Heads.{plain_framing};
@@ -21,7 +21,7 @@ use crate::laws::serving_laws;
 use crate::serving::Serving;
 use batch_deals::{Dealt, Service};
 use batch_runner::{Asked, OpenBatch, SeatWorker, Totals, close_counted, open_batch};
-use capture_loop::{BATCH, Job, Means, Opened, PACKET_LIMIT, Piles, run_job};
+use capture_loop::{Job, MOST_BATCH, Means, Opened, PACKET_LIMIT, Piles, run_job};
 use command_line::Plan;
 use edge_traits::{Failed, Gate, MemorySink, Sink, write_all};
 use hash_bits::Hashing;
@@ -34,16 +34,17 @@ use std::alloc::{AllocError, Global};
 use std::mem;
 use std::thread::Threads;
 
-/// Room for the three lines of a trial, which have up to 407 bytes.
+/// Room for the three lines of a trial, which have up to 424 bytes.
 const TEXT_ROOM: usize = 512;
 
 /// The batches so far of the made capture. They are served as those of `serve` are, and no line of them is told.
 #[derive(Drop)]
 pub(crate) struct Trying {
     pub serving: Serving,
-    /// What the capture is made of, and how many packets it has.
+    /// What the capture is made of, and how many packets it and a batch have.
     pub number: u64,
     pub packets: u32,
+    pub batch: u32,
 }
 
 impl Trying {
@@ -55,18 +56,19 @@ impl Trying {
         ensures none { IfOk result (λ trying. HasTried trying plan.now [] []) }
         ensures framing { IfOk result (λ trying. trying.serving.framing ≡ plan.now.framing) }
     {
-        let serving = Serving::new(alloc, service, plan.framing)?;
+        let serving = Serving::new(alloc, service, plan.framing, plan.batch)?;
         Ok(Trying {
             serving,
             number: plan.number,
             packets: plan.packets,
+            batch: plan.batch,
         })
     }
 
     /// What the trial tells, if these are all batches.
     fn trial(&self) -> Trial
         ensures { (plan : APlan) → IsServiceOf plan self.now.serving.service → self.now.number ≡ plan.number →
-            self.now.packets ≡ plan.packets →
+            self.now.packets ≡ plan.packets → self.now.batch ≡ plan.batch →
             result ≡ trial_of plan self.now.serving.progress.totals (length self.now.serving.progress.pairs.items) }
     {
         let service = &self.serving.service;
@@ -81,6 +83,7 @@ impl Trying {
             depth: service.settings.depth,
             start: service.settings.start,
             seed: seed_of(service.hashing),
+            batch: self.batch,
             calls: totals.calls,
             new: replies.new,
             old: replies.old,
@@ -149,7 +152,7 @@ impl Job<Plan> for Trying {
     ) -> Result<(), AllocError>
         requires going { (started : List CountWorker) × (before : ℕ) × (packets : List (List ℕ))
             × IsTrying self.old before × HasOpenedTrial self.old made.shared started made.kept before packets
-            × AllZip (HasWorked IsTotalOf) started made.workers.items × (length packets ≤ BATCH)
+            × AllZip (HasWorked IsTotalOf) started made.workers.items × (length packets ≤ MOST_BATCH)
             × (before + length packets ≤ PACKET_LIMIT) }
         ensures way { OnOk result (way_of self.new.serving.framing ≡ way_of self.old.serving.framing) }
         ensures going { OnOk result ((started : List CountWorker) (before : ℕ) (packets : List (List ℕ)) →
@@ -200,7 +203,8 @@ pub fn try_plan<R: Threads + Sync, K: Sink, G: Gate + Sync>(
     plan: &Plan,
     sink: &mut K,
 ) -> Status
-    requires { IsInRange plan.now }
+    requires range { IsInRange plan.now }
+    requires batch { means.now.batch ≡ plan.now.batch }
     ensures leaves { plan.now.rows ≡ None → plan.now.framing ≡ plain_framing →
         LeavesTried plan.now (K.put sink.old) (K.put sink.new) result }
     ensures no_usage { result ≡ Status.Usage → ⊥ }
@@ -223,7 +227,8 @@ fn text_of<R: Threads + Sync, G: Gate + Sync>(
     means: &Means<R, G>,
     plan: &Plan,
 ) -> Result<MemorySink, AllocError>
-    requires { IsInRange plan.now }
+    requires range { IsInRange plan.now }
+    requires batch { means.now.batch ≡ plan.now.batch }
     ensures { IfOk result
         (λ text. plan.now.rows ≡ None → plan.now.framing ≡ plain_framing → IsTrial plan.now text.put) }
 {
@@ -232,9 +237,10 @@ fn text_of<R: Threads + Sync, G: Gate + Sync>(
     serving_laws();
     let service = service_of(plan);
     let alloc = means.alloc;
+    let batch = means.batch as usize;
     let mut piles = Piles {
-        now: CallPile::with_room(alloc, service, plan.framing, BATCH as usize)?,
-        next: CallPile::with_room(alloc, service, plan.framing, BATCH as usize)?,
+        now: CallPile::with_room(alloc, service, plan.framing, batch)?,
+        next: CallPile::with_room(alloc, service, plan.framing, batch)?,
         beyond: None,
     };
     let mut trying = Trying::new(alloc, plan, service)?;

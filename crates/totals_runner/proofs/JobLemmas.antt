@@ -114,19 +114,21 @@ counts_on job then asked batches put old new packets batch so make kept same fra
         right = right_of then seats (so.counted ++ batch ∷ []) (same ∙ so.as_many) kept;
         text_is = (λ i. so.text_is i
             ++ add_batch_lines (so.as_many i) (lines_of (so.as_many i) (so.kept.before i) batch))
-            ∙ ap (λ (n : ℕ). (totals_head seats
+            ∙ ap (λ (n : ℕ). (totals_head seats asked.batch
             ++ flat_map (add_batch_lines seats) (all_lines seats no_counts so.counted))
             ++ add_batch_lines seats (lines_of seats (added_in_all n no_counts so.counted) batch)) so.as_many
-            ∙ append_assoc (totals_head seats)
+            ∙ append_assoc (totals_head seats asked.batch)
             (flat_map (add_batch_lines seats) (all_lines seats no_counts so.counted))
             (add_batch_lines seats (lines_of seats (added_in_all seats no_counts so.counted) batch))
-            ∙ ap (λ (t : List ℕ). totals_head seats ++ t) (sym (lines_more seats no_counts so.counted batch));
+            ∙ ap (λ (t : List ℕ). totals_head seats asked.batch ++ t)
+            (sym (lines_more seats no_counts so.counted batch));
       },
     )
 
 -- nothing yet
 pub begun : (job : Counting) (asked : Asked) (text : List ℕ) → job.seats ≡ asked.seats →
-    job.framing ≡ asked.framing → HasCounted job [] → text ≡ totals_head asked.seats → IsCountedSo job asked [] text
+    job.framing ≡ asked.framing → HasCounted job [] → text ≡ totals_head asked.seats asked.batch → IsCountedSo job
+    asked [] text
 begun job asked text same framed kept is =
     record {
       as_many = same;
@@ -135,7 +137,7 @@ begun job asked text same framed kept is =
       of = refl;
       kept = kept;
       right = right_of job asked.seats [] same kept;
-      text_is = is ∙ sym (append-nil (totals_head asked.seats));
+      text_is = is ∙ sym (append-nil (totals_head asked.seats asked.batch));
     }
 
 -- what follows of an answer follows of it there

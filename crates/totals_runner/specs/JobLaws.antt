@@ -52,8 +52,8 @@ ends_report job asked batches put ending so =
       so.counted,
       counted_of job asked batches put so,
       ap (λ (t : List ℕ). t ++ totals_tail (tail_of job asked.seats ending)) so.text_is
-          ∙ append_assoc (totals_head asked.seats) lines (totals_tail (tail_of job asked.seats ending))
-          ∙ (λ i. totals_head asked.seats ++ (lines ++ totals_tail (record {
+          ∙ append_assoc (totals_head asked.seats asked.batch) lines (totals_tail (tail_of job asked.seats ending))
+          ∙ (λ i. totals_head asked.seats asked.batch ++ (lines ++ totals_tail (record {
             totals = so.kept.totals i;
             ending = ending;
             most = most i;

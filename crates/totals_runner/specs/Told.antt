@@ -46,7 +46,8 @@ pub record IsCountedSo (counting : Counting) (asked : Asked) (batches : List (Li
         AreRight asked.seats (adds_on counted) (answers_on asked.seats no_counts counted) (order_on asked.seats counted)
         (totals_left nothing counted)
     pub text_is : text
-        ≡ totals_head asked.seats ++ flat_map (add_batch_lines asked.seats) (all_lines asked.seats no_counts counted)
+        ≡ totals_head asked.seats asked.batch
+        ++ flat_map (add_batch_lines asked.seats) (all_lines asked.seats no_counts counted)
 
 -- so many packets were counted
 pub record HasGone (counting : Counting) (many : ℕ) : Type 0 where
@@ -69,7 +70,8 @@ pub record AreCountedOf (asked : Asked) (packets : List (List (List ℕ))) (batc
 abbrev pub IsTotalsLines : Asked → List (List (List ℕ)) → List ℕ → Type 0
 IsTotalsLines asked packets text =
     (batches : List Counted) × AreCountedOf asked packets batches
-    × (text ≡ totals_head asked.seats ++ flat_map (add_batch_lines asked.seats) (all_lines asked.seats no_counts
+    × (text ≡ totals_head asked.seats asked.batch ++ flat_map (add_batch_lines asked.seats)
+    (all_lines asked.seats no_counts
     batches))
 
 -- the whole report of them, with this ending
@@ -78,6 +80,7 @@ IsTotalsReport asked packets ending text =
     (batches : List Counted) × AreCountedOf asked packets batches
     × (text ≡ totals_report (record {
       seats = asked.seats;
+      batch = asked.batch;
       batches = all_lines asked.seats no_counts batches;
       tail = record {
         totals = totals_left nothing batches;

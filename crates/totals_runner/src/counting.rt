@@ -23,6 +23,8 @@ pub struct Asked {
     pub seats: u32,
     /// How packets are framed.
     pub framing: Framing,
+    /// How many packets a batch has.
+    pub batch: u32,
 }
 
 /// What the batches so far came to.

@@ -9,7 +9,7 @@ ghost use Rattle.packet_adders.specs.declared.workers.AddWorker.{AddWorker as AW
 use crate::batch::Dealt;
 use crate::counting::{Asked, Counting};
 use crate::frames::Frames;
-use capture_loop::{BATCH, Job, Opened, PACKET_LIMIT};
+use capture_loop::{Job, MOST_BATCH, Opened, PACKET_LIMIT};
 use packet_adders::AddWorker;
 use report_text::{Ending, TotalsTail, totals_tail_text};
 use sim_totals::{TotalsTable, step_bound};
@@ -65,7 +65,7 @@ impl Job<Asked> for Counting {
     ) -> Result<(), AllocError>
         requires going { (started : List AWorker) × (before : ℕ) × (packets : List (List ℕ)) × HasGone self.old before
             × IsOpened self.old made.shared started made.kept before packets
-            × AllZip (IsDone made.shared) started made.workers.items × (length packets ≤ BATCH)
+            × AllZip (IsDone made.shared) started made.workers.items × (length packets ≤ MOST_BATCH)
             × (before + length packets ≤ PACKET_LIMIT) }
         ensures way { OnOk result (way_of self.new.framing ≡ way_of self.old.framing) }
         ensures going { OnOk result ((started : List AWorker) (before : ℕ) (packets : List (List ℕ)) →

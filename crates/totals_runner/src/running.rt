@@ -1,9 +1,10 @@
 //! A run that counts.
 
-ghost use Rattle.std.specs.Prelude.{◌≡◌, ◌≤◌, Ok};
+ghost use Rattle.std.specs.Prelude.{◌≡◌, ◌<◌, ◌≤◌, Ok};
 ghost use Rattle.edge_traits.specs.Edge.{Rose};
 ghost use Rattle.capture_loop.specs.Input.{StopsAt, packet_limit};
 ghost use Rattle.capture_loop.specs.Leaves.{LoopLeavesAll, Marks, RunReads, RunWrites};
+ghost use Rattle.capture_loop.specs.declared.job.TheConstants.{MOST_BATCH};
 ghost use Rattle.capture_loop.specs.Looping.{OnNotPut};
 ghost use Rattle.packet_heads.specs.Links.{number_in};
 ghost use Rattle.totals_runner.specs.Told.{IsTotalsLines, IsTotalsReport};
@@ -26,7 +27,9 @@ pub fn count_input<R: Threads + Sync, S: Source, K: Sink, G: Gate + Sync>(
 ) -> Result<Ending, Stop>
     requires some { 1 ≤ asked.now.seats }
     requires few { asked.now.seats ≤ 8 }
-    ensures leaves { LoopLeavesAll (IsTotalsLines asked.now) (IsTotalsReport asked.now)
+    requires batch { (0 < asked.now.batch) × (asked.now.batch ≤ MOST_BATCH) }
+    requires so_many { means.now.batch ≡ asked.now.batch }
+    ensures leaves { LoopLeavesAll asked.now.batch (IsTotalsLines asked.now) (IsTotalsReport asked.now)
         (Rose (S.faults source.old) (S.faults source.new)) (number_in asked.now.framing.link)
         (S.left source.old) (S.left source.new) (K.put sink.old) (K.put sink.new) result }
 
@@ -42,7 +45,7 @@ pub fn count_input<R: Threads + Sync, S: Source, K: Sink, G: Gate + Sync>(
     ensures counted { (S.faults source.old ≤ S.faults source.new) × (K.faults sink.old ≤ K.faults sink.new) }
 {
     let mut text = Vec::new(means.alloc);
-    totals_head_text(&mut text, asked.seats)?;
+    totals_head_text(&mut text, asked.seats, asked.batch)?;
     let mut counting = Counting::new(asked);
     let mut piles = Piles {
         now: Frames::new(means.alloc, asked.framing),

@@ -12,12 +12,12 @@ use Rattle.mode_parts.specs.Statuses.{status_by}
 
 -- what is asked of a run that counts
 abbrev pub asked_of : Plan → Asked
-asked_of plan = record { seats = plan.seats; framing = plan.framing }
+asked_of plan = record { seats = plan.seats; framing = plan.framing; batch = plan.batch }
 
 -- The run ended so, by its input or before, and what is put is the report of the packets that were counted then, by as
 -- many seats as the plan says, or a part of it.
 abbrev pub LeavesTotals : Plan → Type 0 → (first left before after : Option (List ℕ)) → Status → Type 0
 LeavesTotals plan read_failed first left before after answer =
     (end : Result Ending Stop) × (answer ≡ status_by end)
-    × LoopLeavesAll (IsTotalsLines (asked_of plan)) (IsTotalsReport (asked_of plan)) read_failed
+    × LoopLeavesAll plan.batch (IsTotalsLines (asked_of plan)) (IsTotalsReport (asked_of plan)) read_failed
     (number_in plan.framing.link) first left before after end

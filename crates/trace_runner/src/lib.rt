@@ -6,7 +6,7 @@ mod making;
 mod running;
 mod totals;
 
-pub use capture_loop::{BATCH, PACKET_LIMIT};
+pub use capture_loop::{BATCH, MOST_BATCH, PACKET_LIMIT};
 pub use mode_parts::Status;
 pub use play_mode::{PLAY_LIMIT, playing_laws};
 pub use running::run;

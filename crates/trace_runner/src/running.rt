@@ -33,14 +33,14 @@ use std::thread::Threads;
 
 /// Does what the words ask for. `words` are those after the program's name; they are judged before anything is read.
 ///
-/// `serve` reads a capture from the source, up to its fault or to one packet more than `PACKET_LIMIT`, 2,048 packets
-/// at a time. The calls of these are served by seats in threads of their own, and their lines are put into the sink
-/// before more is read of the source. `play` reads a capture of up to `PLAY_LIMIT` packets, whose calls are made step
-/// by step, by one schedule, and puts the report at once. `make` puts a made capture, and `trial` serves it and puts
-/// how many calls had each reply. `totals` goes through a capture as `serve` does, and counts its packets by adders in
-/// threads. `check` reads a report, and puts the line of its verdict. The gate is passed before each call that is
-/// served and each add, and told of each answer. Where a capture has more packets than a mode takes, `beyond` is where
-/// the first of these starts, in bytes from the input's first.
+/// `serve` reads a capture from the source, up to its fault or to one packet more than `PACKET_LIMIT`, so many packets
+/// at a time as the words say, or 2,048. The calls of these are served by seats in threads of their own, and their
+/// lines are put into the sink before more is read of the source. `play` reads a capture of up to `PLAY_LIMIT`
+/// packets, whose calls are made step by step, by one schedule, and puts the report at once. `make` puts a made
+/// capture, and `trial` serves it and puts how many calls had each reply. `totals` goes through a capture as `serve`
+/// does, and counts its packets by adders in threads. `check` reads a report, and puts the line of its verdict. The
+/// gate is passed before each call that is served and each add, and told of each answer. Where a capture has more
+/// packets than a mode takes, `beyond` is where the first of these starts, in bytes from the input's first.
 pub fn run<R: Threads + Sync, S: Source, K: Sink, G: Gate + Sync>(
     rt: &R,
     alloc: Global,
@@ -142,7 +142,16 @@ pub fn run<R: Threads + Sync, S: Source, K: Sink, G: Gate + Sync>(
 {
     one_input();
     match read_words(alloc, words) {
-        Ok(plan) => run_plan(&Means { rt, alloc, gate }, &plan, source, sink, beyond),
+        Ok(plan) => {
+            let batch = plan.batch;
+            let means = Means {
+                rt,
+                alloc,
+                gate,
+                batch,
+            };
+            run_plan(&means, &plan, source, sink, beyond)
+        }
         Err(WordsFault::Usage) => Status::Usage,
         Err(WordsFault::Memory) => Status::Memory,
     }
@@ -156,7 +165,8 @@ fn run_plan<R: Threads + Sync, S: Source, K: Sink, G: Gate + Sync>(
     sink: &mut K,
     beyond: &mut Option<u64>,
 ) -> Status
-    requires { IsInRange plan.now }
+    requires range { IsInRange plan.now }
+    requires batch { means.now.batch ≡ plan.now.batch }
     ensures headline { plan.now.mode ≡ Serve →
         LeavesAll plan.now (Rose (S.faults source.old) (S.faults source.new)) (S.left source.old)
         (S.left source.new) (K.put sink.old) (K.put sink.new) result }

@@ -23,7 +23,8 @@ pub(crate) fn count<R: Threads + Sync, S: Source, K: Sink, G: Gate + Sync>(
     sink: &mut K,
     beyond: &mut Option<u64>,
 ) -> Status
-    requires { IsInRange plan.now }
+    requires range { IsInRange plan.now }
+    requires batch { means.now.batch ≡ plan.now.batch }
     ensures leaves { LeavesTotals plan.now (Rose (S.faults source.old) (S.faults source.new)) (S.left source.old)
         (S.left source.new) (K.put sink.old) (K.put sink.new) result }
     ensures read_fault { result ≡ Status.ReadFault → Rose (S.faults source.old) (S.faults source.new) }
@@ -38,6 +39,7 @@ pub(crate) fn count<R: Threads + Sync, S: Source, K: Sink, G: Gate + Sync>(
     let asked = Asked {
         seats: plan.seats,
         framing: plan.framing,
+        batch: plan.batch,
     };
     match count_input(means, &asked, source, sink, beyond) {
         Ok(ending) => Status::of_ending(&ending),

@@ -79,9 +79,17 @@ pub const EXTENSIONS: NumberOption<'static> = NumberOption {
     default: 0,
 };
 
+/// How many packets a batch has.
+pub const BATCH: NumberOption<'static> = NumberOption {
+    name: "batch",
+    least: 2_048,
+    most: 65_536,
+    default: 2_048,
+};
+
 /// The options with a number.
-pub static NUMBERS: [NumberOption<'static>; 9] = [
-    SEATS, ITEMS, DEPTH, START, SEED, NUMBER, PACKETS, TAGS, EXTENSIONS,
+pub static NUMBERS: [NumberOption<'static>; 10] = [
+    SEATS, ITEMS, DEPTH, START, SEED, NUMBER, PACKETS, TAGS, EXTENSIONS, BATCH,
 ];
 
 /// The options with a text.

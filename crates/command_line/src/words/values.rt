@@ -9,7 +9,8 @@ ghost use Rattle.clap.specs.Words.{first_value, found_of};
 ghost use Rattle.step_counts.specs.Ranges.{IsWithin};
 ghost use Rattle.command_line.specs.Command.{depth, number_of, numbers, Passes};
 ghost use Rattle.command_line.specs.Texts.{AreRowsInRange};
-ghost use Rattle.command_line.specs.Words.{asked_rows, asked_schedule, asked_stops, has_seats, has_table, hashing_in};
+ghost use Rattle.command_line.specs.Words.{asked_rows, asked_schedule, asked_stops, has_batches, has_seats, has_table};
+ghost use Rattle.command_line.specs.Words.{hashing_in};
 ghost use Rattle.command_line.specs.Words.{hashing_of, makes_capture, mode_of, number_if, number_in};
 ghost use Rattle.command_line.specs.Words.{plan_of, plan_with, rows_for, schedule_for, seats_in, share_in};
 ghost use Rattle.command_line.specs.Words.{share_of, start_in, stops_in, text_in, IsInRange};
@@ -18,7 +19,7 @@ ghost use Rattle.command_line.specs.Words.{framing_in, link_in, link_of, reads_c
 use crate::plan::{Mode, Plan};
 use crate::plays::{Schedule, Stops};
 use crate::words::options::{
-    DEPTH, EXTENSIONS, ITEMS, NUMBER, NumberOption, PACKETS, SEATS, SEED, START, TAGS,
+    BATCH, DEPTH, EXTENSIONS, ITEMS, NUMBER, NumberOption, PACKETS, SEATS, SEED, START, TAGS,
 };
 use crate::words::plays::{schedule_of, stops_of};
 use crate::words::texts::rows_of;
@@ -113,6 +114,16 @@ fn reads_capture(mode: Mode) -> bool
     match mode {
         Mode::Serve | Mode::Play | Mode::Totals => true,
         Mode::Make | Mode::Trial | Mode::Check => false,
+    }
+}
+
+/// The mode goes through a capture batch by batch.
+fn has_batches(mode: Mode) -> bool
+    ensures { result ≡ has_batches mode }
+{
+    match mode {
+        Mode::Serve | Mode::Trial | Mode::Totals => true,
+        Mode::Play | Mode::Make | Mode::Check => false,
     }
 }
 
@@ -415,6 +426,7 @@ fn plan_with(
         stops,
         number: number_if(makes, matches, &NUMBER),
         packets: number_if(makes, matches, &PACKETS) as u32,
+        batch: number_if(has_batches(mode), matches, &BATCH) as u32,
         framing,
     })
 }

@@ -32,7 +32,8 @@ batches-init g c = record {
   stands = λ plan link first before has put come. (
     [],
     [],
-    at_start (g.J.Job.done c.args.job.now plan) link first before (g.K.Sink.put c.args.sink.now) c.args.text.now.items
+    at_start c.args.means.now.batch (g.J.Job.done c.args.job.now plan) link first before
+        (g.K.Sink.put c.args.sink.now) c.args.text.now.items
         has
         put,
     c.requires.none,
@@ -49,8 +50,10 @@ returns-in_err-part-clause-leaves g c = λ plan link first before faults low has
     let left = g.S.Source.left c.read_rest.new.source in
     let failed = Rose faults (g.S.Source.faults c.read_rest.new.source) in
     let now = g.K.Sink.put c.batches.sink in
-    leaves_memory lines report failed link first left before now c.from_residual.result c.from_residual.ensures
-    (last_memory lines report failed (g.J.Job.done c.batches.job plan) link first left c.batches.packets s.0 before now
+    leaves_memory c.args.means.now.batch lines report failed link first left before now c.from_residual.result
+    c.from_residual.ensures
+    (last_memory c.args.means.now.batch lines report failed (g.J.Job.done c.batches.job plan) link first left
+    c.batches.packets s.0 before now
     c.batches.text.items s.2 (g.met.J.Job.told c.batches.job plan s.2.batches s.2.text s.2.done))
 
 pub serve_last-requires-clause-piled : goal.serve_last-requires-clause-piled
@@ -97,7 +100,7 @@ serve_ahead-requires-clause-going g c = λ lives within.
       p.0 ++ r.0,
       c.batches.invariant.going,
       r.1,
-      omega (arith, r.2, goes.2),
+      omega (arith, r.2, goes.2, c.requires.batch.1),
       omega (arith, r.2, goes.3),
     )
 
@@ -109,9 +112,11 @@ returns-in_err-taken-in-None-clause-leaves g c = λ plan link first before fault
     let left = g.S.Source.left c.read_rest.new.source in
     let failed = Rose faults (g.S.Source.faults c.read_rest.new.source) in
     let now = g.K.Sink.put c.batches.sink in
-    leaves_memory lines report failed link first left before now c.from_residual-in_err-taken-in-None.result
+    leaves_memory c.args.means.now.batch lines report failed link first left before now
+    c.from_residual-in_err-taken-in-None.result
     c.from_residual-in_err-taken-in-None.ensures
-    (last_memory lines report failed (g.J.Job.done c.batches.job plan) link first left c.batches.packets s.0 before now
+    (last_memory c.args.means.now.batch lines report failed (g.J.Job.done c.batches.job plan) link first left
+    c.batches.packets s.0 before now
     c.batches.text.items s.2 (g.met.J.Job.told c.batches.job plan s.2.batches s.2.text s.2.done))
 
 pub returns-in_err-put-in-None-clause-leaves : goal.returns-in_err-put-in-None-clause-leaves
@@ -133,11 +138,13 @@ returns-in_err-put-in-None-clause-leaves g c = λ plan link first before faults 
     omega (arith, length-append s.0 last, s.2.count, r.2, goes.3) in
     let next = c.in_ok-taken-in-None.ensures.served plan s.2.batches s.2.text c.batches.packets last s.2.done
     c.batches.invariant.going r.1 in
-    leaves_not_put lines report failed link first left before now c.from_residual-in_err-put-in-None.result
+    leaves_not_put c.args.means.now.batch lines report failed link first left before now
+    c.from_residual-in_err-put-in-None.result
     c.from_residual-in_err-put-in-None.ensures
-    (leaves_some lines report failed link first left before now c.read_rest.new.reader (s.0 ++ last)
+    (leaves_some c.args.means.now.batch lines report failed link first left before now c.read_rest.new.reader
+    (s.0 ++ last)
     (s.2.batches ++ last ∷ []) (s.2.text ++ next.0) next_come few
-    (AreWhole-more s.0 last s.2.batches s.2.whole (r.2 ∙ goes.2))
+    (AreWhole-more c.args.means.now.batch s.0 last s.2.batches s.2.whole (r.2 ∙ goes.2))
     (g.met.J.Job.told c.serve_ahead.new.job plan (s.2.batches ++ last ∷ []) (s.2.text ++ next.0) next.2)
     (HasPut-cut before mid now c.batches.text.items s.2.text next.0 s.2.put
     (subst (AppendsFront mid now) next.1 c.in_err-put-in-None.ensures.prefix)))
@@ -163,14 +170,16 @@ returns-in_err-ahead-in-None-clause-leaves g c = λ plan link first before fault
     subst (λ (l : List ℕ). HasPut before now l (s.2.text ++ next.0)) (sym c.in_ok-put-in-None.ensures.none)
     (HasPut-more before mid now c.batches.text.items s.2.text next.0 s.2.put
     (subst (Appends mid now) next.1 c.in_ok-put-in-None.ensures.ok)) in
-    let stands : Stands (g.J.Job.done c.serve_ahead.new.job plan) link first
+    let stands : Stands c.args.means.now.batch (g.J.Job.done c.serve_ahead.new.job plan) link first
     (c.batches.packets + c.in_ok-part.part.packets) (s.0 ++ last) before now c.put.new.text.items =
-    Stands-more (g.J.Job.done c.batches.job plan) (g.J.Job.done c.serve_ahead.new.job plan) link first left
+    Stands-more c.args.means.now.batch (g.J.Job.done c.batches.job plan) (g.J.Job.done c.serve_ahead.new.job plan)
+    link first left
     c.read_rest.new.reader c.batches.packets c.in_ok-part.part.packets s.0 last before mid now c.batches.text.items
     c.put.new.text.items next.0 s.2 next_come r.2 goes.2 (omega (arith, goes.3)) next.2 held in
-    leaves_memory lines report failed link first left before now c.from_residual-in_err-ahead-in-None.result
+    leaves_memory c.args.means.now.batch lines report failed link first left before now
+    c.from_residual-in_err-ahead-in-None.result
     c.from_residual-in_err-ahead-in-None.ensures
-    (last_memory lines report failed (g.J.Job.done c.serve_ahead.new.job plan) link first left
+    (last_memory c.args.means.now.batch lines report failed (g.J.Job.done c.serve_ahead.new.job plan) link first left
     (c.batches.packets + c.in_ok-part.part.packets) (s.0 ++ last) before now c.put.new.text.items stands
     (g.met.J.Job.told c.serve_ahead.new.job plan stands.batches stands.text stands.done))
 
@@ -186,7 +195,8 @@ batches-preserved g c =
     let many : ℕ = c.batches.packets + c.in_ok-part.part.packets in
     let taken = IfOk-at_ok
     (λ (packets : ℕ). (more : List (List ℕ)) × g.J.Pile.Pile.holds c.serve_ahead.new.next many more
-    × (length more ≡ packets) × IsTaken c.read_rest.new.reader c.serve_ahead.new.reader many more)
+    × (length more ≡ packets) × IsTaken c.read_rest.new.reader c.serve_ahead.new.reader c.args.means.now.batch many
+    more)
     c.in_ok-ahead-in-None.was c.in_ok-taken-in-None.ensures.ahead in
     let ways = c.in_ok-taken-in-None.ensures.ways in
     let holds : g.J.Pile.Pile.holds c.swap.new.x many taken.0 =
@@ -225,7 +235,8 @@ batches-preserved g c =
           (subst (Appends mid now) next.1 c.in_ok-put-in-None.ensures.ok)) in (
             s.0 ++ last,
             taken.0,
-            Stands-more (g.J.Job.done c.batches.job plan) (g.J.Job.done c.serve_ahead.new.job plan) link first left
+            Stands-more c.args.means.now.batch (g.J.Job.done c.batches.job plan)
+                (g.J.Job.done c.serve_ahead.new.job plan) link first left
                 c.read_rest.new.reader c.batches.packets c.in_ok-part.part.packets s.0 last before mid now
                 c.batches.text.items c.put.new.text.items next.0 s.2 next_come r.2 goes.2 (omega (arith, goes.3)) next.2
                 held,

@@ -11,7 +11,7 @@ invariant-batches g l =
     record {
       reads : l.reader.ended ≡ false;
       given : l.reader.given ≡ l.packets + l.ahead;
-      few_ahead : (l.ahead ≤ 2048) × (l.packets + l.ahead ≤ 4000000);
+      few_ahead : (l.ahead ≤ l.fn.means.batch) × (l.packets + l.ahead ≤ 4000000);
       few : l.packets < 4000000;
       going : g.J.Job.going l.job l.packets;
       piled : (held : List (List ℕ)) × g.J.Pile.Pile.holds l.piles.now l.packets held × (length held ≡ l.ahead);
@@ -26,7 +26,8 @@ invariant-batches g l =
           g.J.Job.done l.fn.job plan [] l.fn.text.items →
           HasPut before (put l.fn.sink) l.fn.text.items l.fn.text.items →
           HaveCome link first (left l.fn.source) l.fn.reader [] →
-          (all held : List (List ℕ)) × Stands (g.J.Job.done l.job plan) link first l.packets all before (put l.sink)
+          (all held : List (List ℕ)) × Stands l.fn.means.batch (g.J.Job.done l.job plan) link first l.packets all
+          before (put l.sink)
           l.text.items × g.J.Pile.Pile.holds l.piles.now l.packets held × (length held ≡ l.ahead)
           × HaveCome link first (left l.source) l.reader (all ++ held);
     }

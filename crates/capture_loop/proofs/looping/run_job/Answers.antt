@@ -29,14 +29,14 @@ returns-in-Ends-clause-leaves g c = λ plan has.
     c.serve_last.ensures.leaves plan (g.S.Source.faults c.args.source.now) (g.S.Source.faults c.open.new.source) link
     first
     left put [] []
-    (at_start (g.J.Job.done c.args.job.now plan) link first put put c.args.text.now.items has
+    (at_start c.args.means.now.batch (g.J.Job.done c.args.job.now plan) link first put put c.args.text.now.items has
     (HasPut-start put c.args.text.now.items))
     c.requires.none refl ended
     (λ is. c.in-Err.ensures.read_fault (ap (λ u. Err u) (c.in-Ends.is ∙ ap (λ e. Ends e) is)))
 
 pub returns-in-Memory-clause-leaves : goal.returns-in-Memory-clause-leaves
 returns-in-Memory-clause-leaves g c = λ plan has.
-    leaves_nothing (g.J.Job.lines plan) (g.J.Job.report plan)
+    leaves_nothing c.args.means.now.batch (g.J.Job.lines plan) (g.J.Job.report plan)
     (Rose (g.S.Source.faults c.args.source.now) (g.S.Source.faults c.open.new.source))
     c.args.link (g.S.Source.left c.args.source.now) (g.S.Source.left c.open.new.source) (g.K.Sink.put c.args.sink.now)
     (g.K.Sink.put c.args.sink.now) (Keeps-same (g.K.Sink.put c.args.sink.now))

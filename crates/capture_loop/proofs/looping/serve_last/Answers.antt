@@ -15,10 +15,11 @@ returns-then-many-gt0-clause-leaves g c = λ plan faults since link first left b
     met.
     let none : last ≡ [] = nil_from_length last (count ∙ c.if-last-eq0.true) in
     let same : all ++ last ≡ all = ap (λ (ps : List (List ℕ)). all ++ ps) none ∙ append-nil all in
-    c.end_run.ensures.leaves plan faults since link first left before (all ++ last) stands.batches stands.text
+    c.end_run.ensures.leaves plan c.args.means.now.batch faults since link first left before (all ++ last)
+    stands.batches stands.text
     stands.done
-    (subst (λ (ps : List (List ℕ)). AreBatches ps stands.batches) (sym same)
-    (whole_cut all stands.batches stands.whole
+    (subst (λ (ps : List (List ℕ)). AreBatches c.args.means.now.batch ps stands.batches) (sym same)
+    (whole_cut c.args.means.now.batch all stands.batches stands.whole c.requires.batch.0
     (λ empty. omega (arith, empty, stands.count, c.if-many-gt0.true))))
     stands.put ended met
 
@@ -31,10 +32,12 @@ returns-in-Ok-clause-leaves g c = λ plan faults since link first left before al
     ] in
     let next = c.in-Ok.ensures.served plan stands.batches stands.text before c.args.many last stands.done
     c.requires.going holds stands.put in
-    c.end_run-in-Ok.ensures.leaves plan faults since link first left before (all ++ last) (stands.batches ++ last ∷ [])
+    c.end_run-in-Ok.ensures.leaves plan c.args.means.now.batch faults since link first left before (all ++ last)
+    (stands.batches ++ last ∷ [])
     (stands.text ++ next.0) next.1
-    (last_cut (g.J.Job.done c.args.job.now plan) link first c.args.many c.args.last.packets all last before
-    (g.K.Sink.put c.args.sink.now) c.args.text.now.items stands count c.requires.few.0 begun)
+    (last_cut c.args.means.now.batch (g.J.Job.done c.args.job.now plan) link first c.args.many c.args.last.packets all
+    last before
+    (g.K.Sink.put c.args.sink.now) c.args.text.now.items stands count c.requires.batch.0 c.requires.few.0 begun)
     next.2 ended met
 
 pub returns-in-Err-clause-leaves : goal.returns-in-Err-clause-leaves
@@ -48,21 +51,26 @@ returns-in-Err-clause-leaves g c = λ plan faults since link first left before a
     let report = g.J.Job.report plan in
     let after = g.K.Sink.put c.serve_one.new.sink in
     let batches : List (List (List ℕ)) = stands.batches ++ last ∷ [] in
-    leaves_stop lines report (Rose faults since) link first left before after c.in-Err.stop _ _ c.in-Err.ensures.front
+    leaves_stop c.args.means.now.batch lines report (Rose faults since) link first left before after c.in-Err.stop _ _
+    c.in-Err.ensures.front
     c.in-Err.ensures.memory
     (λ front.
     let next = front plan stands.batches stands.text before c.args.many last stands.done c.requires.going holds
     stands.put in
-    last_front lines report (Rose faults since) link first left before (all ++ last) batches c.args.last.ending ended
-    (last_cut (g.J.Job.done c.args.job.now plan) link first c.args.many c.args.last.packets all last before
-    (g.K.Sink.put c.args.sink.now) c.args.text.now.items stands count c.requires.few.0 begun)
+    last_front c.args.means.now.batch lines report (Rose faults since) link first left before (all ++ last) batches
+    c.args.last.ending ended
+    (last_cut c.args.means.now.batch (g.J.Job.done c.args.job.now plan) link first c.args.many c.args.last.packets all
+    last before
+    (g.K.Sink.put c.args.sink.now) c.args.text.now.items stands count c.requires.batch.0 c.requires.few.0 begun)
     met after (stands.text ++ next.0)
     (g.met.J.Job.begins c.serve_one.new.job plan batches (stands.text ++ next.0) c.args.last.ending next.1) next.2)
     (λ same.
-    subst (λ sink. LoopLeavesAll lines report (Rose faults since) link first left before (g.K.Sink.put sink) (Err
+    subst (λ sink. LoopLeavesAll c.args.means.now.batch lines report (Rose faults since) link first left before
+    (g.K.Sink.put sink) (Err
     Memory))
     (sym same)
-    (last_memory lines report (Rose faults since) (g.J.Job.done c.args.job.now plan) link first left c.args.many all
+    (last_memory c.args.means.now.batch lines report (Rose faults since) (g.J.Job.done c.args.job.now plan) link first
+    left c.args.many all
     before
     (g.K.Sink.put c.args.sink.now) c.args.text.now.items stands
     (g.met.J.Job.told c.args.job.now plan stands.batches stands.text stands.done)))

@@ -1,11 +1,11 @@
 -- What is told of the play can be printed, and the text is its report.
-use Rattle.std.proofs.Common.{◌++◌, ℕ, List, true, length, All, subst, sym, ap, ◌∙◌}
+use Rattle.std.proofs.Common.{◌++◌, ℕ, List, true, length, All, refl, subst, sym, ap, ◌∙◌, arith}
 use Rattle.std.specs.List.{flat_map}
 use Rattle.plain_map.specs.declared.calls.Call.{Call}
 use Rattle.plain_map.specs.declared.keys.Pair.{Pair}
 use Rattle.flow_keys.specs.FlowText.{HasText}
 use Rattle.report_text.specs.declared.parts.Head.{Head}
-use Rattle.report_told.specs.Rules.{IsHead, IsTail}
+use Rattle.report_told.specs.Rules.{IsBatch, IsHead, IsTail}
 use Rattle.report_text.specs.Report.{head_line, session_line, tail_lines}
 use Rattle.table_model.specs.Schedules.{CanPlay}
 use Rattle.play_runner.specs.declared.values.Played.{Played}
@@ -16,6 +16,11 @@ use Rattle.mode_parts.specs.Planned.{head_of}
 use Rattle.play_mode.specs.Playing.{IsRightPlay, play_in, play_setup, schedule_in}
 use Rattle.play_mode.proofs.PlayReports.{IsPlayOf-done, call-texts, depth-fits, ended-texts, pairs-texts, report-played, under-way-texts}
 use Rattle.play_mode.proofs.playing.report_of.Goals as goal
+
+pub head_fits-requires-clause-batch : goal.head_fits-requires-clause-batch
+head_fits-requires-clause-batch c =
+    subst (λ (head : Head). IsBatch head.play head.batch) (sym c.head_of-head.ensures)
+    (record { range = (omega arith, omega arith); one = λ yes. refl })
 
 pub put_played-requires-clause-ended : goal.put_played-requires-clause-ended
 put_played-requires-clause-ended c =

@@ -5,5 +5,6 @@ use Rattle.report_text.proofs.adds.put_head.Goals as goal
 pub returns : goal.returns
 unfolding totals_head
 returns c =
-    line_whole c.begin_line.ensures.begins (c.put_word.ensures.puts ⨟ c.put_named.ensures.puts)
+    line_whole c.begin_line.ensures.begins
+    (c.put_word.ensures.puts ⨟ c.put_named.ensures.puts ⨟ c.put_batch.ensures.puts)
     c.end_line.ensures.ends

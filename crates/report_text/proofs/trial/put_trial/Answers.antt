@@ -8,5 +8,5 @@ returns-clause-appended c =
     line_whole c.begin_line.ensures.begins
     (c.put_word.ensures.puts ⨟ c.put_named.ensures.puts ⨟ c.put_named-2.ensures.puts
     ⨟ c.put_named-3.ensures.puts ⨟ c.put_named-4.ensures.puts ⨟ c.put_named-5.ensures.puts
-    ⨟ c.put_named-6.ensures.puts ⨟ c.put_named-7.ensures.puts)
+    ⨟ c.put_named-6.ensures.puts ⨟ c.put_named-7.ensures.puts ⨟ c.put_batch.ensures.puts)
     c.end_line.ensures.ends

@@ -1,7 +1,7 @@
 -- The head line is held, and nothing was put.
-use Rattle.std.proofs.Common.{ℕ, ◌++◌, ◌<◌, ◌^◌, ap, refl, subst, ◌∙◌}
+use Rattle.std.proofs.Common.{false, sym, ℕ, ◌++◌, ◌<◌, ◌^◌, ap, refl, subst, ◌∙◌}
 use Rattle.report_text.specs.declared.parts.Head.{Head}
-use Rattle.report_told.specs.Rules.{seed_in}
+use Rattle.report_told.specs.Rules.{IsBatch, seed_in}
 use Rattle.report_text.specs.Report.{head_line}
 use Rattle.edge_traits.specs.Edge.{Rose}
 use Rattle.capture_loop.proofs.LeavesLemmas.{Keeps-same}
@@ -10,18 +10,29 @@ use Rattle.capture_loop.specs.Input.{StopsAt, packet_limit}
 use Rattle.capture_loop.specs.Leaves.{LoopLeavesAll, Marks}
 use Rattle.mode_parts.proofs.ExactLemmas.{MarksFor-end}
 use Rattle.serve_modes.specs.Serving.{IsLines, IsWholeReport}
+use Rattle.serve_modes.proofs.GoodSettings.{batch_told}
 use Rattle.serve_modes.proofs.HeadlineLemmas.{leaves_all, leaves_none}
 use Rattle.serve_modes.proofs.serving.serve_input.Goals as goal
 
+pub head_fits-requires-clause-batch : goal.head_fits-requires-clause-batch
+head_fits-requires-clause-batch g c =
+    subst (λ (head : Head). IsBatch head.play head.batch) (sym c.head_of-head.ensures)
+    (batch_told false c.args.plan.now c.requires.range.batch)
+
 pub returns-clause-leaves : goal.returns-clause-leaves
 returns-clause-leaves g c =
-    leaves_all c.serving_laws.ensures c.args.plan.now
+    leaves_all c.serving_laws.ensures c.args.plan.now c.requires.range.batch
     (Rose (g.S.Source.faults c.args.source.now) (g.S.Source.faults c.run_job-answer.new.source))
     (g.S.Source.left c.args.source.now) (g.S.Source.left c.run_job-answer.new.source) (g.K.Sink.put c.args.sink.now)
     (g.K.Sink.put c.run_job-answer.new.sink) c.promise_laws.ensures
     (subst (λ (head : Head). seed_in head.hashing < 2 ^ 64) c.head_of-head.ensures c.head_fits.ensures.seed)
     c.run_job-answer.result c.answer_fits.ensures
-    (subst (λ (link : ℕ). LoopLeavesAll (IsLines c.args.plan.now) (IsWholeReport c.args.plan.now)
+    (subst (λ (size : ℕ). LoopLeavesAll size (IsLines c.args.plan.now) (IsWholeReport c.args.plan.now)
+    (Rose (g.S.Source.faults c.args.source.now) (g.S.Source.faults c.run_job-answer.new.source))
+    (number_in c.args.plan.now.framing.link) (g.S.Source.left c.args.source.now)
+    (g.S.Source.left c.run_job-answer.new.source) (g.K.Sink.put c.args.sink.now)
+    (g.K.Sink.put c.run_job-answer.new.sink) c.run_job-answer.result) c.requires.batch
+    (subst (λ (link : ℕ). LoopLeavesAll c.args.means.now.batch (IsLines c.args.plan.now) (IsWholeReport c.args.plan.now)
     (Rose (g.S.Source.faults c.args.source.now) (g.S.Source.faults c.run_job-answer.new.source)) link
     (g.S.Source.left c.args.source.now) (g.S.Source.left c.run_job-answer.new.source) (g.K.Sink.put c.args.sink.now)
     (g.K.Sink.put c.run_job-answer.new.sink) c.run_job-answer.result) c.number.ensures
@@ -29,7 +40,7 @@ returns-clause-leaves g c =
     (c.in_ok-serving.ensures.done c.args.plan.now c.head_text.new.out.items c.service_of-service.ensures.asks refl
     (c.in_ok-head_text.ensures.appended
     ∙ ap (λ t. t ++ head_line c.head_of-head.result) c.in_ok-text.ensures.items ∙ ap head_line
-    c.head_of-head.ensures))))
+    c.head_of-head.ensures)))))
 
 pub returns-in_err-text-clause-leaves : goal.returns-in_err-text-clause-leaves
 returns-in_err-text-clause-leaves g c =

@@ -15,18 +15,18 @@ use Rattle.totals_runner.proofs.JobLemmas.{begun}
 use Rattle.totals_runner.proofs.running.count_input.Goals as goal
 
 -- memory ran out before anything was read
-leaves_none : (lines : Lines) (report : Reports) (read_failed : Type 0) (link : ℕ)
+leaves_none : (size : ℕ) (lines : Lines) (report : Reports) (read_failed : Type 0) (link : ℕ)
     (first left before after : Option (List ℕ))
     (result : Result Ending Stop) → IsErr result × IsErrAnd result (λ (stop : Stop). stop ≡ Memory) →
-    Keeps before after → LoopLeavesAll lines report read_failed link first left before after result
-leaves_none lines report read_failed link first left before after (Ok ending) is kept = absurd (cc)
-leaves_none lines report read_failed link first left before after (Err stop) is kept =
-    subst (λ (s : Stop). LoopLeavesAll lines report read_failed link first left before after (Err s)) (sym is.1)
-    (leaves_nothing lines report read_failed link first left before after kept)
+    Keeps before after → LoopLeavesAll size lines report read_failed link first left before after result
+leaves_none size lines report read_failed link first left before after (Ok ending) is kept = absurd (cc)
+leaves_none size lines report read_failed link first left before after (Err stop) is kept =
+    subst (λ (s : Stop). LoopLeavesAll size lines report read_failed link first left before after (Err s)) (sym is.1)
+    (leaves_nothing size lines report read_failed link first left before after kept)
 
 pub returns-in_err-totals_head_text-clause-leaves : goal.returns-in_err-totals_head_text-clause-leaves
 returns-in_err-totals_head_text-clause-leaves g c =
-    leaves_none (IsTotalsLines c.args.asked.now) (IsTotalsReport c.args.asked.now)
+    leaves_none c.args.asked.now.batch (IsTotalsLines c.args.asked.now) (IsTotalsReport c.args.asked.now)
     (Rose (g.S.Source.faults c.args.source.now) (g.S.Source.faults c.args.source.now))
     (number_in c.args.asked.now.framing.link) (g.S.Source.left c.args.source.now) (g.S.Source.left c.args.source.now)
     (g.K.Sink.put c.args.sink.now)
@@ -35,7 +35,13 @@ returns-in_err-totals_head_text-clause-leaves g c =
 
 pub returns-clause-leaves : goal.returns-clause-leaves
 returns-clause-leaves g c =
-    subst (λ (link : ℕ). LoopLeavesAll (IsTotalsLines c.args.asked.now) (IsTotalsReport c.args.asked.now)
+    subst (λ (size : ℕ). LoopLeavesAll size (IsTotalsLines c.args.asked.now) (IsTotalsReport c.args.asked.now)
+    (Rose (g.S.Source.faults c.args.source.now) (g.S.Source.faults c.run_job-answer.new.source))
+    (number_in c.args.asked.now.framing.link) (g.S.Source.left c.args.source.now)
+    (g.S.Source.left c.run_job-answer.new.source) (g.K.Sink.put c.args.sink.now)
+    (g.K.Sink.put c.run_job-answer.new.sink) c.run_job-answer.result) c.requires.so_many
+    (subst (λ (link : ℕ). LoopLeavesAll c.args.means.now.batch (IsTotalsLines c.args.asked.now)
+    (IsTotalsReport c.args.asked.now)
     (Rose (g.S.Source.faults c.args.source.now) (g.S.Source.faults c.run_job-answer.new.source)) link
     (g.S.Source.left c.args.source.now) (g.S.Source.left c.run_job-answer.new.source) (g.K.Sink.put c.args.sink.now)
     (g.K.Sink.put c.run_job-answer.new.sink) c.run_job-answer.result) c.number-link.ensures
@@ -43,7 +49,7 @@ returns-clause-leaves g c =
     (begun c.new-counting.result c.args.asked.now c.totals_head_text.new.out.items c.new-counting.ensures.seats
     c.new-counting.ensures.framing c.new-counting.ensures.none
     (c.in_ok-totals_head_text.ensures.appended
-    ∙ ap (λ (t : List ℕ). t ++ totals_head c.args.asked.now.seats) c.new-text.ensures.items)))
+    ∙ ap (λ (t : List ℕ). t ++ totals_head c.args.asked.now.seats c.args.asked.now.batch) c.new-text.ensures.items))))
 
 pub returns-clause-beyond : goal.returns-clause-beyond
 returns-clause-beyond g c =
@@ -55,7 +61,7 @@ returns-clause-beyond g c =
     (begun c.new-counting.result c.args.asked.now c.totals_head_text.new.out.items c.new-counting.ensures.seats
     c.new-counting.ensures.framing c.new-counting.ensures.none
     (c.in_ok-totals_head_text.ensures.appended
-    ∙ ap (λ (t : List ℕ). t ++ totals_head c.args.asked.now.seats) c.new-text.ensures.items)))
+    ∙ ap (λ (t : List ℕ). t ++ totals_head c.args.asked.now.seats c.args.asked.now.batch) c.new-text.ensures.items)))
 
 pub run_job-answer-requires-clause-ways : goal.run_job-answer-requires-clause-ways
 run_job-answer-requires-clause-ways g c = λ lives within. (

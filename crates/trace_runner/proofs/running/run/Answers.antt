@@ -106,7 +106,8 @@ pub returns-in-Ok-clause-exact_totals : goal.returns-in-Ok-clause-exact_totals
 returns-in-Ok-clause-exact_totals g c = λ plan bytes packets ending asked counts told capture no_read no_write.
     let same : c.in-Ok.plan ≡ plan = same_plan (sym c.in-Ok.ensures.answers ∙ asked) in
     let left = c.run_plan.ensures.totals (ap (λ (p : Plan). p.mode) same ∙ counts) in
-    totals_exact (number_in c.in-Ok.plan.framing.link) _ _ _ bytes _ _ _ left.0 c.run_plan.result packets ending left.1
+    totals_exact c.in-Ok.plan.batch (number_in c.in-Ok.plan.framing.link) _ _ _ bytes _ _ _ left.0 c.run_plan.result
+    packets ending left.1
     (c.one_input.ensures (number_in c.in-Ok.plan.framing.link) bytes)
     (subst (λ (p : Plan). Input (number_in p.framing.link) bytes packets ending) (sym same) capture)
     (λ is. no_read (c.run_plan.ensures.read_fault is)) (λ is. no_write (c.run_plan.ensures.write_fault is))

@@ -7,7 +7,7 @@ use Rattle.mode_parts.proofs.pile.CallPilePile.take.Goals.{then-is_some+in-Some-
 
 pub returns-clause-holds : goal.returns-clause-holds
 returns-clause-holds c = λ before packets holds at.
-    let few : length packets + 1 ≤ 2048 = omega (arith, holds.count, c.requires.some.2.count, c.requires.some.4) in
+    let few : length packets + 1 ≤ 65536 = omega (arith, holds.count, c.requires.some.2.count, c.requires.some.4) in
     let Undealt : CallPile → Type 0 = (λ pile. HoldsUndealt pile before packets) in
     let gone : HoldsUndealt _ before packets = given_up c.args.self.now before packets holds in
     let undealt : Undealt c.if-is_some.self =

@@ -12,5 +12,6 @@ returns-clause-none c =
       done = c.in_ok-serving.ensures.done plan (head_line (head_of false plan)) c.requires.asks refl refl;
       number = refl;
       packets = refl;
+      batch = refl;
       none = refl;
     }

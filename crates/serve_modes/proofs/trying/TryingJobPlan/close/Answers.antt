@@ -57,6 +57,7 @@ returns-clause-served g c = λ plan batches put started before packets tried goi
         done = more.2;
         number = tried.number;
         packets = tried.packets;
+        batch = tried.batch;
         none = append-nil put ∙ tried.none;
       },
     )

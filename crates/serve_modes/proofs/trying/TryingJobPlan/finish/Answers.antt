@@ -17,7 +17,7 @@ returns c = OnOk-weaker c.trial_text.result (λ appended plan batches put tried.
     let done = tried.done in
     let lines : List ℕ = trial_lines (tried_of plan done.served) in
     let told : c.trial.result ≡ tried_of plan done.served =
-    c.trial.ensures plan done.asks tried.number tried.packets
+    c.trial.ensures plan done.asks tried.number tried.packets tried.batch
     ∙ ap (λ (t : Totals). trial_of plan t (length job.progress.pairs.items)) done.has.totals
     ∙ ap (λ (pairs : List Pair). trial_of plan (totals_of (outcomes_in done.served)) (length pairs)) done.has.pairs in (
       lines,
