@@ -71,19 +71,34 @@ static size_t bytes_of(const struct flowdir_options *options, struct flowdir_tab
     return bytes;
 }
 
-/* The words are made twice by the first reopening, and once by each further one, also after one that failed. */
+/* What an opening lays its first pairs out in. For each class of keys there are two places of 104 bytes, for a bucket
+ * before and after it is filled; the bucket's room, with 56 bytes for each item and 4 and 24 for each seat's last update
+ * and its reply; a count of 4 bytes; and two numbers of 8 bytes in directories. */
+static size_t layout_of(const struct flowdir_options *options) {
+    return ((size_t)56 * options->items + 28 * options->seats + 2 * 104 + 4 + 2 * 8) << options->depth;
+}
+
+/* A reopening asks for these bytes, and beside them for the room of each seat, the table itself and three pairs. */
+static void expect_bytes(const char *what, size_t bytes, size_t wanted, const struct flowdir_options *options) {
+    if (bytes >= wanted && bytes < wanted + (size_t)240000 * options->seats) return;
+    printf("%s: %zu bytes, wanted %zu and little beside them\n", what, bytes, wanted);
+    failures++;
+}
+
+/* The words are made twice by the first reopening, and once by each further one, also after one that failed. The layout
+ * is made by the first one alone, and where the settings change. */
 static void words_are_kept(const struct flowdir_options *options) {
     struct flowdir_options narrow = *options;
-    narrow.items = 1, narrow.depth = 0;
+    narrow.items = 1, narrow.depth = 0, narrow.start = 0;
     struct flowdir_table first = closed_after(options, 0), second = closed_after(options, 1);
     struct flowdir_table third = closed_after(options, 2), failed = closed_after(options, 2), none = {0};
-    size_t bytes = bytes_of(options, &first), words = flowdir_memory(options);
-    expect("the words, and little beside them", bytes >= words && bytes < words * 6 / 5, 1);
-    expect("half at the second", bytes_of(options, &second) < bytes * 6 / 10, 1);
-    expect("half at the third", bytes_of(options, &third) < bytes * 6 / 10, 1);
+    size_t words = flowdir_memory(options), layout = layout_of(options);
+    expect_bytes("the first", bytes_of(options, &first), words + layout, options);
+    expect_bytes("the second", bytes_of(options, &second), words / 2, options);
+    expect_bytes("the third", bytes_of(options, &third), words / 2, options);
     expect("three keys for one", flowdir_reopen(&narrow, &failed, &none), FLOWDIR_NO_ROOM);
     expect("no table", none.at != NULL, 0);
-    expect("half after a failure", bytes_of(options, &failed) < bytes * 6 / 10, 1);
+    expect_bytes("after a failure", bytes_of(options, &failed), words / 2 + layout, options);
 }
 
 /* Each request of a reopening that is refused is told, and the next try finds all as it was. */
@@ -103,12 +118,21 @@ static void refusals_are_told(const struct flowdir_options *options, int reopeni
     expect("reopened at last", told, FLOWDIR_OK);
 }
 
-int main(void) {
-    struct flowdir_options options = {.seats = 2, .items = 8, .depth = 10, .start = 0, .seed = 1};
+/* These settings, with the rows of 200 updates of 64 keys. */
+static struct flowdir_options options_of(uint32_t seats, uint32_t items, uint32_t depth, uint32_t start) {
+    struct flowdir_options options = {.seats = seats, .items = items, .depth = depth, .start = start, .seed = 1};
     expect("rows", flowdir_rows_by(&options, 200, 64, &options.rows), FLOWDIR_OK);
-    words_are_kept(&options);
-    refusals_are_told(&options, 0);
-    refusals_are_told(&options, 2);
+    return options;
+}
+
+int main(void) {
+    struct flowdir_options usual = options_of(2, 8, 10, 0), deep = options_of(1, 3, 12, 12);
+    struct flowdir_options most = options_of(8, 16, 12, 3), small = options_of(2, 8, 3, 0);
+    words_are_kept(&usual);
+    words_are_kept(&deep);
+    words_are_kept(&most);
+    refusals_are_told(&small, 0);
+    refusals_are_told(&small, 2);
     printf("%s\n", failures ? "WRONG" : "words are kept, and each refusal is told");
     return failures != 0;
 }

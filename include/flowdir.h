@@ -108,12 +108,15 @@ uint32_t flowdir_rows_by(const struct flowdir_options *options, uint32_t updates
                          struct flowdir_rows *rows);
 
 /* The bytes of the words that an opening takes with these options: those of the table, and as many from which they are
- * copied, which flowdir_open gives back and a table of flowdir_reopen keeps. Beside them an opening takes room for each
- * seat and copies of its first pairs. 0 where the options are out of their ranges. Any number of threads at once. */
+ * copied. Beside them an opening takes (56 * items + 28 * seats + 228) << depth bytes to lay its first pairs out in.
+ * flowdir_open gives back both the words to copy from and the layout; a table of flowdir_reopen keeps them. It also
+ * takes less than 240,000 bytes for each seat, and copies its first pairs. 0 where the options are out of their ranges.
+ * Any number of threads at once. */
 uint64_t flowdir_memory(const struct flowdir_options *options);
 
-/* Opens a table that holds these pairs. BAD: options, rows, values or bytes out of their ranges, or a key that stands
- * twice; NO_ROOM; MEMORY. Any number of threads at once, each with a handle of its own. */
+/* Opens a table that holds these pairs. BAD: options, rows, values or bytes out of their ranges, which is told before
+ * memory is asked for, or a key that stands twice; NO_ROOM; MEMORY. Any number of threads at once, each with a handle of
+ * its own. */
 uint32_t flowdir_open(const struct flowdir_options *options, const struct flowdir_pair *first, size_t count,
                       struct flowdir_table *table);
 
@@ -171,8 +174,9 @@ uint32_t flowdir_pair_at(struct flowdir_table *table, size_t at, struct flowdir_
  *
  * The words of a table are copied from others, which are all 0 before and after. The table that a reopening opens keeps
  * these, and its own reopening finds them: it makes and clears none, or under other options as many as are wanted more.
- * So such a table takes the memory of its words twice, and the closed one that of its own, until flowdir_free gives back
- * what each has. After any answer but FLOWDIR_OK the closed one still keeps them. flowdir_open keeps none. */
+ * It keeps the layout of its first pairs too, which is made again only under other options. So such a table takes what
+ * flowdir_memory tells and the layout, and the closed one half of that, until flowdir_free gives back what each has.
+ * After any answer but FLOWDIR_OK the closed one still keeps the words. flowdir_open keeps none. */
 uint32_t flowdir_reopen(const struct flowdir_options *options, struct flowdir_table *closed,
                         struct flowdir_table *table);
 

@@ -1,5 +1,5 @@
 -- Pairs in another order fit alike, and lack room alike.
-use Rattle.std.proofs.Common.{ℕ, Bool, cond, List, [], ◌∷◌, ap, refl, arith, eq-eqb}
+use Rattle.std.proofs.Common.{◌≡◌, ℕ, Bool, cond, List, [], ◌∷◌, ◌++◌, map, ap, refl, arith, eq-eqb}
 use Rattle.std.specs.Prelude.{All, IsPermutation, ◌==◌, count_by}
 use Rattle.std.proofs.lemmas.List.Sums.{sum_by-append}
 use Rattle.std.proofs.lemmas.List.Sorted.{All-permutation, IsPermutation-map, IsPermutation-sym, sum_by-IsPermutation}
@@ -12,7 +12,17 @@ use Rattle.bucket_states.specs.Items.{same_key}
 use Rattle.bucket_states.specs.Parts.{HasDistinctKeys, keys_of}
 use Rattle.bucket_states.proofs.KeyTests.{same_key-equiv}
 use Rattle.table_model.specs.Setup.{IsFirstWithoutRoom, IsPair}
+use Rattle.flowdir_c.specs.declared.answer.FlowPair.{FlowPair}
 use Rattle.flowdir_c.specs.Fit.{AreFitPairs, LackRoom}
+
+-- a pair that stands where none does
+abbrev pub no_flow_pair : FlowPair
+no_flow_pair = record { key = record { k0 = 0; k1 = 0; k2 = 0; k3 = 0; k4 = 0 }; value = 0; bytes = 0 }
+
+-- one image more
+pub map_more : {A B : Type 0} (f : A → B) (xs : List A) (x : A) → map f (xs ++ x ∷ []) ≡ map f xs ++ f x ∷ []
+map_more f [] x = refl
+map_more f (y ∷ ys) x = ap (λ zs. f y ∷ zs) (map_more f ys x)
 
 -- pairs in another order have distinct keys
 pub distinct_moved : (xs ys : List Pair) → IsPermutation xs ys → HasDistinctKeys xs → HasDistinctKeys ys

@@ -1,9 +1,15 @@
 -- What holds of the table that runs, if one does, and of the seats that nobody has had.
-use Rattle.std.proofs.Common.{◌≡◌, ℕ, zero, suc, ◌+◌, List, [], ◌∷◌, ◌++◌, Some, None, length, refl, sym, ap, ◌∙◌, length-append, arith}
-use Rattle.std.specs.Prelude.{Option, All, IfSome}
+use Rattle.std.proofs.Common.{◌≡◌, ℕ, zero, suc, ◌+◌, List, [], ◌∷◌, ◌++◌, Some, None, length, refl, sym, ap, ◌∙◌, length-append, subst, arith}
+use Rattle.std.specs.Prelude.{Option, All, IfSome, IsPermutation, IsSomeAnd}
 use Rattle.std.proofs.lemmas.List.Elements.{All-nil, All-cons}
+use Rattle.plain_map.specs.declared.rules.Rules.{Rules}
+use Rattle.word_rows.specs.Shape.{Shape}
+use Rattle.table_model.specs.Closed.{closed_pairs}
+use Rattle.table_model.specs.Setup.{HaveRoom}
+use Rattle.order_laws.specs.KeyOrder.{PairsReopenInAnyTurn}
 use Rattle.shared_table.specs.SeatValues.{SeatValue}
-use Rattle.shared_table.specs.Values.{IsOf, TableValue, new_seat, new_seats}
+use Rattle.shared_table.specs.Values.{ClosedValue, IsOf, TableValue, new_seat, new_seats}
+use Rattle.flowdir_c.specs.Shelves.{ArePairsOf, IsLeftBy, ShelfValue}
 
 -- what holds where something is there, if something else held
 pub if_some : {A : Type 0} (P Q : A → Type 0) (o : Option A) → ((x : A) → o ≡ Some x → P x → Q x) → IfSome o P →
@@ -61,3 +67,15 @@ put_last t xs ys y new is one =
     let long : length ys ≡ suc (length xs) = ap length is ∙ length-append xs (y ∷ []) ∙ more in
     let z : length xs ≡ 0 + length xs = omega arith in
     is ∙ (λ i. new i ++ (one ∙ ap (new_seat t) z) i ∷ []) ∙ new_more t 0 (length xs) ∙ ap (new_seats t 0) (sym long)
+
+-- the pairs that a run by these rules left, and that are listed, find room by them
+pub listed_have_room : PairsReopenInAnyTurn → (rules : Rules) (shelf : ShelfValue) → IsLeftBy rules shelf →
+    IsSomeAnd shelf.left (λ left. ArePairsOf left shelf.pairs) → HaveRoom rules shelf.pairs
+listed_have_room law rules shelf by listed =
+    let are : ArePairsOf by.closed shelf.pairs =
+    subst (λ (o : Option ClosedValue). IsSomeAnd o (λ left. ArePairsOf left shelf.pairs)) by.is listed in
+    let ran = by.was.ran in
+    let held = subst (λ (u : Shape × List ℕ). IsPermutation (closed_pairs u.0 u.1) shelf.pairs)
+    (λ i. (by.was.shape i, ran.words_are i)) are.held in
+    subst (λ (r : Rules). HaveRoom r shelf.pairs) by.rules_are
+    (law by.setup ran.events shelf.pairs ran.is_run held).2

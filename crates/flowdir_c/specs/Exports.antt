@@ -22,7 +22,7 @@ use Rattle.flowdir_c.specs.Fit.{AreFit, AreFitPairs, LackRoom, rules_in}
 use Rattle.flowdir_c.specs.Told.{HasTold, calls_after, pair_of, status_of, written}
 use Rattle.flowdir_c.specs.Glimpsed.{HasGlimpsed}
 use Rattle.flowdir_c.specs.Opened.{IsOpened}
-use Rattle.flowdir_c.specs.Shelves.{ArePairsOf, ShelfValue, WasLeftTo}
+use Rattle.flowdir_c.specs.Shelves.{ArePairsOf, HasSeatOut, IsLeftBy, ShelfValue, WasLeftTo}
 
 -- the bound of an update, if there are settings
 abbrev pub bound_in : Option Settings → ℕ
@@ -204,6 +204,15 @@ IsUnfit options first = AreFit options → AreFitPairs (map pair_of first) → �
 abbrev pub LacksRoom : Options → List ShelfValue → Type 0
 LacksRoom options holders =
     (shelf : ShelfValue) × (holders ≡ shelf ∷ []) × LackRoom (rules_in options) shelf.pairs
+
+-- what is closed was left by a run of a table with the same room of a class, greatest depth and hashing
+abbrev pub IsLeftAlike : Options → List ShelfValue → Type 0
+IsLeftAlike options holders =
+    (shelf : ShelfValue) × (holders ≡ shelf ∷ []) × IsLeftBy (rules_in options) shelf
+
+-- a table runs, of whose seats one was taken and not given back
+abbrev pub HasOneOut : List ShelfValue → Type 0
+HasOneOut holders = (shelf : ShelfValue) × (holders ≡ shelf ∷ []) × HasSeatOut shelf
 
 -- no table runs
 abbrev pub RunsNone : List ShelfValue → Type 0

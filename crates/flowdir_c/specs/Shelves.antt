@@ -1,10 +1,11 @@
 -- A table that runs or is closed, as C has it.
-use Rattle.std.specs.Prelude.{◌≡◌, ℕ, Bool, List, Option, IsPermutation}
+use Rattle.std.specs.Prelude.{◌≡◌, ℕ, ◌+◌, ◌<◌, Bool, List, length, Option, Some, IsPermutation}
 use Rattle.std.specs.List.Sorted.{IsSortedByKey}
 use Rattle.plain_map.specs.declared.keys.Pair.{Pair}
+use Rattle.plain_map.specs.declared.rules.Rules.{Rules}
 use Rattle.plain_map.specs.Keys.{key_cmp}
 use Rattle.table_model.specs.Closed.{closed_pairs}
-use Rattle.table_model.specs.Setup.{Setup}
+use Rattle.table_model.specs.Setup.{Setup, rules_of, seats_of}
 use Rattle.shared_table.specs.SeatValues.{SeatValue}
 use Rattle.shared_table.specs.Values.{ClosedValue, Ran, TableValue}
 
@@ -36,3 +37,18 @@ pub record ShelfValue : Type 0 where
   pub left : Option ClosedValue
   pub is_listed : Bool
   pub pairs : List Pair
+
+-- what is closed was left by a run of a table with these rules
+pub record IsLeftBy (rules : Rules) (shelf : ShelfValue) : Type 0 where
+  pub closed : ClosedValue
+  pub is : shelf.left ≡ Some closed
+  pub setup : Setup
+  pub seats : List SeatValue
+  pub was : WasLeftTo setup seats closed
+  pub rules_are : rules_of setup ≡ rules
+
+-- a table runs, of whose seats one was taken and not given back
+pub record HasSeatOut (shelf : ShelfValue) : Type 0 where
+  pub table : TableValue
+  pub runs : shelf.table ≡ Some table
+  pub out : length shelf.back + shelf.free < seats_of table.setup

@@ -4,10 +4,12 @@ ghost use Rattle.std.specs.Prelude.{◌≡◌, ◌≢◌, ◌⊎◌, ◌∷◌, 
 ghost use Rattle.flowdir_c.specs.Shelves.{ShelfValue};
 ghost use Rattle.flowdir_c.specs.Exports.{
   HasNoPairAt,
+  HasOneOut,
   IsClosed,
   IsCounted,
   IsPairAt,
   IsUnclosed,
+  RunsNone,
   StaysListed,
 };
 
@@ -24,6 +26,8 @@ pub extern "C" fn flowdir_close(alloc: Global, table: &mut TableHandle) -> u32
     requires { (v : ShelfValue) × (table.old.holders ≡ v ∷ []) }
     ensures closed { result ≡ 0 → IsClosed table.old.holders table.new.holders }
     ensures open { result ≢ 0 → (result ≡ 5) × StaysListed table.old.holders table.new.holders }
+    ensures none { RunsNone table.old.holders → result ≡ 5 }
+    ensures out { HasOneOut table.old.holders → result ≡ 5 }
 {
     let mut shelf = mem::replace(table, TableHandle::blank())
         .into_loose(alloc)

@@ -2,7 +2,6 @@
 
 ghost use Rattle.flowdir_c.specs.Memory.{IsMemoryOf};
 
-use crate::opening::rows_in_range;
 use crate::options::Options;
 use word_rows::Layout;
 
@@ -12,10 +11,7 @@ use word_rows::Layout;
 pub extern "C" fn flowdir_memory(options: &Options) -> u64
     ensures { IsMemoryOf options.now result }
 {
-    let Some(settings) = options.settings() else {
-        return 0;
-    };
-    let Some(rows) = rows_in_range(options.rows.to_rows()) else {
+    let Some((settings, rows)) = options.fit() else {
         return 0;
     };
     let each_seat = [rows; 8];

@@ -93,11 +93,12 @@ fn in_order(mut pairs: Vec<Pair>) -> Vec<Pair>
 }
 
 // Whether all values and bytes can be kept.
-fn can_be_kept(pairs: &[Pair]) -> bool
-    ensures kept { IsTrue result → All IsPair pairs.now }
-    ensures lost { result ≡ false → All IsSmallPair pairs.now → ⊥ }
+fn can_be_kept(first: &[FlowPair]) -> bool
+    ensures kept { IsTrue result → All IsPair (map pair_of first.now) }
+    ensures lost { result ≡ false → All IsSmallPair (map pair_of first.now) → ⊥ }
 {
-    for pair in pairs {
+    for given in first {
+        let pair = given.to_pair();
         pair.key.has_words();
         if pair.value >= VALUE_LIMIT || pair.bytes >= VALUE_LIMIT {
             return false;
@@ -120,20 +121,24 @@ fn are_apart(pairs: &[Pair]) -> bool
     true
 }
 
-/// The pairs that a table begins with, in the order of their keys. `Bad` comes only if a value or its bytes are too
-/// large, or a key stands twice; `NoRoom` never.
+/// The pairs that a table begins with, in the order of their keys. `Bad` comes if a value or its bytes are too large,
+/// and else only if a key stands twice, which is seen once they are copied; `NoRoom` never.
 pub(crate) fn first_pairs(alloc: Global, first: &[FlowPair]) -> Result<Vec<Pair>, NotOpened>
     ensures all { IfOk result (λ pairs. IsPermutation (map pair_of first.now) pairs.items) }
     ensures pairs { IfOk result (λ pairs. All IsPair pairs.items) }
     ensures distinct { IfOk result (λ pairs. HasDistinctKeys pairs.items) }
     ensures bad { result ≡ Err Bad → AreFitPairs (map pair_of first.now) → ⊥ }
+    ensures large { (All IsSmallPair (map pair_of first.now) → ⊥) → result ≡ Err Bad }
     ensures room { result ≢ Err NoRoom }
 {
+    if !can_be_kept(first) {
+        return Err(NotOpened::Bad);
+    }
     let Ok(pairs) = copied(alloc, first) else {
         return Err(NotOpened::Memory);
     };
     let pairs = in_order(pairs);
-    if !can_be_kept(&pairs) || !are_apart(&pairs) {
+    if !are_apart(&pairs) {
         return Err(NotOpened::Bad);
     }
     Ok(pairs)

@@ -1,8 +1,11 @@
 //! What a table is opened with, for C.
 
-ghost use Rattle.std.specs.Prelude.{◌≡◌};
+ghost use Rattle.std.specs.Prelude.{◌≡◌, ◌^◌, IfSome, None, Some};
+ghost use Rattle.word_rows.specs.Shape.{AreBelow};
 ghost use Rattle.flowdir_c.specs.Asked.{AreOptions, rows_of};
+ghost use Rattle.flowdir_c.specs.Fit.{AreFit};
 
+use crate::opening::rows_in_range;
 use step_counts::{SeatRows, Settings};
 
 /// What a table is opened with.
@@ -39,6 +42,19 @@ impl Options {
         ensures { AreOptions self.now result }
     {
         Settings::new(self.seats, self.items, self.depth, self.start).ok()
+    }
+
+    /// The settings and the rows of each seat, if all are in their ranges.
+    pub(crate) fn fit(&self) -> Option<(Settings, SeatRows)>
+        ensures settings { IfSome result (λ it. AreOptions self.now (Some it.0)) }
+        ensures rows { IfSome result (λ it. it.1 ≡ rows_of self.now.rows) }
+        ensures small { IfSome result (λ it. AreBelow (2 ^ 32) it.1) }
+        ensures fit { IfSome result (λ _. AreFit self.now) }
+        ensures unfit { result ≡ None → AreFit self.now → ⊥ }
+    {
+        let settings = self.settings()?;
+        let rows = rows_in_range(self.rows.to_rows())?;
+        Some((settings, rows))
     }
 }
 

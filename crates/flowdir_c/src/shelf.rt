@@ -2,6 +2,7 @@
 
 ghost use Rattle.std.specs.Prelude.{
   ◌≡◌,
+  ◌≢◌,
   ◌+◌,
   ◌^◌,
   ◌<◌,
@@ -33,10 +34,10 @@ ghost use Rattle.std.specs.Option.{option_map};
 ghost use Rattle.flowdir_c.specs.Told.{pair_of};
 ghost use Rattle.std.specs.Arc.{arc_value};
 ghost use Rattle.bucket_states.specs.Parts.{HasDistinctKeys};
-ghost use Rattle.table_model.specs.Setup.{IsPair};
+ghost use Rattle.table_model.specs.Setup.{HaveRoom, IsPair};
 ghost use Rattle.shared_table.specs.Values.{IsOf, TableValue, new_seat, new_seats};
 ghost use Rattle.flowdir_c.specs.Opened.{IsOpened};
-ghost use Rattle.flowdir_c.specs.Shelves.{ArePairsOf, WasLeftTo};
+ghost use Rattle.flowdir_c.specs.Shelves.{ArePairsOf, HasSeatOut, IsLeftBy, WasLeftTo};
 ghost use Rattle.flowdir_c.specs.Fit.{LackRoom, rules_with};
 ghost use Rattle.flowdir_c.specs.declared.opening.NotOpened.TheVariants.{Bad, NoRoom};
 ghost use Rattle.flowdir_c.specs.declared.shelf.NotTaken.TheVariants.{Busy};
@@ -44,7 +45,7 @@ ghost use Rattle.word_rows.specs.Shape.{AreBelow};
 
 use crate::answer::FlowPair;
 use crate::holder::Holder;
-use crate::opening::{NotOpened, rows_in_range, rows_of};
+use crate::opening::{NotOpened, rows_of};
 use crate::peeker::{Peeker, peeker_of};
 use hash_bits::Hashing;
 use order_laws::reopen_laws;
@@ -99,6 +100,7 @@ pub(crate) fn shelf_of(
     rows: SeatRows,
     first: &[Pair],
 ) -> Result<Shelf, NotOpened>
+    requires small { AreBelow (2 ^ 32) rows }
     requires pairs { All IsPair first.now }
     requires distinct { HasDistinctKeys first.now }
     ensures opened { IfOk result (λ shelf. IsSomeAnd shelf.table (λ t.
@@ -109,13 +111,11 @@ pub(crate) fn shelf_of(
     ensures unlisted { IfOk result (λ shelf. shelf.is_listed ≡ false) }
     ensures none_listed { IfOk result (λ shelf. shelf.pairs ≡ []) }
     ensures a_place_each { IfOk result (λ shelf. settings.now.seats ≤ shelf.places) }
-    ensures small { IfOk result (λ _. AreBelow (2 ^ 32) rows) }
-    ensures bad { result ≡ Err Bad → AreBelow (2 ^ 32) rows → ⊥ }
+    ensures bad { result ≢ Err Bad }
     ensures no_room { result ≡ Err NoRoom → LackRoom (rules_with settings.now seed) first.now }
+    ensures room { HaveRoom (rules_with settings.now seed) first.now → result ≢ Err NoRoom }
 {
-    let Some(rows) = rows_in_range(rows) else {
-        return Err(NotOpened::Bad);
-    };
+    reopen_laws();
     let Ok(rows) = rows_of(alloc, rows, settings.seats) else {
         return Err(NotOpened::Memory);
     };
@@ -287,6 +287,8 @@ impl Shelf {
         ensures unlisted { IsTrue result → self.new.is_listed ≡ false }
         ensures pairs { IsTrue result → self.new.pairs ≡ self.old.pairs }
         ensures kept { result ≡ false → self.new ≡ self.old }
+        ensures none { self.old.table ≡ None → result ≡ false }
+        ensures out { HasSeatOut self.old → result ≡ false }
     {
         if self.back.len() + self.fresh.len() != self.count as usize {
             return false;
@@ -368,6 +370,7 @@ impl Shelf {
         seed: u64,
         rows: SeatRows,
     ) -> Result<Box<Shelf, Global>, NotOpened>
+        requires small { AreBelow (2 ^ 32) rows }
         ensures same { self.new ≡ self.old }
         ensures opened { IfOk result (λ shelf. IsSomeAnd shelf.value.table (λ t.
             IsOpened settings.now seed rows self.old.pairs t.setup)) }
@@ -377,10 +380,12 @@ impl Shelf {
         ensures unlisted { IfOk result (λ shelf. shelf.value.is_listed ≡ false) }
         ensures none_listed { IfOk result (λ shelf. shelf.value.pairs ≡ []) }
         ensures a_place_each { IfOk result (λ shelf. settings.now.seats ≤ shelf.value.places) }
-        ensures small { IfOk result (λ _. AreBelow (2 ^ 32) rows) }
-        ensures bad { result ≡ Err Bad → AreBelow (2 ^ 32) rows → ⊥ }
+        ensures bad { result ≢ Err Bad }
         ensures no_room { result ≡ Err NoRoom → LackRoom (rules_with settings.now seed) self.old.pairs }
+        ensures never { IsTrue self.old.is_listed → IsLeftBy (rules_with settings.now seed) self.old →
+            result ≢ Err NoRoom }
     {
+        reopen_laws();
         let opened = shelf_of(alloc, &mut self.blank, settings, seed, rows, &self.pairs)?;
         let Ok(mut next) = Box::new(alloc, opened) else {
             return Err(NotOpened::Memory);

@@ -1,7 +1,8 @@
 //! The calls on a table.
 
-ghost use Rattle.std.specs.Prelude.{◌≡◌, ◌≢◌, ◌≤◌, ◌⊎◌, ◌∷◌, [], None, Some, map};
+ghost use Rattle.std.specs.Prelude.{◌≡◌, ◌≢◌, ◌≤◌, ◌⊎◌, ◌∷◌, ◌↔◌, [], All, None, Some, map};
 ghost use Rattle.std.specs.Arc.{arc_value};
+ghost use Rattle.plain_map.specs.Updates.{IsSmallPair};
 ghost use Rattle.flowdir_c.specs.declared.holder.Holder.{Holder};
 ghost use Rattle.flowdir_c.specs.Shelves.{ShelfValue};
 ghost use Rattle.flowdir_c.specs.Asked.{AreOptions};
@@ -13,6 +14,7 @@ ghost use Rattle.flowdir_c.specs.Exports.{
   HasNoPlace,
   HasNoSeat,
   IsBoundOf,
+  IsLeftAlike,
   IsUnfit,
   IsUnlisted,
   LacksRoom,
@@ -45,7 +47,7 @@ use step_counts::{automatic_rows, bound};
 fn status_of(failed: NotOpened) -> u32
     ensures failed { result ≢ 0 }
     ensures known { result ≤ 3 }
-    ensures bad { result ≡ 2 → failed ≡ Bad }
+    ensures bad { (result ≡ 2) ↔ (failed ≡ Bad) }
     ensures no_room { result ≡ 3 → failed ≡ NoRoom }
 {
     match failed {
@@ -122,10 +124,11 @@ pub extern "C" fn flowdir_open(
     ensures unopened { result ≢ 0 → table.new.holders ≡ table.old.holders }
     ensures known { result ≤ 3 }
     ensures bad { result ≡ 2 → IsUnfit options.now first.now }
-    ensures out_of_range { AreOptions options.now None → result ≡ 2 }
+    ensures unfit { (AreFit options.now → ⊥) → result ≡ 2 }
+    ensures large { (All IsSmallPair (map pair_of first.now) → ⊥) → result ≡ 2 }
     ensures no_room { result ≡ 3 → LackRoom (rules_in options.now) (map pair_of first.now) }
 {
-    let Some(settings) = options.settings() else {
+    let Some((settings, rows)) = options.fit() else {
         return BAD;
     };
     let pairs = match first_pairs(alloc, first) {
@@ -137,7 +140,7 @@ pub extern "C" fn flowdir_open(
         &mut Blank::new(alloc),
         &settings,
         options.seed,
-        options.rows.to_rows(),
+        rows,
         &pairs,
     ) {
         Ok(shelf) => {
@@ -212,7 +215,7 @@ pub extern "C" fn flowdir_rise(alloc: Global, table: &mut TableHandle, seat: &mu
 }
 
 /// Opens the next table with the pairs that a closed one left and listed. It is opened in the words that the closed one
-/// kept, and keeps them.
+/// kept, and keeps them. With the items, depth and seed of the table that was closed, each pair finds room.
 #[unsafe(no_mangle)]
 pub extern "C" fn flowdir_reopen(
     alloc: Global,
@@ -226,11 +229,12 @@ pub extern "C" fn flowdir_reopen(
     ensures unopened { result ≢ 0 → table.new.holders ≡ table.old.holders }
     ensures known { result ≤ 3 }
     ensures bad { result ≡ 2 → (AreFit options.now → ⊥) ⊎ IsUnlisted closed.old.holders }
-    ensures out_of_range { AreOptions options.now None → result ≡ 2 }
+    ensures unfit { (AreFit options.now → ⊥) → result ≡ 2 }
     ensures unlisted { IsUnlisted closed.old.holders → result ≡ 2 }
     ensures no_room { result ≡ 3 → LacksRoom options.now closed.old.holders }
+    ensures never { IsLeftAlike options.now closed.old.holders → result ≢ 3 }
 {
-    let Some(settings) = options.settings() else {
+    let Some((settings, rows)) = options.fit() else {
         return BAD;
     };
     let mut shelf = mem::replace(closed, TableHandle::blank())
@@ -240,7 +244,7 @@ pub extern "C" fn flowdir_reopen(
         *closed = TableHandle::of_loose(Loose::of(shelf));
         return BAD;
     }
-    let opened = shelf.reopened(alloc, &settings, options.seed, options.rows.to_rows());
+    let opened = shelf.reopened(alloc, &settings, options.seed, rows);
     *closed = TableHandle::of_loose(Loose::of(shelf));
     match opened {
         Ok(next) => {

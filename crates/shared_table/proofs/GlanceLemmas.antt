@@ -1,6 +1,6 @@
 -- A reader on its way: each load leads it on as a lookup goes, and no step of it is a store or an exchange.
 use Rattle.std.proofs.Common.{◌≡◌, ℕ, ◌+◌, ◌*◌, ◌^◌, ◌<◌, ◌≤◌, ltb, List, [], ◌∷◌, ◌++◌, drop, length, refl, sym, ap, ◌∙◌, subst, arith, append_assoc}
-use Rattle.std.proofs.lemmas.Bool.{cond_both}
+use Rattle.std.proofs.lemmas.Bool.{cond_both, ltb-false}
 use Rattle.std.proofs.lemmas.List.{append-nil, length_push}
 use Rattle.std.specs.Prelude.{slice_index}
 use Rattle.atomic_table.specs.Seated.{TableId}
@@ -35,7 +35,7 @@ use Rattle.peek_laws.proofs.Glances.{finds, on_word, sees_next, sees_on}
 use Rattle.seat_calls.specs.Going.{Going, Fits, IsGoing, action, asks, goes, goes_by, later}
 use Rattle.shared_table.specs.declared.rule.Plan.{Plan}
 use Rattle.shared_table.specs.Fronts.{Front}
-use Rattle.shared_table.specs.Seen.{WasSeen}
+use Rattle.shared_table.specs.Seen.{ArePeekLoads, WasSeen}
 use Rattle.shared_table.specs.Rule.{Holds, plain}
 use Rattle.shared_table.specs.Readings.{Looked, after_load, lone}
 use Rattle.shared_table.specs.Calls.{Token}
@@ -90,13 +90,15 @@ module _ (setup : Setup) (first last : List Event) (key : Key) (seat : ℕ) (use
   paced (LookWord root bucket) loads l k f p = omega (arith, p)
   paced (LookCount row) loads l k f p = cond_both (ltb 0 (n * ITEM_WORDS)) (LookItems row n [])
       (StoreDone (reply_in (rules_of setup) (items_of_words n []) flight.call) row)
-      (λ ph. IsPaced setup ph (loads + 1)) (λ e. omega (arith, p)) (λ e. omega (arith, p))
+      (λ ph. IsPaced setup ph (loads + 1)) (λ e. omega (arith, p))
+      (λ e. record { count = 0; few = omega arith; are = omega (arith, p) })
   paced (LookItems row count words) loads l k f p =
-      let most : count * ITEM_WORDS ≤ (settings_of setup).items * ITEM_WORDS = omega (arith, k.few) in
       cond_both (ltb (length (words ++ n ∷ [])) (count * ITEM_WORDS)) (LookItems row count (words ++ n ∷ []))
       (StoreDone (reply_in (rules_of setup) (items_of_words count (words ++ n ∷ [])) flight.call) row)
       (λ ph. IsPaced setup ph (loads + 1)) (λ e. omega (arith, p, length_push words n))
-      (λ e. omega (arith, p, most, k.short))
+      (λ e.
+      let long = ltb-false (length (words ++ n ∷ [])) (count * ITEM_WORDS) e in
+      record { count = count; few = k.few; are = omega (arith, p, k.short, long, length_push words n) })
   paced (StoreDone reply place) loads l k f p = absurd l
   paced phase loads l k f p = absurd k
 
@@ -111,7 +113,9 @@ few_loads setup first last key (LookCount row) loads k p = omega (arith, p)
 few_loads setup first last key (LookItems row count words) loads k p =
     (let most : count * ITEM_WORDS ≤ (settings_of setup).items * ITEM_WORDS = omega (arith, k.few) in
     omega (arith, p, most, k.short))
-few_loads setup first last key (StoreDone reply place) loads k p = p
+few_loads setup first last key (StoreDone reply place) loads k p =
+    (let most : p.count * ITEM_WORDS ≤ (settings_of setup).items * ITEM_WORDS = omega (arith, p.few) in
+    omega (arith, p.are, most))
 few_loads setup first last key phase loads k p = absurd k
 
 module _ (setup : Setup) (first last : List Event) (key : Key) (g : Going) (t : Glances setup first last key g) where
@@ -271,21 +275,41 @@ module _ (setup : Setup) (key : Key) (known now : List Event) where
   begun_after [] (word ∷ more) e g later is = absurd (omega (arith, e))
   begun_after (time ∷ times) more e g later is = (later, is)
 
+-- each word that is found is one step more
+steps_by : (g : Going) (words : List ℕ) → (goes_by g words).flight.steps ≡ g.flight.steps + length words
+steps_by g [] = omega arith
+steps_by g (word ∷ words) = (let rest = steps_by (goes g word) words in omega (arith, rest))
+
+-- so a reader that has a reply has made the loads of a peek
+paced_since : (setup opened : Setup) (key : Key) (reply : Reply) (row : ℕ) (more : List ℕ) (loads : ℕ) →
+    loads ≡ length more →
+    (let g = goes_by (start_of setup key) more in
+    g.setup ≡ opened → IsPaced g.setup g.phase g.flight.steps → g.phase ≡ StoreDone reply row →
+    ArePeekLoads opened loads)
+paced_since setup opened key reply row more loads e = λ same paced phase.
+    let g = goes_by (start_of setup key) more in
+    let all : g.flight.steps ≡ loads = omega (arith, e, steps_by (start_of setup key) more) in
+    subst (λ (c : Setup). ArePeekLoads c loads) same
+    (subst (ArePeekLoads g.setup) all (subst (λ (x : Phase). IsPaced g.setup x g.flight.steps) phase paced))
+
 -- one that has a reply has made a load
 seen_since : (setup opened : Setup) (key : Key) (was now : Front) (reply : Reply) (row : ℕ) (times : List (List Event))
     (more : List ℕ) → length times ≡ length more → (goes_by (start_of setup key) more).phase ≡ StoreDone reply row →
     now.times ≡ was.times ++ times → (later : List Event) → began_at was.known times ≡ was.known ++ later →
-    WasHeld opened (began_at was.known times) now.known key reply → WasSeen opened was now key reply
-seen_since setup opened key was now reply row [] [] e phase is later after held =
+    WasHeld opened (began_at was.known times) now.known key reply → ArePeekLoads opened (length times) →
+    WasSeen opened was now key reply
+seen_since setup opened key was now reply row [] [] e phase is later after held loads =
     (let none : FindRoot ForLookup ≡ StoreDone reply row = phase in cc)
-seen_since setup opened key was now reply row [] (word ∷ more) e phase is later after held = absurd (omega (arith, e))
-seen_since setup opened key was now reply row (time ∷ times) more e phase is later after held = record {
+seen_since setup opened key was now reply row [] (word ∷ more) e phase is later after held loads =
+    absurd (omega (arith, e))
+seen_since setup opened key was now reply row (time ∷ times) more e phase is later after held loads = record {
   first = time;
   rest = times;
   times = is;
   later = later;
   after = after;
   held = held;
+  loads = loads;
 }
 
 module _ (key : Key) (since : List Start) (plan : Plan) (table_id : TableId) (token : Token)
@@ -462,7 +486,9 @@ module _ (key : Key) (since : List Start) (plan : Plan) (table_id : TableId) (to
             subst (Sees g.setup base front.known key) phase inv.at.sees in
             seen_since (plain plan) inv.first.opened key inv.first.front front reply row inv.moments inv.more
             inv.as_many phase inv.times inv.later inv.after
-            (subst (λ (c : Setup). WasHeld c base front.known key reply) (inv.at.setup_is ∙ inv.of_setup) sees);
+            (subst (λ (c : Setup). WasHeld c base front.known key reply) (inv.at.setup_is ∙ inv.of_setup) sees)
+            (paced_since (plain plan) inv.first.opened key reply row inv.more (length inv.moments) inv.as_many
+            (inv.at.setup_is ∙ inv.of_setup) inv.at.paced phase);
       })
 
 -- what a reader of this token begins with

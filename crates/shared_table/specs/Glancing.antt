@@ -1,7 +1,6 @@
 -- A reader that goes the way of a lookup: where it stands, by the words that it has found since it began.
-use Rattle.std.specs.Prelude.{◌≡◌, ℕ, ◌+◌, ◌*◌, ◌≤◌, List, [], ◌∷◌, ◌++◌, drop, length}
+use Rattle.std.specs.Prelude.{◌≡◌, ℕ, ◌+◌, List, [], ◌∷◌, ◌++◌, drop, length}
 use Rattle.atomic_table.specs.Seated.{TableId}
-use Rattle.step_counts.specs.declared.TheConstants.{ITEM_WORDS}
 use Rattle.plain_map.specs.declared.keys.Key.{Key}
 use Rattle.plain_map.specs.declared.calls.Call.TheVariants.{Lookup}
 use Rattle.plain_map.specs.declared.calls.Reply.{Reply}
@@ -9,14 +8,14 @@ use Rattle.plain_map.specs.Room.{no_rows}
 use Rattle.word_rows.specs.Places.{word_count}
 use Rattle.table_model.specs.declared.events.Event.{Event}
 use Rattle.table_model.specs.declared.rounds.Aim.TheVariants.{ForLookup}
-use Rattle.table_model.specs.Setup.{Setup, settings_of}
+use Rattle.table_model.specs.Setup.{Setup}
 use Rattle.table_model.specs.Phases.{Phase, FindRoot, FindDepth, FindEntry, LookWord, LookCount, LookItems, StoreDone}
 use Rattle.table_model.specs.Worlds.{IsRun}
 use Rattle.peek_laws.specs.Glances.{Sees}
 use Rattle.seat_calls.specs.Going.{Going, goes_by}
 use Rattle.shared_table.specs.declared.rule.Plan.{Plan}
 use Rattle.shared_table.specs.Fronts.{Front}
-use Rattle.shared_table.specs.Seen.{WasSeen}
+use Rattle.shared_table.specs.Seen.{ArePeekLoads, WasSeen}
 use Rattle.shared_table.specs.Readings.{lone}
 use Rattle.shared_table.specs.Rule.{M, plain}
 use Rattle.shared_table.specs.Calls.{Token}
@@ -77,7 +76,7 @@ IsPaced setup (FindEntry aim root depth) loads = loads ≡ 2
 IsPaced setup (LookWord root bucket) loads = loads ≡ 3
 IsPaced setup (LookCount row) loads = loads ≡ 4
 IsPaced setup (LookItems row count words) loads = loads ≡ 5 + length words
-IsPaced setup (StoreDone reply place) loads = loads ≤ 5 + (settings_of setup).items * ITEM_WORDS
+IsPaced setup (StoreDone reply place) loads = ArePeekLoads setup loads
 IsPaced setup phase loads = ⊥
 
 -- so it looks a key up in this run, from the first events to the last

@@ -127,8 +127,8 @@ fn read_all(closed: &ClosedTable, out: &mut Vec<u64>)
 impl Directory {
     /// Opens a table with these pairs, which are held then, and gives its seats in order.
     ///
-    /// `NoRoom` comes exactly where a pair finds as many earlier ones of its class as a bucket has room for, and tells
-    /// the first such pair; `Memory` where there is too little memory.
+    /// `NoRoom` comes only where a pair finds as many earlier ones of its class as a bucket has room for, and tells the
+    /// first such pair. `Memory` comes where there is too little memory, also for such pairs.
     pub fn open(
         alloc: Global,
         settings: &Settings,

@@ -1,10 +1,9 @@
-use Rattle.std.proofs.Common.{◌≡◌, ℕ, ◌^◌, List, take, replicate, refl, ap, ◌∙◌, subst, inl, arith}
+use Rattle.std.proofs.Common.{◌≡◌, ℕ, List, take, replicate, refl, ap, ◌∙◌, inl, arith}
 use Rattle.std.proofs.lemmas.List.{take-replicate}
 use Rattle.step_counts.specs.declared.rows.SeatRows.{SeatRows}
-use Rattle.step_counts.proofs.MadeLemmas.{made_in_range}
 use Rattle.word_rows.specs.LayoutView.{shape_of}
 use Rattle.word_rows.specs.Places.{word_count}
-use Rattle.word_rows.specs.Shape.{AreBelow, Shape}
+use Rattle.word_rows.specs.Shape.{Shape}
 use Rattle.word_rows.proofs.Ranges.{words_few}
 use Rattle.flowdir_c.specs.Asked.{rows_of}
 use Rattle.flowdir_c.proofs.memory.flowdir_memory.Goals as goal
@@ -18,21 +17,18 @@ overflow_mul-result c =
 pub returns : goal.returns
 returns c =
     let seats : ℕ = c.in-Some.settings.seats in
-    let rows : SeatRows = c.in-Some-rows_in_range.rows in
-    let same : rows ≡ rows_of c.args.options.now.rows = c.in-Some-rows_in_range.ensures.same ∙ c.to_rows.ensures in
+    let rows : SeatRows = c.in-Some.rows in
+    let same : rows ≡ rows_of c.args.options.now.rows = c.in-Some.ensures.rows in
     let each : take seats (replicate 8 rows) ≡ replicate seats (rows_of c.args.options.now.rows) =
     take-replicate seats 8 rows (omega (arith, c.in-Some.settings.seats_in_range)) ∙ ap (replicate seats) same in
     let shape : List SeatRows → Shape = λ ranges. record { settings = c.in-Some.settings; ranges = ranges } in
     let are = c.words.ensures ∙ ap word_count (c.new-layout.ensures ∙ ap shape each) in
     inl (
-      record {
-        numbers = made_in_range c.in-Some.settings _ _ _ _ c.in-Some.ensures;
-        rows = subst (AreBelow (2 ^ 32)) same c.in-Some-rows_in_range.ensures.small;
-      },
+      c.in-Some.ensures.fit,
       (
         c.words.result,
         (
-          (c.in-Some.settings, (c.in-Some.ensures, are)),
+          (c.in-Some.settings, (c.in-Some.ensures.settings, are)),
           refl,
         ),
       ),

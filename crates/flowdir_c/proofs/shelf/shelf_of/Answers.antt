@@ -1,5 +1,5 @@
-use Rattle.std.proofs.Common.{◌≡◌, ◌≤◌, ◌^◌, List, Err, arith, sym, ap, ◌∙◌, subst}
-use Rattle.std.specs.Prelude.{All, replicate}
+use Rattle.std.proofs.Common.{◌≡◌, List, Err, arith, sym, ap, ◌∙◌, subst}
+use Rattle.std.specs.Prelude.{All}
 use Rattle.std.specs.List.{IsDistinct}
 use Rattle.std.specs.Arc.{arc_value}
 use Rattle.std.proofs.lemmas.List.Elements.{All-nil}
@@ -10,7 +10,6 @@ use Rattle.table_model.specs.Setup.{IsPair, seats_of}
 use Rattle.shared_table.specs.Openings.{setup_of}
 use Rattle.shared_table.specs.Values.{IsOf, TableValue, new_seats}
 use Rattle.plain_map.specs.declared.leaves.OpenFault.{OpenFault}
-use Rattle.word_rows.specs.Shape.{AreBelow}
 use Rattle.flowdir_c.specs.Fit.{rules_with}
 use Rattle.flowdir_c.proofs.FitLemmas.{lack_at}
 use Rattle.flowdir_c.proofs.shelf.shelf_of.Goals as goal
@@ -38,20 +37,23 @@ pub returns-in-Ok-open_in-clause-opened : goal.returns-in-Ok-open_in-clause-open
 returns-in-Ok-open_in-clause-opened c =
     ap (λ (u : TableValue). u.setup) c.in-Ok-new.ensures.ok ∙ c.in-Ok-open_in.ensures.setup
     ∙ ap (λ (rows : List SeatRows). setup_of c.args.settings.now (Mix c.args.seed) rows c.args.first.now)
-    (c.deref.ensures.value ∙ c.in-Ok.ensures.same
-    ∙ ap (replicate c.args.settings.now.seats) c.in-Some.ensures.same)
+    (c.deref.ensures.value ∙ c.in-Ok.ensures.same)
 
 -- with as many seats
 pub returns-in-Ok-open_in-clause-seats : goal.returns-in-Ok-open_in-clause-seats
 returns-in-Ok-open_in-clause-seats c = c.in-Ok-open_in.ensures.count
 
--- and rows below 2^32
-pub returns-in-Ok-open_in-clause-small : goal.returns-in-Ok-open_in-clause-small
-returns-in-Ok-open_in-clause-small c = subst (AreBelow (2 ^ 32)) c.in-Some.ensures.same c.in-Some.ensures.small
-
 -- and one class lacks room where none is opened for want of it
 pub returns-clause-no_room : goal.returns-clause-no_room
 returns-clause-no_room c = λ is.
     lack_at (rules_with c.args.settings.now c.args.seed) c.args.first.now c.in-Err-NoRoom.field-0-0
+    (c.in-Err-NoRoom.ensures.no_room c.in-Err-NoRoom.field-0-0
+    (ap (λ (fault : OpenFault). Err fault) c.in-Err-NoRoom.field-0-is))
+
+-- which cannot be where each pair finds room
+pub returns-clause-room : goal.returns-clause-room
+returns-clause-room c = λ have is.
+    c.reopen_laws.ensures.has_room (rules_with c.args.settings.now c.args.seed) c.args.first.now
+    c.in-Err-NoRoom.field-0-0 have
     (c.in-Err-NoRoom.ensures.no_room c.in-Err-NoRoom.field-0-0
     (ap (λ (fault : OpenFault). Err fault) c.in-Err-NoRoom.field-0-is))

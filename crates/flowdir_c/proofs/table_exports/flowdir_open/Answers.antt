@@ -1,9 +1,7 @@
-use Rattle.std.proofs.Common.{◌≤◌, ◌^◌, List, [], ◌∷◌, Err, map, ap, ◌∙◌, subst}
+use Rattle.std.proofs.Common.{◌≤◌, List, [], ◌∷◌, Err, map, ap, ◌∙◌, subst}
 use Rattle.std.specs.Prelude.{IsSomeAnd}
 use Rattle.step_counts.specs.declared.rows.SeatRows.{SeatRows}
-use Rattle.step_counts.proofs.MadeLemmas.{made_in_range}
 use Rattle.plain_map.specs.declared.keys.Pair.{Pair}
-use Rattle.word_rows.specs.Shape.{AreBelow}
 use Rattle.shared_table.specs.Values.{TableValue}
 use Rattle.flowdir_c.specs.Opened.{IsOpened}
 use Rattle.hash_bits.specs.declared.hashing.Hashing.TheVariants.{Mix}
@@ -19,26 +17,23 @@ pub returns-in-Ok-shelf_of-clause-opened : goal.returns-in-Ok-shelf_of-clause-op
 returns-in-Ok-shelf_of-clause-opened c = λ done. record {
   shelf = c.in-Ok-shelf_of.shelf;
   is = c.of_loose.ensures ∙ ap (λ v. v ∷ []) (c.of.ensures ∙ c.in-Ok-new.ensures.ok);
-  free = c.in-Ok-shelf_of.ensures.seats ∙ c.in-Some.ensures.seats_are;
+  free = c.in-Ok-shelf_of.ensures.seats ∙ c.in-Some.ensures.settings.seats_are;
   none_back = c.in-Ok-shelf_of.ensures.none_back;
   none_left = c.in-Ok-shelf_of.ensures.none_left;
   unlisted = c.in-Ok-shelf_of.ensures.unlisted;
   none_listed = c.in-Ok-shelf_of.ensures.none_listed;
-  a_place_each = subst (λ n. n ≤ c.in-Ok-shelf_of.shelf.places) c.in-Some.ensures.seats_are
+  a_place_each = subst (λ n. n ≤ c.in-Ok-shelf_of.shelf.places) c.in-Some.ensures.settings.seats_are
       c.in-Ok-shelf_of.ensures.a_place_each;
-  fit = record {
-    numbers = made_in_range c.in-Some.settings _ _ _ _ c.in-Some.ensures;
-    rows = subst (AreBelow (2 ^ 32)) c.to_rows.ensures c.in-Ok-shelf_of.ensures.small;
-  };
+  fit = c.in-Some.ensures.fit;
   fit_pairs = fit_back (map pair_of c.args.first.now) c.in-Ok.pairs.items c.in-Ok.ensures.all c.in-Ok.ensures.pairs
       c.in-Ok.ensures.distinct;
   settings = c.in-Some.settings;
-  asked = c.in-Some.ensures;
+  asked = c.in-Some.ensures.settings;
   pairs = c.in-Ok.pairs.items;
   all = c.in-Ok.ensures.all;
   runs = subst (λ (u : SeatRows × List Pair). IsSomeAnd c.in-Ok-shelf_of.shelf.table (λ (t : TableValue).
       IsOpened c.in-Some.settings c.args.options.now.seed u.0 u.1 t.setup))
-      (λ i. (c.to_rows.ensures i, c.deref.ensures.value i)) c.in-Ok-shelf_of.ensures.opened;
+      (λ i. (c.in-Some.ensures.rows i, c.deref.ensures.value i)) c.in-Ok-shelf_of.ensures.opened;
 }
 
 -- where a class lacks room for the pairs in order, it lacks room for them as they came
@@ -50,8 +45,8 @@ returns-clause-no_room c = λ is.
     (subst (λ (u : Rules × List Pair). LackRoom u.0 u.1)
     (λ i. (
       record {
-        items = c.in-Some.ensures.items_are i;
-        depth = c.in-Some.ensures.depth_is i;
+        items = c.in-Some.ensures.settings.items_are i;
+        depth = c.in-Some.ensures.settings.depth_is i;
         hashing = Mix c.args.options.now.seed;
       },
       c.deref.ensures.value i,

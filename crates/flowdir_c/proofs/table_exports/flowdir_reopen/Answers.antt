@@ -1,9 +1,7 @@
-use Rattle.std.proofs.Common.{◌≤◌, ◌^◌, List, [], ◌∷◌, refl, sym, ap, ◌∙◌, subst}
+use Rattle.std.proofs.Common.{◌≤◌, List, [], ◌∷◌, refl, sym, ap, ◌∙◌, subst}
 use Rattle.std.specs.Prelude.{IsSomeAnd}
 use Rattle.step_counts.specs.declared.rows.SeatRows.{SeatRows}
-use Rattle.step_counts.proofs.MadeLemmas.{made_in_range}
 use Rattle.plain_map.specs.declared.keys.Pair.{Pair}
-use Rattle.word_rows.specs.Shape.{AreBelow}
 use Rattle.shared_table.specs.Values.{TableValue}
 use Rattle.flowdir_c.specs.Shelves.{ArePairsOf, ShelfValue}
 use Rattle.flowdir_c.specs.Opened.{IsOpened}
@@ -23,19 +21,17 @@ returns-in-Ok-clause-opened c = λ done. record {
   listed = subst (λ (s : ShelfValue). IsSomeAnd s.left (λ left. ArePairsOf left s.pairs))
       (c.deref.ensures ∙ sym c.deref_mut.ensures.value ∙ sym c.reopened-opened.ensures.same)
       (c.if-not-is_listed.ensures.listed refl);
-  free = c.in-Ok.ensures.seats ∙ c.in-Some.ensures.seats_are;
+  free = c.in-Ok.ensures.seats ∙ c.in-Some.ensures.settings.seats_are;
   none_back = c.in-Ok.ensures.none_back;
   none_left = c.in-Ok.ensures.none_left;
   unlisted = c.in-Ok.ensures.unlisted;
   none_listed = c.in-Ok.ensures.none_listed;
-  a_place_each = subst (λ n. n ≤ c.in-Ok.next.value.places) c.in-Some.ensures.seats_are c.in-Ok.ensures.a_place_each;
-  fit = record {
-    numbers = made_in_range c.in-Some.settings _ _ _ _ c.in-Some.ensures;
-    rows = subst (AreBelow (2 ^ 32)) c.to_rows.ensures c.in-Ok.ensures.small;
-  };
+  a_place_each = subst (λ n. n ≤ c.in-Ok.next.value.places) c.in-Some.ensures.settings.seats_are
+      c.in-Ok.ensures.a_place_each;
+  fit = c.in-Some.ensures.fit;
   settings = c.in-Some.settings;
-  asked = c.in-Some.ensures;
+  asked = c.in-Some.ensures.settings;
   runs = subst (λ (u : SeatRows × List Pair). IsSomeAnd c.in-Ok.next.value.table (λ (t : TableValue).
       IsOpened c.in-Some.settings c.args.options.now.seed u.0 u.1 t.setup))
-      (λ i. (c.to_rows.ensures i, (sym c.reopened-opened.ensures.same i).pairs)) c.in-Ok.ensures.opened;
+      (λ i. (c.in-Some.ensures.rows i, (sym c.reopened-opened.ensures.same i).pairs)) c.in-Ok.ensures.opened;
 }
