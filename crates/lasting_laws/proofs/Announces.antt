@@ -12,9 +12,12 @@ use Rattle.table_model.specs.declared.rounds.Aim.TheVariants.{ForFirstRound}
 use Rattle.table_model.specs.declared.rounds.Round.{Round}
 use Rattle.table_model.specs.Setup.{Setup, seats_of, settings_of, rules_of}
 use Rattle.table_model.specs.Phases.{Phase, SeeDone, StoreOp, Announce, FindRoot, FindDepth, FindEntry, LookWord, LookCount, LookItems, TryWord, TryRow, TryAnnouncement, TryOp, TryStore, TryExchange, DirRoot, DirDepth, DirEntries, DirAnnouncement, DirOp, DirWord, DirRow, DirStore, DirExchange, LastWord, LastRow, StoreDone, Stuck}
-use Rattle.table_model.specs.SeatStates.{Account, Flight, Idle, InFlight, SeatState, begun}
+use Rattle.table_model.specs.SeatStates.{Account, Flight, Stand, Idle, InFlight, SeatState, begun}
 use Rattle.table_model.specs.Asks.{ask_in}
-use Rattle.table_model.specs.Goes.{phase_after, flight_after, after_seeing, after_find}
+use Rattle.table_model.specs.Goes.{more, phase_after, flight_after, after_seeing, after_find}
+use Rattle.word_rows.specs.declared.addresses.Address.TheVariants.{Done}
+use Rattle.order_laws.proofs.Tale.{past_of, Seated}
+use Rattle.order_laws.proofs.AllRuns.{all_tell}
 use Rattle.table_model.specs.Directories.{bucket_of}
 use Rattle.bucket_states.specs.Items.{prefix_of}
 use Rattle.run_invariant.proofs.Loads.{bits_below}
@@ -22,9 +25,10 @@ use Rattle.step_counts.specs.declared.TheConstants.{DIRECTORY_HEAD_WORDS}
 use Rattle.table_model.specs.Worlds.{World, IsRun, CanBegin, FitsStand, world_after, opening_world, act, begin_or_refuse, refusal_of, step_of, seat_in, found_by}
 use Rattle.bound_laws.proofs.WorldSteps.{step_same, step_other}
 use Rattle.run_invariant.proofs.Invariant.{Common, Local, Keeps, KeepsStand, Shared, lead, op_no, op_words_of}
-use Rattle.std.proofs.lemmas.Bool.{cases_lt}
+use Rattle.std.proofs.lemmas.Bool.{cases_eq, cases_lt}
+use Rattle.std.proofs.Math.Seq.{get_or-append_seam}
 use Rattle.bucket_states.proofs.AnswerLemmas.{lt_false}
-use Rattle.std.proofs.lemmas.List.{length-append}
+use Rattle.std.proofs.lemmas.List.{length-append, get_or_append_left}
 use Rattle.table_model.specs.declared.rounds.Aim.TheVariants.{ForLookup}
 use Rattle.run_invariant.proofs.Events.{announced, local_after, roots_after}
 use Rattle.run_laws.proofs.Induction.{Follows, acts, begun_keeps, found_in}
@@ -53,6 +57,24 @@ pub record Is_in (setup : Setup) (p : ℕ) (events : List Event) (c : Common) (a
   pub call_is : flight.call ≡ call
   pub mine : seat_in (world_after setup last) p ≡ record { account = account; stand = InFlight flight phase }
   pub others : (q : ℕ) → q ≢ p → seat_in (world_after setup last) q ≡ seat_in (world_after setup events) q
+  -- the done words that it has seen are what each seat had answered
+  pub sees : (q : ℕ) → q < length flight.seen →
+      get_or flight.seen q 0 ≡ length (seat_in (world_after setup events) q).account.records
+
+-- the done word of a seat tells how many calls it has answered
+done_is : (setup : Setup) (events : List Event) (run : IsRun setup events) (c : Common) (locals : ℕ → Local) →
+    Follows setup (world_after setup events) c locals → (q : ℕ) → q < seats_of setup →
+    c.memory.done q ≡ length (seat_in (world_after setup events) q).account.records
+done_is setup events run c locals f q h =
+    let a = all_tell setup events run in
+    sym (f.shows.same (Done q) h) ∙ a.follows.shows.same (Done q) h ∙ a.holds.done q
+    ∙ go (seat_in (world_after setup events) q).stand (a.holds.seats q h)
+  where
+    go : (stand : Stand) → Seated setup (past_of (all_tell setup events run).common) (all_tell setup events run).extra q
+        ((all_tell setup events run).locals q) (seat_in (world_after setup events) q).account stand →
+        (all_tell setup events run).extra.answers q ≡ length (seat_in (world_after setup events) q).account.records
+    go Idle k = k.answers.many
+    go (InFlight flight phase) k = k.answers.many
 
 -- ---- the beginning
 
@@ -112,17 +134,29 @@ module _ (setup : Setup) (p : ℕ) (events : List Event) (run : IsRun setup even
       mine = ap (λ (v : World). seat_in v p) stepped
           ∙ step_same setup w p account first SeeDone (omega (arith, h, f.long));
       others = λ q n. ap (λ (v : World). seat_in v q) stepped ∙ step_other setup w p q account first SeeDone n;
+      sees = λ q less.
+          let first_one : q ≡ 0 = omega (arith, less) in
+          ap (λ k. get_or (found_by setup (ask_in setup p account.used first SeeDone) w.words ∷ []) k 0) first_one
+          ∙ f.shows.same (Done 0) (omega (arith, h))
+          ∙ done_is setup events run c locals f 0 (omega (arith, h))
+          ∙ ap (λ k. length (seat_in w k).account.records) (sym first_one);
     },
   )
+
+  -- which is the one word that it has seen
+  pub begins_long : length begins.1.flight.seen ≡ 1
+  unfolding begins
+  begins_long = refl
 
 -- ---- the done words
 
 -- one more, to a phase that is known
 sees_one : (setup : Setup) (p : ℕ) (events : List Event) (c : Common) (account : Account) (number : ℕ) (call : Call) →
-    p < seats_of setup → (r : Is_in setup p events c account number call SeeDone) → (phase : Phase) →
+    p < seats_of setup → length (seat_in (world_after setup events) p).account.records ≡ length account.records →
+    (r : Is_in setup p events c account number call SeeDone) → (phase : Phase) →
     ((n : ℕ) → phase_after setup p account.used r.flight SeeDone n ≡ phase) →
     (z : Is_in setup p events c account number call phase) × (length z.flight.seen ≡ length r.flight.seen + 1)
-sees_one setup p events c account number call h r phase to =
+sees_one setup p events c account number call h own r phase to =
     let e = one_event setup p r.last r.run r.common r.locals r.follows h account r.flight SeeDone r.mine in
     let n = found_in (ask_in setup p account.used r.flight SeeDone) r.common.memory in (
       record {
@@ -144,30 +178,55 @@ sees_one setup p events c account number call h r phase to =
               (to n i);
         });
         others = λ q d. e.others q d ∙ r.others q d;
+        sees = λ q less. elim (cases_lt q (length r.flight.seen)) [
+          | inl before ↦ get_or_append_left r.flight.seen (n ∷ []) 0 q before ∙ r.sees q before
+          | inr past ↦
+              let here : q ≡ length r.flight.seen =
+              (let long = length-append r.flight.seen (n ∷ []) in omega (arith, less, past, long)) in
+              ap (λ k. get_or (more r.flight.seen n) k 0) here ∙ get_or-append_seam r.flight.seen n [] 0
+              ∙ done_is setup r.last r.run r.common r.locals r.follows (length r.flight.seen) short
+              ∙ same_count (length r.flight.seen)
+              ∙ ap (λ k. length (seat_in (world_after setup events) k).account.records) (sym here)
+        ];
       },
       length-append r.flight.seen (n ∷ []),
     )
+  where
+    short : length r.flight.seen < seats_of setup
+    short = (subst (λ (s : SeatState). KeepsStand setup r.common p s.account.used (r.locals p) s.stand) r.mine
+        (r.follows.seats p h)).short
+
+    same_count : (k : ℕ) → length (seat_in (world_after setup r.last) k).account.records
+        ≡ length (seat_in (world_after setup events) k).account.records
+    same_count k = elim (cases_eq k p) [
+      | inl e ↦ ap (λ j. length (seat_in (world_after setup r.last) j).account.records) e
+          ∙ ap (λ (s : SeatState). length s.account.records) r.mine ∙ sym own
+          ∙ ap (λ j. length (seat_in (world_after setup events) j).account.records) (sym e)
+      | inr d ↦ ap (λ (s : SeatState). length s.account.records) (r.others k d)
+    ]
 
 -- all of them
 sees_all : (fuel : ℕ) (setup : Setup) (p : ℕ) (events : List Event) (c : Common) (account : Account) (number : ℕ)
     (call : Call) → p < seats_of setup → is_update call ≡ true →
+    length (seat_in (world_after setup events) p).account.records ≡ length account.records →
     (r : Is_in setup p events c account number call SeeDone) → seats_of setup ≤ length r.flight.seen + fuel →
-    Is_in setup p events c account number call (StoreOp 0)
-sees_all zero setup p events c account number call h update r enough =
+    (z : Is_in setup p events c account number call (StoreOp 0)) × (seats_of setup ≤ length z.flight.seen)
+sees_all zero setup p events c account number call h update own r enough =
     let k = subst (λ (s : SeatState). KeepsStand setup r.common p s.account.used (r.locals p) s.stand) r.mine
     (r.follows.seats p h) in
     absurd (omega (arith, enough, k.short))
-sees_all (suc fuel) setup p events c account number call h update r enough = elim
+sees_all (suc fuel) setup p events c account number call h update own r enough = elim
     (cases_lt (length r.flight.seen + 1) (seats_of setup)) [
       | inl less ↦
-          let z = sees_one setup p events c account number call h r SeeDone
+          let z = sees_one setup p events c account number call h own r SeeDone
           (λ n. ap (λ (b : Bool). cond b SeeDone (after_seeing r.flight))
           (lt-ltb (length r.flight.seen + 1) (seats_of setup) less)) in
-          sees_all fuel setup p events c account number call h update z.0 (omega (arith, enough, z.1))
+          sees_all fuel setup p events c account number call h update own z.0 (omega (arith, enough, z.1))
       | inr all ↦
-          (sees_one setup p events c account number call h r (StoreOp 0)
+          let z = sees_one setup p events c account number call h own r (StoreOp 0)
           (λ n. (λ i. cond (lt_false (length r.flight.seen + 1) (seats_of setup) all i) SeeDone (after_seeing r.flight))
-          ∙ (λ i. cond ((ap is_update r.call_is ∙ update) i) (StoreOp 0) (FindRoot ForLookup)))).0
+          ∙ (λ i. cond ((ap is_update r.call_is ∙ update) i) (StoreOp 0) (FindRoot ForLookup))) in
+          (z.0, omega (arith, all, z.1))
     ]
 
 -- ---- the op
@@ -395,18 +454,27 @@ module _ (setup : Setup) (p : ℕ) (events : List Event) (run : IsRun setup even
   with_op = record account { used = record account.used { op_rows = account.used.op_rows + 1 } }
 
   -- all done words are seen
-  seen : Is_in setup p events c account number call (StoreOp 0)
-  seen =
+  seen_all : (z : Is_in setup p events c account number call (StoreOp 0)) × (seats_of setup ≤ length z.flight.seen)
+  seen_all =
       let b = begins setup p events run c locals f h account call update mine can free in
       elim (cases_lt 1 (seats_of setup)) [
         | inl less ↦ sees_all (seats_of setup) setup p events c account number call h update
+            (ap (λ (s : SeatState). length s.account.records) mine)
             (subst (Is_in setup p events c account number call)
             (λ i. cond (lt-ltb 1 (seats_of setup) less i) SeeDone (after_seeing (begun account 0 call))) b.1)
             (omega arith)
-        | inr all ↦ subst (Is_in setup p events c account number call)
+        | inr all ↦ subst (λ (ph : Phase). (z : Is_in setup p events c account number call ph)
+            × (seats_of setup ≤ length z.flight.seen))
             ((λ i. cond (lt_false 1 (seats_of setup) all i) SeeDone (after_seeing (begun account 0 call)))
-            ∙ (λ i. cond (update i) (StoreOp 0) (FindRoot ForLookup))) b.1
+            ∙ (λ i. cond (update i) (StoreOp 0) (FindRoot ForLookup))) (
+              b.1,
+              (let l = begins_long setup p events run c locals f h account call update mine can free in omega
+                  (arith, all, l)),
+            )
       ]
+
+  abbrev seen : Is_in setup p events c account number call (StoreOp 0)
+  seen = seen_all.0
 
   -- the op is stored
   stored : Reaches setup p seen.last seen.common account seen.flight Announce
@@ -421,6 +489,8 @@ module _ (setup : Setup) (p : ℕ) (events : List Event) (run : IsRun setup even
   pub announces_at_once : (flight : Flight) × (flight.number ≡ number) × (flight.call ≡ call)
       × Comes setup p events then_common
       (record { account = with_op; stand = InFlight flight (TryWord (first_round setup p call then_common) 1 None) })
+      × ((q : ℕ) → q < seats_of setup →
+      get_or flight.seen q 0 ≡ length (seat_in (world_after setup events) q).account.records)
   announces_at_once =
       let r = stored in
       let flight3 : Flight = record seen.flight { steps = r.steps } in
@@ -459,4 +529,5 @@ module _ (setup : Setup) (p : ℕ) (events : List Event) (run : IsRun setup even
           mine = x.mine;
           others = λ q n. x.others q n ∙ e.others q n ∙ r.others q n ∙ seen.others q n;
         },
+        λ q inside. seen.sees q (let all = seen_all.1 in omega (arith, inside, all)),
       )

@@ -26,7 +26,7 @@ whole_prefix place d k e =
     ap (λ j. place / 2 ^ j) none ∙ one)
 
 -- each power of 2 is above 0
-positive : (d : ℕ) → 0 < 2 ^ d
+pub positive : (d : ℕ) → 0 < 2 ^ d
 positive d = (let low : 0 ≤ d = omega arith in let least : 2 ^ 0 ≤ 2 ^ d = pow_mono low in omega (arith, least))
 
 module _ (setup : Setup) (c : Common) (s : Shared setup c) (t : Descends setup c)

@@ -1,5 +1,5 @@
 -- In every run of a table that begins as deep as it may be no row in use is frozen.
-use Rattle.std.proofs.Common.{◌≡◌, false, sym, ap, ◌∙◌}
+use Rattle.std.proofs.Common.{ap, ◌∙◌}
 use Rattle.bucket_states.specs.States.{BucketState}
 use Rattle.table_model.specs.Worlds.{world_after}
 use Rattle.helping_laws.proofs.ByPlace

@@ -19,7 +19,7 @@ use Rattle.lasting_laws.proofs.Marks.{not_in_word, free_owned}
 use Rattle.lasting_laws.proofs.Holding as H
 use Rattle.lasting_laws.proofs.HeldStates.{among, look_of, sweep_of, held_state}
 use Rattle.lasting_laws.proofs.HeldSteps.{among_in}
-use Rattle.lasting_laws.proofs.Tied.{Tied, HoldsOf, Listed, Wants}
+use Rattle.lasting_laws.proofs.Tied.{Tied, Ties, HoldsOf, Listed, Wants}
 use Rattle.lasting_laws.proofs.TiedRuns.{seat_ties}
 
 -- past the end of a list there is what stands for nothing
@@ -38,13 +38,13 @@ module _ (plan : Plan) (is_plan : IsPlan plan) where
   x = opening_world plan
 
   -- a seat, or nobody
-  seat_or : (q : ℕ) → (seat_in x q ≡ opening_seat plan q) ⊎ (seat_in x q ≡ nobody)
+  pub seat_or : (q : ℕ) → (seat_in x q ≡ opening_seat plan q) ⊎ (seat_in x q ≡ nobody)
   seat_or q = elim (cases_lt q n) [
     | inl less ↦ inl (seat_is plan is_plan q less)
     | inr past ↦ inr (past_range (opening_seat plan) 0 n q nobody past)
   ]
 
-  idle : (q : ℕ) → (seat_in x q).stand ≡ S.Idle
+  pub idle : (q : ℕ) → (seat_in x q).stand ≡ S.Idle
   idle q = elim (seat_or q) [ inl e ↦ ap (λ (s : SeatNow). s.stand) e | inr e ↦ ap (λ (s : SeatNow). s.stand) e ]
 
   swept_none : (q : ℕ) → (seat_in x q).sweep ≡ None
@@ -69,7 +69,7 @@ module _ (plan : Plan) (is_plan : IsPlan plan) where
       ap (λ (y : ℕ × ℕ). home_of (y.0)) z.2 ∙ home_at p z.0 (omega (arith, z.1, few))
       ∙ ap (λ (y : ℕ × ℕ). y.1) (sym z.2)
 
-  home_word : (b : ℕ) → b < buckets_of plan.settings → home_of (word_in x b) ≡ b
+  pub home_word : (b : ℕ) → b < buckets_of plan.settings → home_of (word_in x b) ≡ b
   home_word b less =
       let few = fits plan is_plan (b % n) (p_inside plan is_plan b less) in
       ap home_of (word_is plan is_plan b less)
@@ -141,21 +141,29 @@ module _ (plan : Plan) (is_plan : IsPlan plan) where
 -- ---- runs
 
 -- a reader changes nothing of it
-reader_ties : (plan : Plan) (x : Lasting) (r : ℕ) (peek : Peek) → Tied plan x → Tied plan
+pub reader_ties : (plan : Plan) (x : Lasting) (r : ℕ) (peek : Peek) → (t : Tied plan x) → Ties plan x t
     (happens plan x (OfReader r peek))
 reader_ties plan x r (Open aim tries) t =
-    record { home = t.home; since = t.since; holds = t.holds; homes = t.homes; wants = t.wants }
+    record {
+      next = record { home = t.home; since = t.since; holds = t.holds; homes = t.homes; wants = t.wants };
+      step = λ q k e f a. inl (e, f, a);
+    }
 reader_ties plan x r Peek_on t = go (x.readers r).stand
   where
-    go : (stand : Peeking) → Tied plan (ticked (peeks_on plan x r (x.readers r) stand))
-    go Rests = record { home = t.home; since = t.since; holds = t.holds; homes = t.homes; wants = t.wants }
-    go (Peeks aim glance) =
-        record { home = t.home; since = t.since; holds = t.holds; homes = t.homes; wants = t.wants }
+    go : (stand : Peeking) → Ties plan x t (ticked (peeks_on plan x r (x.readers r) stand))
+    go Rests = record {
+      next = record { home = t.home; since = t.since; holds = t.holds; homes = t.homes; wants = t.wants };
+      step = λ q k e f a. inl (e, f, a);
+    }
+    go (Peeks aim glance) = record {
+      next = record { home = t.home; since = t.since; holds = t.holds; homes = t.homes; wants = t.wants };
+      step = λ q k e f a. inl (e, f, a);
+    }
 
-ties_keep : (plan : Plan) → IsPlan plan → (x : Lasting) → Pools plan x → Tied plan x → (event : Event) →
-    IsEvent plan x event → Tied plan (happens plan x event)
+pub ties_keep : (plan : Plan) → IsPlan plan → (x : Lasting) → Pools plan x → (t : Tied plan x) → (event : Event) →
+    IsEvent plan x event → Ties plan x t (happens plan x event)
 ties_keep plan is x pools t (OfSeat p what) fits =
-    subst (λ (b : Bool). Tied plan (cond b (ticked (act plan x p (seat_in x p) what)) x))
+    subst (λ (b : Bool). Ties plan x t (cond b (ticked (act plan x p (seat_in x p) what)) x))
     (sym (lt-ltb p plan.settings.seats fits.0)) (seat_ties plan is x pools t p fits.0 what fits.1)
 ties_keep plan is x pools t (OfReader r peek) fits = reader_ties plan x r peek t
 
@@ -164,7 +172,7 @@ ties_follow : (plan : Plan) → IsPlan plan → (events : List Event) (x : Lasti
 ties_follow plan is [] x pools t follow = (pools, t)
 ties_follow plan is (event ∷ events) x pools t follow =
     ties_follow plan is events (happens plan x event) (pools_keep plan is x pools event follow.0)
-    (ties_keep plan is x pools t event follow.0) follow.1
+    (ties_keep plan is x pools t event follow.0).next follow.1
 
 -- where a seat reads what it holds
 reads_look : (stand : Stand) (row : ℕ) → ReadsHeld stand row → look_of stand ≡ H.Reads row

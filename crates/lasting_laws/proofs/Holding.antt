@@ -1,9 +1,9 @@
 -- The held look: a seat asks, loads the word of a bucket, and takes hold of the row, unless an owner that sweeps has
 -- given it one meanwhile. In every run, however many seats sweep and give at once: the row that is read is not taken
 -- up again while it is read, and it stood in the bucket's word at some time since the seat asked.
-use Rattle.std.proofs.Common.{◌≡◌, ◌≢◌, ℕ, ◌+◌, ◌<◌, ◌≤◌, ◌⊎◌, Bool, true, false, inl, inr, refl, sym, ap, ◌∙◌, subst, arith, true≢false}
-use Rattle.std.specs.Prelude.{◌||◌, ◌&&◌, ◌==◌}
-use Rattle.std.proofs.lemmas.Bool.{cases_eq, eq-eqb}
+use Rattle.std.proofs.Common.{◌≡◌, ◌≢◌, ℕ, ◌+◌, ◌<◌, ◌≤◌, ◌⊎◌, Bool, true, false, cond, inl, inr, refl, sym, ap, ◌∙◌, subst, arith, true≢false}
+use Rattle.std.specs.Prelude.{◌==◌}
+use Rattle.std.proofs.lemmas.Bool.{cases_eq, eq-eqb, ne_eqb}
 use Rattle.word_rows.specs.Memory.{put}
 use Rattle.word_rows.proofs.MemoryLemmas.{put_same, put_other}
 use Rattle.lasting_laws.proofs.Lists.{either_put}
@@ -184,7 +184,7 @@ module _ (buckets seats : ℕ) (owner : ℕ → ℕ) where
     word = put s.word b r;
     home = put s.home r b;
     free = put s.free r false;
-    since = λ q x. s.since q x || ((s.want q == b) && (x == r));
+    since = λ q x. cond (x == r) (s.want q == b) (s.since q x);
   }
 
   pub named_keeps : (s : State) → Holds s → (b r : ℕ) → b < buckets → s.free r ≡ true → Holds (named_in s b r)
@@ -204,22 +204,18 @@ module _ (buckets seats : ℕ) (owner : ℕ → ℕ) where
     loaded = λ q x is e. good q x (h.loaded q x is e);
     reads = λ q x is. (let z = h.reads q x is in (z.0, good q x z.1));
     use_ = λ q w. elim (either_put s.word b r (s.want q)) [
-      | inl e ↦ ap (λ x. s.since q x || ((s.want q == b) && (x == r))) e.1
-          ∙ last (s.since q r) (s.want q == b) (r == r) (eq-eqb (s.want q) b e.0) (eq-eqb r r refl)
-      | inr e ↦ ap (λ x. s.since q x || ((s.want q == b) && (x == r))) e.1
-          ∙ more (s.since q (s.word (s.want q))) ((s.want q == b) && (s.word (s.want q) == r)) (h.use_ q w)
+      | inl e ↦ ap (λ x. cond (x == r) (s.want q == b) (s.since q x)) e.1
+          ∙ ap (λ (t : Bool). cond t (s.want q == b) (s.since q r)) (eq-eqb r r refl) ∙ eq-eqb (s.want q) b e.0
+      | inr e ↦ ap (λ x. cond (x == r) (s.want q == b) (s.since q x)) e.1
+          ∙ past q (s.word (s.want q)) (other (s.word (s.want q)) (h.named (s.want q) (h.inside q))) ∙ h.use_ q w
     ];
     few = h.few;
     sweeps = λ p. go p (s.sweep p) (h.sweeps p);
   }
     where
-      more : (x y : Bool) → x ≡ true → (x || y) ≡ true
-      more x y e = ap (λ (z : Bool). z || y) e
-
-      last : (x y z : Bool) → y ≡ true → z ≡ true → (x || (y && z)) ≡ true
-      last true y z e f = refl
-      last false true z e f = f
-      last false false z e f = e
+      -- of another row it is as it was
+      past : (q x : ℕ) → x ≢ r → cond (x == r) (s.want q == b) (s.since q x) ≡ s.since q x
+      past q x n = ap (λ (t : Bool). cond t (s.want q == b) (s.since q x)) (ne_eqb x r n)
 
       other : (x : ℕ) → s.free x ≡ false → x ≢ r
       other x live e = true≢false (sym was ∙ ap s.free (sym e) ∙ live)
@@ -228,7 +224,7 @@ module _ (buckets seats : ℕ) (owner : ℕ → ℕ) where
       still x live = put_other s.free r false x (other x live) ∙ live
 
       good : (q x : ℕ) → Good s q x → Good (named_in s b r) q x
-      good q x g = (still x g.0, more (s.since q x) ((s.want q == b) && (x == r)) g.1)
+      good q x g = (still x g.0, past q x (other x g.0) ∙ g.1)
 
       left_same : (p k : ℕ) (left : ℕ → Bool) → Left s p k left → Left (named_in s b r) p k left
       left_same p k left l = record {

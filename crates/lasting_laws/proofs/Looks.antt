@@ -15,7 +15,7 @@ pub data Looked (seat : ℕ) (flight : Flight) (round : Round) (attempt : Bucket
       Looked seat flight round attempt
   is_frozen : attempt.state.frozen ≡ true → after_row seat flight round attempt ≡ DirRoot round 1 None →
       Looked seat flight round attempt
-  is_open : attempt.state.frozen ≡ false → attempt.turn ≤ 2 →
+  is_open : is_applied seat flight attempt.state ≡ false → attempt.state.frozen ≡ false → attempt.turn ≤ 2 →
       after_row seat flight round attempt ≡ TryAnnouncement round attempt [] → Looked seat flight round attempt
   is_stuck : after_row seat flight round attempt ≡ Stuck → Looked seat flight round attempt
 
@@ -24,7 +24,7 @@ looked seat flight round attempt = go (is_applied seat flight attempt.state) ref
   where
     open_turn : (t : Bool) → nat_le attempt.turn 2 ≡ t → is_applied seat flight attempt.state ≡ false →
         attempt.state.frozen ≡ false → Looked seat flight round attempt
-    open_turn true less none live = is_open live (leb-true attempt.turn 2 less)
+    open_turn true less none live = is_open none live (leb-true attempt.turn 2 less)
         ((λ i. cond (none i) (answered_by seat attempt.state attempt.row)
         (cond (live i) (DirRoot round 1 None) (cond (less i) (TryAnnouncement round attempt []) Stuck))))
     open_turn false less none live = is_stuck

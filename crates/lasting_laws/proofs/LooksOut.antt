@@ -183,7 +183,8 @@ pub data LookComes (setup : Setup) (p : ℕ) (round : Round) (turn first : ℕ) 
         account = account;
         stand = InFlight (record flight { steps = steps }) (DirRoot round 1 None);
       }) → LookComes setup p round turn first events c account flight
-  open_ : (steps : ℕ) → (attempt setup p round turn first c flight.number).state.frozen ≡ false → turn ≤ 2 →
+  open_ : (steps : ℕ) → is_applied p flight (attempt setup p round turn first c flight.number).state ≡ false →
+      (attempt setup p round turn first c flight.number).state.frozen ≡ false → turn ≤ 2 →
       Comes setup p events c (record {
         account = account;
         stand = InFlight (record flight { steps = steps })
@@ -310,5 +311,5 @@ module _ (setup : Setup) (p : ℕ) (round : Round) (turn : ℕ) (before : Option
       go : Looked p flight round tries → LookComes setup p round turn first_row events c account flight
       go (has_it has e) = with_reply (slice_index_or tries.state.replies p None) refl has (subst At e read)
       go (is_frozen cold e) = (let x = subst At e read in frozen x.0 cold x.1)
-      go (is_open live two e) = (let x = subst At e read in open_ x.0 live two x.1)
+      go (is_open none live two e) = (let x = subst At e read in open_ x.0 none live two x.1)
       go (is_stuck e) = absurd (unstuck (subst At e read))

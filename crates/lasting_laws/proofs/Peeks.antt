@@ -61,7 +61,7 @@ front_short es front back e =
     omega (arith, ap (λ (xs : List Event). length xs) e, length-append front back)
 
 -- a world after two parts of a run
-after_both : (plan : Plan) (front back : List Event) (x : Lasting) →
+pub after_both : (plan : Plan) (front back : List Event) (x : Lasting) →
     fold (happens plan) x (front ++ back) ≡ fold (happens plan) (fold (happens plan) x front) back
 after_both plan [] back x = refl
 after_both plan (event ∷ front) back x = after_both plan front back (happens plan x event)
@@ -144,7 +144,7 @@ module _ (plan : Plan) where
       same = λ stands i. (let was = stood word l.low stands in was.1 i ∙ l.same was.0 i);
     }
 
-    keeps_still : (began : ℕ) (aim : Aim) (glance : Glance) → KeepsPeek es x began aim glance →
+    pub keeps_still : (began : ℕ) (aim : Aim) (glance : Glance) → KeepsPeek es x began aim glance →
         KeepsPeek later y began aim glance
     keeps_still began aim (S.GlanceWord left) k = tt
     keeps_still began aim (S.GlanceCount (Tried left word)) k = looks_still began aim word k
@@ -170,7 +170,7 @@ module _ (plan : Plan) where
     standing_still began (S.Peeks aim glance) k =
         (k.0, omega (arith, k.1, longer), keeps_still began aim glance k.2)
 
-    moment_still : (a : Answer) (aim : Aim) → IsOfMoment plan es a aim → IsOfMoment plan later a aim
+    pub moment_still : (a : Answer) (aim : Aim) → IsOfMoment plan es a aim → IsOfMoment plan later a aim
     moment_still a aim o = record {
       front = o.front;
       back = o.back ++ event ∷ [];
@@ -201,7 +201,7 @@ module _ (plan : Plan) where
     pub answers : All (λ (a : Answer). IsPeek plan es a a.by a.asked) x.answers
 
   -- each aim is of a bucket that there is
-  aimed : (aim : Aim) → IsAim plan aim → bucket_of_aim (ample plan) aim < buckets_of plan.settings
+  pub aimed : (aim : Aim) → IsAim plan aim → bucket_of_aim (ample plan) aim < buckets_of plan.settings
   aimed (OfKey key) is = bucket_small plan key
   aimed (OfBucket bucket) is = is
 
@@ -222,7 +222,7 @@ module _ (plan : Plan) where
       now = x.readers r
 
       -- what a fate leaves to be kept
-      abbrev Fated : (began : ℕ) (aim : Aim) → GlanceFate → Type 0
+      abbrev pub Fated : (began : ℕ) (aim : Aim) → GlanceFate → Type 0
       Fated began aim (Looks glance) = KeepsPeek es x began aim glance
       Fated began aim (Shows kept) =
           (front : List Event) × (back : List Event) × (es ≡ front ++ back) × (began ≤ length front)
@@ -273,7 +273,7 @@ module _ (plan : Plan) where
           go true = tt
           go false = tt
 
-      fated : (began : ℕ) (aim : Aim) (glance : Glance) → IsAim plan aim → began ≤ length es →
+      pub fated : (began : ℕ) (aim : Aim) (glance : Glance) → IsAim plan aim → began ≤ length es →
           KeepsPeek es x began aim glance →
           Fated began aim (glance_fate (ample plan) 0 aim glance
           (found_by (glance_deed (ample plan) 0 0 aim glance) x.store))
@@ -513,7 +513,7 @@ module _ (plan : Plan) where
 
   -- ---- runs
 
-  seen_first : IsPlan plan → Seen [] (opening_world plan)
+  pub seen_first : IsPlan plan → Seen [] (opening_world plan)
   seen_first is = record {
     pools = pools_open plan is;
     marks = marks_open is;
@@ -526,7 +526,7 @@ module _ (plan : Plan) where
       marks_open : IsPlan plan → Marks plan (opening_world plan)
       marks_open is = opening_marks plan is
 
-  seen_follow : IsPlan plan → (es events : List Event) (x : Lasting) → Seen es x → AreEvents plan x events →
+  pub seen_follow : IsPlan plan → (es events : List Event) (x : Lasting) → Seen es x → AreEvents plan x events →
       Seen (es ++ events) (fold (happens plan) x events)
   seen_follow is es [] x h follow = subst (λ (l : List Event). Seen l x) (sym (append-nil es)) h
   seen_follow is es (event ∷ events) x h follow =

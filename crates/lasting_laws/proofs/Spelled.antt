@@ -57,7 +57,7 @@ module _ (setup : Setup) (bucket : ℕ) (state : BucketState) (prefix : state.pr
   items_long : length items ≡ count * ITEM_WORDS
   items_long = length-item_words count state.items
 
-  items_are : items_of_words count items ≡ state.items
+  pub items_are : items_of_words count items ≡ state.items
   items_are =
       ap (items_of_words count)
       (sym (ap (λ xs. take (count * ITEM_WORDS) (xs ++ seats)) padded_is
@@ -96,14 +96,14 @@ module _ (setup : Setup) (bucket : ℕ) (state : BucketState) (prefix : state.pr
   behind : drop start all ≡ count ∷ items
   behind = drop_at seats (count ∷ items) start wide
 
-  count_is : slice_index all start ≡ count
+  pub count_is : slice_index all start ≡ count
   count_is = ap (slice_index all) (sym wide) ∙ get_or-append_seam seats count items 0
 
-  rest : items_part setup all ≡ items
+  pub rest : items_part setup all ≡ items
   rest = sym (drop-drop 1 start all) ∙ ap (drop 1) behind
 
   -- a true count is not cut
-  cut : count_in setup count ≡ count
+  pub cut : count_in setup count ≡ count
   cut = omega (arith, small.fit)
 
   -- so many words

@@ -1,7 +1,7 @@
 -- Each event of a lasting table is one of the held look. So a row that is read under a hold is not free in any run.
 use Rattle.std.proofs.Common.{◌≡◌, ◌≢◌, ℕ, ◌+◌, ◌<◌, ◌⊎◌, inl, inr, Bool, true, false, List, length, refl, sym, ap, ◌∙◌, subst, arith, get_or-set_same, get_or-set_other}
 use Rattle.std.specs.Prelude.{◌==◌}
-use Rattle.std.proofs.lemmas.Bool.{cases_eq, cases_Bool}
+use Rattle.std.proofs.lemmas.Bool.{cases_eq, cases_Bool, eqb-true}
 use Rattle.list_laws.proofs.Lists.{In}
 use Rattle.word_rows.specs.Memory.{put}
 use Rattle.word_rows.proofs.MemoryLemmas.{put_same, put_other}
@@ -74,6 +74,17 @@ module _ (plan : Plan) where
     pub homes : (p : ℕ) (r : ℕ × ℕ) → p < plan.settings.seats → Listed r (seat_in x p) → home r.0 ≡ r.1
     pub wants : (p : ℕ) → p < plan.settings.seats → Wants plan (x.store.want p) (seat_in x p).stand
 
+  -- a world after another one. What a seat that has asked may come to read it could read before, or it is the row in
+  -- use
+  -- of the bucket that it wants
+  pub record Ties (x : Lasting) (tied : Tied x) (y : Lasting) : Type 0 where
+    pub next : Tied y
+    pub step : (q r : ℕ) → next.since q r ≡ true → among (seat_in y (owner_in plan r)).free r ≡ false →
+        H.IsActive (look_of (seat_in y q).stand) →
+        ((tied.since q r ≡ true) × (among (seat_in x (owner_in plan r)).free r ≡ false)
+        × H.IsActive (look_of (seat_in x q).stand))
+        ⊎ (r ≡ word_in y (y.store.want q))
+
   module _ (x : Lasting) (pools : Pools plan x) (tied : Tied x) (p : ℕ) (inside : p < plan.settings.seats) where
     abbrev now : SeatNow
     now = seat_in x p
@@ -111,28 +122,39 @@ module _ (plan : Plan) where
           ((q : ℕ) → put (λ k. sweep_of (seat_in x k).sweep) p (sweep_of then.sweep) q ≡ t.sweep q) →
           ((q r : ℕ) → since q r ≡ t.since q r) → ((r : ℕ × ℕ) → Listed r then → home r.0 ≡ r.1) →
           ((q : ℕ) (r : ℕ × ℕ) → q ≢ p → q < plan.settings.seats → Listed r (seat_in x q) → home r.0 ≡ r.1) →
-          Wants plan (store.want p) then.stand → ((q : ℕ) → q ≢ p → store.want q ≡ x.store.want q) → Tied y
+          Wants plan (store.want p) then.stand → ((q : ℕ) → q ≢ p → store.want q ≡ x.store.want q) →
+          ((q r : ℕ) → since q r ≡ true → t.free r ≡ false → H.IsActive (t.look q) →
+          ((tied.since q r ≡ true) × (s.free r ≡ false) × H.IsActive (s.look q)) ⊎ (r ≡ t.word (t.want q))) →
+          Ties x tied y
       ties home since t holds word homes free hold want time look sweep sinces own_homes other_homes own_want
-          other_want =
+          other_want step =
           record {
-            home = home;
-            since = since;
-            holds = subst HoldsOf (sym (state_path (held_state plan y home since) t word homes
-                (λ r. seat_put (λ k. among k.free r) (owner_in plan r) ∙ free r) hold want
-                (λ q. seat_put (λ k. k.time) q ∙ time q) (λ q. seat_put (λ k. look_of k.stand) q ∙ look q)
-                (λ q. seat_put (λ k. sweep_of k.sweep) q ∙ sweep q) sinces)) holds;
-            homes = λ q r less i. elim (cases_eq q p) [
-              | inl e ↦ own_homes r (subst (Listed r) (ap (seat_in y) e ∙ mine) i)
-              | inr n ↦ other_homes q r n less (subst (Listed r) (others q n) i)
-            ];
-            wants = λ q less. elim (cases_eq q p) [
-              | inl e ↦
-                  subst (λ (k : SeatNow). Wants plan (store.want q) k.stand) (sym (ap (seat_in y) e ∙ mine))
-                  (subst (λ k. Wants plan (store.want k) then.stand) (sym e) own_want)
-              | inr n ↦
-                  subst (λ (k : SeatNow). Wants plan (store.want q) k.stand) (sym (others q n))
-                  (subst (λ w. Wants plan w (seat_in x q).stand) (sym (other_want q n)) (tied.wants q less))
-            ];
+            step = λ q r e f a. elim (step q r e
+                (sym (seat_put (λ k. among k.free r) (owner_in plan r) ∙ free r) ∙ f)
+                (subst H.IsActive (seat_put (λ k. look_of k.stand) q ∙ look q) a)) [
+                  | inl z ↦ inl z
+                  | inr z ↦ inr (z ∙ sym (word (t.want q)) ∙ ap (λ k. row_in (store.bucket k)) (sym (want q)))
+                ];
+            next = record {
+              home = home;
+              since = since;
+              holds = subst HoldsOf (sym (state_path (held_state plan y home since) t word homes
+                  (λ r. seat_put (λ k. among k.free r) (owner_in plan r) ∙ free r) hold want
+                  (λ q. seat_put (λ k. k.time) q ∙ time q) (λ q. seat_put (λ k. look_of k.stand) q ∙ look q)
+                  (λ q. seat_put (λ k. sweep_of k.sweep) q ∙ sweep q) sinces)) holds;
+              homes = λ q r less i. elim (cases_eq q p) [
+                | inl e ↦ own_homes r (subst (Listed r) (ap (seat_in y) e ∙ mine) i)
+                | inr n ↦ other_homes q r n less (subst (Listed r) (others q n) i)
+              ];
+              wants = λ q less. elim (cases_eq q p) [
+                | inl e ↦
+                    subst (λ (k : SeatNow). Wants plan (store.want q) k.stand) (sym (ap (seat_in y) e ∙ mine))
+                    (subst (λ k. Wants plan (store.want k) then.stand) (sym e) own_want)
+                | inr n ↦
+                    subst (λ (k : SeatNow). Wants plan (store.want q) k.stand) (sym (others q n))
+                    (subst (λ w. Wants plan w (seat_in x q).stand) (sym (other_want q n)) (tied.wants q less))
+              ];
+            };
           }
 
       -- what is not another
@@ -157,34 +179,42 @@ module _ (plan : Plan) where
       -- a step that only the seat itself knows of
       pub quietly : Still → ((q : ℕ) → store.hold q ≡ x.store.hold q) → ((q : ℕ) → store.want q ≡ x.store.want q) →
           then.time ≡ now.time → look_of then.stand ≡ look_of now.stand → sweep_of then.sweep ≡ sweep_of now.sweep →
-          Wants plan (store.want p) then.stand → Tied y
+          Wants plan (store.want p) then.stand → Ties x tied y
       quietly z hold want time look sweep wants =
           ties tied.home tied.since s tied.holds z.bucket (λ r. refl) (still_free z) (λ q. ap hold_of (hold q)) want
           (put_still (λ k. (seat_in x k).time) p then.time time)
           (put_still (λ k. look_of (seat_in x k).stand) p (look_of then.stand) look)
           (put_still (λ k. sweep_of (seat_in x k).sweep) p (sweep_of then.sweep) sweep) (λ q r. refl) (still_homes z)
-          other_homes wants (λ q n. want q)
+          other_homes wants (λ q n. want q) (λ q r e f a. inl (e, f, a))
+
+      -- who has asked had asked before, where that is known of the seat itself
+      active : (look : H.Look) → (H.IsActive look → H.IsActive (s.look p)) → (q : ℕ) →
+          H.IsActive (put s.look p look q) → H.IsActive (s.look q)
+      active look acts q a = elim (either_put s.look p look q) [
+        | inl z ↦ subst (λ j. H.IsActive (s.look j)) (sym z.0) (acts (subst H.IsActive z.1 a))
+        | inr z ↦ subst H.IsActive z.1 a
+      ]
 
       -- its look goes on, by loads alone
       pub look_moves : Still → ((q : ℕ) → store.hold q ≡ x.store.hold q) → ((q : ℕ) → store.want q ≡ x.store.want q) →
           then.time ≡ now.time → sweep_of then.sweep ≡ sweep_of now.sweep → (look : H.Look) →
           look_of then.stand ≡ look → HoldsOf (H.moved (buckets_of plan.settings) plan.settings.seats
           (owner_in plan) s p look) →
-          Wants plan (store.want p) then.stand → Tied y
-      look_moves z hold want time sweep look is holds wants =
+          Wants plan (store.want p) then.stand → (H.IsActive look → H.IsActive (look_of now.stand)) → Ties x tied y
+      look_moves z hold want time sweep look is holds wants acts =
           ties tied.home tied.since (H.moved (buckets_of plan.settings) plan.settings.seats
           (owner_in plan) s p look) holds
           z.bucket (λ r. refl) (still_free z) (λ q. ap hold_of (hold q)) want
           (put_still (λ k. (seat_in x k).time) p then.time time)
           (λ q. ap (λ l. put (λ k. look_of (seat_in x k).stand) p l q) is)
           (put_still (λ k. sweep_of (seat_in x k).sweep) p (sweep_of then.sweep) sweep) (λ q r. refl) (still_homes z)
-          other_homes wants (λ q n. want q)
+          other_homes wants (λ q n. want q) (λ q r e f a. inl (e, f, active look acts q a))
 
       -- it stores what it wants
       pub want_stored : (b : ℕ) → b < buckets_of plan.settings → Still → ((q : ℕ) → store.hold q ≡ x.store.hold q) →
           ((q : ℕ) → store.want q ≡ put x.store.want p b q) → then.time ≡ now.time →
           sweep_of then.sweep ≡ sweep_of now.sweep → look_of now.stand ≡ H.NoLook → look_of then.stand ≡ H.Chosen →
-          Wants plan (store.want p) then.stand → Tied y
+          Wants plan (store.want p) then.stand → Ties x tied y
       want_stored b small z hold want time sweep was is wants =
           let bs = buckets_of plan.settings in
           let n = plan.settings.seats in
@@ -197,6 +227,7 @@ module _ (plan : Plan) where
           (λ q. ap (λ l. put (λ k. look_of (seat_in x k).stand) p l q) is)
           (put_still (λ k. sweep_of (seat_in x k).sweep) p (sweep_of then.sweep) sweep) (λ q r. refl) (still_homes z)
           other_homes wants (λ q m. want q ∙ put_other x.store.want p b q m)
+          (λ q r e f a. inl (e, f, active H.Chosen (λ b. absurd b) q a))
 
       hold_put : (word : ℕ) (h : H.Hold) → hold_of word ≡ h → ((q : ℕ) → store.hold q ≡ put x.store.hold p word q) →
           (q : ℕ) → hold_of (store.hold q) ≡ put s.hold p h q
@@ -211,7 +242,7 @@ module _ (plan : Plan) where
       pub asked : Still → ((q : ℕ) → store.hold q ≡ put x.store.hold p (asking (now.time + 1)) q) →
           ((q : ℕ) → store.want q ≡ x.store.want q) → then.time ≡ now.time + 1 →
           sweep_of then.sweep ≡ sweep_of now.sweep → look_of now.stand ≡ H.Chosen → look_of then.stand ≡ H.Asked →
-          Wants plan (store.want p) then.stand → Tied y
+          Wants plan (store.want p) then.stand → Ties x tied y
       asked z hold want time sweep was is wants =
           let bs = buckets_of plan.settings in
           let n = plan.settings.seats in
@@ -226,13 +257,24 @@ module _ (plan : Plan) where
           (λ q. ap (λ l. put (λ k. look_of (seat_in x k).stand) p l q) is)
           (put_still (λ k. sweep_of (seat_in x k).sweep) p (sweep_of then.sweep) sweep) (λ q r. refl) (still_homes z)
           other_homes wants (λ q m. want q)
+          (λ q r e f a. elim (cases_eq q p) [
+            | inl z ↦ inr (eqb-true r (s.word (s.want p))
+                (sym (ap (λ (g : ℕ → Bool). g r) (ap (put tied.since p (λ k. k == s.word (s.want p))) z
+                ∙ put_same tied.since p (λ k. k == s.word (s.want p)))) ∙ e)
+                ∙ ap (λ k. s.word (s.want k)) (sym z))
+            | inr m ↦ inl (
+              sym (ap (λ (g : ℕ → Bool). g r) (put_other tied.since p (λ k. k == s.word (s.want p)) q m)) ∙ e,
+              f,
+              subst H.IsActive (put_other s.look p H.Asked q m) a,
+            )
+          ])
 
       -- it takes hold of the row that it has loaded
       pub takes : (row : ℕ) → Still → ((q : ℕ) → store.hold q ≡ put x.store.hold p (holding row) q) →
           ((q : ℕ) → store.want q ≡ x.store.want q) → then.time ≡ now.time →
           sweep_of then.sweep ≡ sweep_of now.sweep → look_of now.stand ≡ H.Loaded row →
           x.store.hold p ≡ asking now.time → look_of then.stand ≡ H.Reads row → Wants plan (store.want p) then.stand →
-          Tied y
+          Ties x tied y
       takes row z hold want time sweep was asks is wants =
           let bs = buckets_of plan.settings in
           let n = plan.settings.seats in
@@ -249,6 +291,7 @@ module _ (plan : Plan) where
           (λ q. ap (λ l. put (λ k. look_of (seat_in x k).stand) p l q) is)
           (put_still (λ k. sweep_of (seat_in x k).sweep) p (sweep_of then.sweep) sweep) (λ q r. refl) (still_homes z)
           other_homes wants (λ q m. want q)
+          (λ q r e f a. inl (e, f, active (H.Reads row) (λ b. subst H.IsActive (sym was) tt) q a))
 
     -- ---- holds of looks
 

@@ -27,7 +27,7 @@ use Rattle.lasting_laws.proofs.Holding as H
 use Rattle.lasting_laws.proofs.HoldingSweeps as HS
 use Rattle.lasting_laws.proofs.HeldStates.{hold_of, among, look_of, look_of_step, sweep_of, held_state}
 use Rattle.lasting_laws.proofs.HeldSteps.{Arrives, IsSeen, arrives, from_seat, hold_asks, hold_has}
-use Rattle.lasting_laws.proofs.Tied.{Tied, HoldsOf, Listed, Wants, WantStep, quietly}
+use Rattle.lasting_laws.proofs.Tied.{Tied, Ties, HoldsOf, Listed, Wants, WantStep, quietly}
 use Rattle.lasting_laws.proofs.TiedRows.{From, from_fate, listed_live, listed_owned, published, sweeps_to}
 
 -- ---- what comes of a step that holds nothing
@@ -188,7 +188,7 @@ module _ (plan : Plan) (is_plan : IsPlan plan) (x : Lasting) (pools : Pools plan
   pub quiet_fate : (store : W.Store) → ((b : ℕ) → row_in (store.bucket b) ≡ word_in x b) →
       ((q : ℕ) → store.hold q ≡ x.store.hold q) → ((q : ℕ) → store.want q ≡ x.store.want q) → (u : Update)
       (next : Fate) (answers : List Answer) → NoHeld next → look_of now.stand ≡ H.NoLook →
-      Tied plan (ticked (with_seat x p store (seat_after now u next) answers))
+      Ties plan x tied (ticked (with_seat x p store (seat_after now u next) answers))
   quiet_fate store bucket hold want u next answers none quiet =
       quietly plan x pools tied p inside store (seat_after now u next) answers
       (record { bucket = bucket; free = after_free now u next; listed = after_listed plan now u next }) hold want
@@ -197,7 +197,7 @@ module _ (plan : Plan) (is_plan : IsPlan plan) (x : Lasting) (pools : Pools plan
 
   -- its next row in the word of a bucket
   pub exchange_step : (u : Update) (t : Try) (found : List (Option Op)) → now.stand ≡ S.Goes u (S.Exchange t found) →
-      Tied plan (ticked (goes plan x p now u (S.Exchange t found)))
+      Ties plan x tied (ticked (goes plan x p now u (S.Exchange t found)))
   exchange_step u t found stood = go (x.store.bucket b == t.word)
     where
       b : ℕ
@@ -234,7 +234,7 @@ module _ (plan : Plan) (is_plan : IsPlan plan) (x : Lasting) (pools : Pools plan
             (put_other s.word b row a m)
       ]
 
-      won : (r : Option Reply) → Tied plan (ticked (with_seat x p store
+      won : (r : Option Reply) → Ties plan x tied (ticked (with_seat x p store
           (seat_after (with_published now b) u (ends_with r))
           (answers_after x p u.call (stepped now.course) (ends_with r))))
       won r =
@@ -254,7 +254,7 @@ module _ (plan : Plan) (is_plan : IsPlan plan) (x : Lasting) (pools : Pools plan
       reply : Fate
       reply = reply_by p (made (ample plan) t found)
 
-      go : (c : Bool) → Tied plan (ticked (with_seat x p (cond c store x.store)
+      go : (c : Bool) → Ties plan x tied (ticked (with_seat x p (cond c store x.store)
           (seat_after (cond c (with_published now b) now) u (cond c reply (lost t.turn)))
           (answers_after x p u.call (stepped now.course) (cond c reply (lost t.turn)))))
       go true = won (slice_index_or (made (ample plan) t found).replies p None)
@@ -296,7 +296,8 @@ module _ (plan : Plan) (is_plan : IsPlan plan) (x : Lasting) (pools : Pools plan
         Arrives plan (record s { hold = hf; sweep = sf }) p inside holds quiet (sweep_fate (ample plan) p sweep found) →
         (answers : List Answer) →
         (let f = sweep_fate (ample plan) p sweep found in
-        Tied plan (ticked (with_seat x p store (seat_after (swept now f) u (piece_fate now.free rows f)) answers)))
+        Ties plan x tied (ticked (with_seat x p store (seat_after (swept now f) u
+        (piece_fate now.free rows f)) answers)))
     swept_by sweep e store hf sf holds bucket hold want else_ found arrives_at answers =
         let f = sweep_fate (ample plan) p sweep found in
         let next = piece_fate now.free rows f in
@@ -317,7 +318,8 @@ module _ (plan : Plan) (is_plan : IsPlan plan) (x : Lasting) (pools : Pools plan
     by_load : (sweep : Sweep) → (e : now.sweep ≡ Some sweep) → (found : ℕ) →
         IsSeen plan s p inside tied.holds quiet sweep found → (answers : List Answer) →
         (let f = sweep_fate (ample plan) p sweep found in
-        Tied plan (ticked (with_seat x p x.store (seat_after (swept now f) u (piece_fate now.free rows f)) answers)))
+        Ties plan x tied (ticked (with_seat x p x.store (seat_after (swept now f) u
+        (piece_fate now.free rows f)) answers)))
     by_load sweep e found seen answers =
         swept_by sweep e x.store s.hold s.sweep tied.holds (λ b. refl) (λ q. refl) (λ q. refl) (λ q m. refl) found
         (arrives plan s p inside tied.holds quiet sweep found (left_of sweep e) seen) answers
@@ -330,7 +332,7 @@ module _ (plan : Plan) (is_plan : IsPlan plan) (x : Lasting) (pools : Pools plan
     sweep_by : (sweep : Option Sweep) → now.sweep ≡ sweep → (answers : List Answer) →
         (let found = found_by (sweep_deed sweep) x.store in
         let f = sweep_fate_of (ample plan) p sweep found in
-        Tied plan (ticked (with_seat x p (store_after (sweep_deed sweep) x.store)
+        Ties plan x tied (ticked (with_seat x p (store_after (sweep_deed sweep) x.store)
         (seat_after (swept now f) u (piece_fate now.free rows f)) answers)))
     sweep_by None e answers =
         let f = Swept [] [] in
@@ -372,7 +374,7 @@ module _ (plan : Plan) (is_plan : IsPlan plan) (x : Lasting) (pools : Pools plan
         f : SweepFate
         f = sweep_fate (ample plan) p (S.Gives k t row gone) found
 
-        go : (c : Bool) → (x.store.hold k == asking t) ≡ c → Tied plan (ticked (with_seat x p
+        go : (c : Bool) → (x.store.hold k == asking t) ≡ c → Ties plan x tied (ticked (with_seat x p
             (cond c (with_word x.store (W.Hold k) (holding row)) x.store)
             (seat_after (swept now f) u (piece_fate now.free rows f)) answers))
         go false not_it =
@@ -406,7 +408,7 @@ module _ (plan : Plan) (is_plan : IsPlan plan) (x : Lasting) (pools : Pools plan
                   ap hold_of (put_other x.store.hold k (holding row) q m) ∙ sym (put_other s.hold k (H.Holding row) q m)
             ]
 
-    pub sweep_step : Tied plan (ticked (goes plan x p now u (S.Sweeps rows)))
+    pub sweep_step : Ties plan x tied (ticked (goes plan x p now u (S.Sweeps rows)))
     sweep_step =
         let f = sweep_fate_of (ample plan) p now.sweep (found_by (sweep_deed now.sweep) x.store) in
         sweep_by now.sweep refl (answers_after x p u.call (stepped now.course) (piece_fate now.free rows f))

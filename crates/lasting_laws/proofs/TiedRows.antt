@@ -1,7 +1,7 @@
 -- An exchange that happens, and a step of a sweep, are events of the held look.
-use Rattle.std.proofs.Common.{◌≡◌, ◌≢◌, ℕ, ◌+◌, ◌<◌, ◌≤◌, ◌⊎◌, inl, inr, Bool, true, false, cond, not, List, [], ◌∷◌, ◌++◌, Option, Some, refl, sym, ap, ◌∙◌, subst, arith}
-use Rattle.std.specs.Prelude.{◌==◌, ◌&&◌, ◌||◌, nat_lt}
-use Rattle.std.proofs.lemmas.Bool.{cases_eq, cases_Bool, eq-eqb, ne_eqb}
+use Rattle.std.proofs.Common.{◌≡◌, ◌≢◌, ℕ, ◌+◌, ◌<◌, ◌≤◌, ◌⊎◌, inl, inr, Bool, true, false, cond, not, List, [], ◌∷◌, ◌++◌, Option, Some, refl, sym, ap, ◌∙◌, subst, arith, true≢false}
+use Rattle.std.specs.Prelude.{◌==◌, ◌||◌, nat_lt}
+use Rattle.std.proofs.lemmas.Bool.{cases_eq, cases_Bool, eq-eqb, ne_eqb, eqb-true}
 use Rattle.list_laws.proofs.Lists.{In, in_both, in_filter}
 use Rattle.word_rows.specs.Memory.{put}
 use Rattle.word_rows.proofs.MemoryLemmas.{put_same, put_other}
@@ -23,7 +23,7 @@ use Rattle.lasting_model.specs.Goes.{without, alone, hold_or_end, seats_from, ho
 use Rattle.table_model.specs.Setup.{seats_of}
 use Rattle.lasting_laws.proofs.Pools.{has_row, is_row, Lists, owned, single, in_many}
 use Rattle.lasting_laws.proofs.Marks.{in_free}
-use Rattle.lasting_laws.proofs.Tied.{Tied, HoldsOf, Listed, Wants, ties, put_still}
+use Rattle.lasting_laws.proofs.Tied.{Tied, Ties, HoldsOf, Listed, Wants, ties, put_still}
 
 -- ---- rows of a sweep are those that it had
 
@@ -100,6 +100,11 @@ either_way true true = refl
 either_way true false = refl
 either_way false true = refl
 either_way false false = refl
+
+-- what is not free then was not free
+was_live : (a b : Bool) → (a || b) ≡ false → b ≡ false
+was_live true b e = absurd (true≢false e)
+was_live false b e = e
 
 abbrev flag : Bool → ℕ
 flag b = cond b 1 0
@@ -246,10 +251,10 @@ module _ (plan : Plan) (x : Lasting) (pools : Pools plan x) (tied : Tied plan x)
       pub published : ((a : ℕ) → row_in (store.bucket a) ≡ put s.word b row a) →
           ((q : ℕ) → store.hold q ≡ x.store.hold q) → ((q : ℕ) → store.want q ≡ x.store.want q) →
           then.time ≡ now.time → look_of then.stand ≡ look_of now.stand → Wants plan (store.want p) then.stand →
-          Tied plan (ticked (with_seat x p store then answers))
+          Ties plan x tied (ticked (with_seat x p store then answers))
       published word hold want time look wants =
           ties plan x pools tied p inside store then answers (put tied.home row b)
-          (λ q r. s.since q r || ((s.want q == b) && (r == row))) (H.named_in bs n o s b row)
+          (λ q r. cond (r == row) (s.want q == b) (s.since q r)) (H.named_in bs n o s b row)
           (H.named_keeps bs n o s tied.holds b row small free_row) word (λ r. refl) free_then_is
           (λ q. ap hold_of (hold q)) want (put_still (λ k. (seat_in x k).time) p then.time time)
           (put_still (λ k. look_of (seat_in x k).stand) p (look_of then.stand) look)
@@ -259,6 +264,17 @@ module _ (plan : Plan) (x : Lasting) (pools : Pools plan x) (tied : Tied plan x)
           put_other tied.home row b (r.0) (λ e. m (sym (listed_owned q less r i) ∙ ap o e ∙ own))
           ∙ tied.homes q r less i)
           wants (λ q m. want q)
+          (λ q r e f a. elim (cases_eq r row) [
+            | inl z ↦
+                let wanted : s.want q ≡ b = eqb-true (s.want q) b
+                (sym (ap (λ (t : Bool). cond t (s.want q == b) (s.since q r)) (eq-eqb r row z)) ∙ e) in
+                inr (z ∙ sym (put_same s.word b row) ∙ ap (put s.word b row) (sym wanted))
+            | inr m ↦ inl (
+              sym (ap (λ (t : Bool). cond t (s.want q == b) (s.since q r)) (ne_eqb r row m)) ∙ e,
+              sym (put_other s.free row false r m) ∙ f,
+              a,
+            )
+          ])
 
     -- ---- a step of a sweep
 
@@ -288,7 +304,7 @@ module _ (plan : Plan) (x : Lasting) (pools : Pools plan x) (tied : Tied plan x)
 
       pub sweeps_to : (f : SweepFate) → Arrives plan base p inside holds quiet f → then.free ≡ (swept now f).free →
           then.sweep ≡ (swept now f).sweep → ((r : ℕ × ℕ) → Listed plan r then → Listed plan r now) →
-          Tied plan (ticked (with_seat x p store then answers))
+          Ties plan x tied (ticked (with_seat x p store then answers))
       sweeps_to (SweepsOn kept sweep) a free_is sweep_is listed =
           ties plan x pools tied p inside store then answers tied.home tied.since
           (HS.swept bs n o base p (sweep_of (Some sweep)))
@@ -297,6 +313,7 @@ module _ (plan : Plan) (x : Lasting) (pools : Pools plan x) (tied : Tied plan x)
           hold want (put_still (λ k. (seat_in x k).time) p then.time time) look_is
           (sweep_to (sweep_of (Some sweep)) (ap sweep_of sweep_is)) (λ q r. refl)
           (λ r i. tied.homes p r inside (listed r i)) (λ q r m less i. tied.homes q r less i) wants (λ q m. want q)
+          (λ q r e f a. inl (e, f, a))
       sweeps_to (Swept kept gone) a free_is sweep_is listed =
           let left = among (rows_of gone) in
           let s1 = HS.swept bs n o base p (H.Seats a.0 left) in
@@ -307,6 +324,7 @@ module _ (plan : Plan) (x : Lasting) (pools : Pools plan x) (tied : Tied plan x)
           (λ r. refl) free_to hold want (put_still (λ k. (seat_in x k).time) p then.time time) look_is
           (λ q. sweep_to H.NoSweep (ap sweep_of sweep_is) q ∙ sym (twice q)) (λ q r. refl)
           (λ r i. tied.homes p r inside (listed r i)) (λ q r m less i. tied.homes q r less i) wants (λ q m. want q)
+          (λ q r e f a. inl (e, was_live (left r) (s.free r) f, a))
         where
           twice : (q : ℕ) →
               put (put sf p (H.Seats a.0 (among (rows_of gone)))) p H.NoSweep q ≡ put sf p H.NoSweep q

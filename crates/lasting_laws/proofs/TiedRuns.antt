@@ -26,7 +26,7 @@ use Rattle.lasting_laws.proofs.PoolEvents.{bucket_small}
 use Rattle.lasting_laws.proofs.Holding as H
 use Rattle.lasting_laws.proofs.HoldingSweeps as HS
 use Rattle.lasting_laws.proofs.HeldStates.{look_of, look_of_step, look_of_glance, look_of_source, sweep_of, held_state}
-use Rattle.lasting_laws.proofs.Tied.{Tied, HoldsOf, Wants, WantGlance, quietly, look_moves, want_stored, asked, takes, loaded, given, has_read}
+use Rattle.lasting_laws.proofs.Tied.{Tied, Ties, HoldsOf, Wants, WantGlance, quietly, look_moves, want_stored, asked, takes, loaded, given, has_read}
 use Rattle.lasting_laws.proofs.TiedRows.{sweeps_to}
 use Rattle.lasting_model.specs.Words.{first_row}
 use Rattle.lasting_laws.proofs.TiedEvents.{NoHeld, first_on, IsPlain, plain_on, after_free, after_time, after_sweep, after_listed, quiet_fate, exchange_step, sweep_step}
@@ -60,13 +60,15 @@ module _ (plan : Plan) (is_plan : IsPlan plan) (x : Lasting) (pools : Pools plan
   on_load : (u : Update) (next : Fate) (answers : List Answer) (look : H.Look) → look_of (seat_after now u next).stand
       ≡ look →
       Look look → Wants plan (x.store.want p) (seat_after now u next).stand →
-      Tied plan (ticked (with_seat x p x.store (seat_after now u next) answers))
-  on_load u next answers look is holds wants =
+      (H.IsActive look → H.IsActive (look_of now.stand)) →
+      Ties plan x tied (ticked (with_seat x p x.store (seat_after now u next) answers))
+  on_load u next answers look is holds wants acts =
       look_moves plan x pools tied p inside x.store (seat_after now u next) answers
       (record { bucket = λ b. refl; free = after_free now u next; listed = after_listed plan now u next }) (λ q. refl)
-      (λ q. refl) (after_time now u next) (ap sweep_of (after_sweep now u next)) look is holds wants
+      (λ q. refl) (after_time now u next) (ap sweep_of (after_sweep now u next)) look is holds wants acts
 
-  want_step : (u : Update) → now.stand ≡ S.Goes u S.StoreWant → Tied plan (ticked (goes plan x p now u S.StoreWant))
+  want_step : (u : Update) → now.stand ≡ S.Goes u S.StoreWant → Ties plan x tied (ticked
+      (goes plan x p now u S.StoreWant))
   want_step u stood =
       let b = bucket_of_update (ample plan) u in
       want_stored plan x pools tied p inside (with_word x.store (W.Want p) b)
@@ -74,7 +76,8 @@ module _ (plan : Plan) (is_plan : IsPlan plan) (x : Lasting) (pools : Pools plan
       b (bucket_small plan (key_in u.call)) (record { bucket = λ a. refl; free = refl; listed = λ r i. i }) (λ q. refl)
       (λ q. refl) refl refl (ap look_of stood) refl (put_same x.store.want p b)
 
-  ask_step : (u : Update) → now.stand ≡ S.Goes u S.StoreAsking → Tied plan (ticked (goes plan x p now u S.StoreAsking))
+  ask_step : (u : Update) → now.stand ≡ S.Goes u S.StoreAsking → Ties plan x tied (ticked
+      (goes plan x p now u S.StoreAsking))
   ask_step u stood =
       asked plan x pools tied p inside (with_word x.store (W.Hold p) (asking (now.time + 1)))
       (seat_after (record now { time = now.time + 1 }) u (On S.HeldWord)) x.answers
@@ -82,17 +85,19 @@ module _ (plan : Plan) (is_plan : IsPlan plan) (x : Lasting) (pools : Pools plan
       (ap look_of stood)
       refl (wants_at (S.Goes u S.StoreAsking) stood)
 
-  word_step : (u : Update) → now.stand ≡ S.Goes u S.HeldWord → Tied plan (ticked (goes plan x p now u S.HeldWord))
+  word_step : (u : Update) → now.stand ≡ S.Goes u S.HeldWord → Ties plan x tied (ticked
+      (goes plan x p now u S.HeldWord))
   word_step u stood =
       let b = bucket_of_update (ample plan) u in
       on_load u (On (S.TakeHold (x.store.bucket b))) x.answers (H.Loaded (word_in x b)) refl
       (loaded plan x pools tied p inside b (ap look_of stood) (wants_at (S.Goes u S.HeldWord) stood)) tt
+      (λ _. subst H.IsActive (sym (ap look_of stood)) tt)
 
   take_step : (u : Update) (old : ℕ) → now.stand ≡ S.Goes u (S.TakeHold old) →
-      Tied plan (ticked (goes plan x p now u (S.TakeHold old)))
+      Ties plan x tied (ticked (goes plan x p now u (S.TakeHold old)))
   take_step u old stood = go (x.store.hold p == asking now.time) refl
     where
-      go : (c : Bool) → (x.store.hold p == asking now.time) ≡ c → Tied plan (ticked (with_seat x p
+      go : (c : Bool) → (x.store.hold p == asking now.time) ≡ c → Ties plan x tied (ticked (with_seat x p
           (cond c (with_word x.store (W.Hold p) (holding (row_in old))) x.store)
           (seat_after now u (On (S.HeldNumber (cond c (row_in old) (held_row (x.store.hold p)))))) x.answers))
       go true it =
@@ -104,12 +109,13 @@ module _ (plan : Plan) (is_plan : IsPlan plan) (x : Lasting) (pools : Pools plan
           on_load u (On (S.HeldNumber (held_row (x.store.hold p)))) x.answers (H.Reads (held_row (x.store.hold p))) refl
           (given plan x pools tied p inside (row_in old) (ap look_of stood) (x.store.hold p) refl
           (eqb-false (x.store.hold p) (asking now.time) not_it)) tt
+          (λ _. subst H.IsActive (sym (ap look_of stood)) tt)
 
   number_step : (u : Update) (row : ℕ) → now.stand ≡ S.Goes u (S.HeldNumber row) →
-      Tied plan (ticked (goes plan x p now u (S.HeldNumber row)))
+      Ties plan x tied (ticked (goes plan x p now u (S.HeldNumber row)))
   number_step u row stood = go (x.store.row row (number_place p) == u.number)
     where
-      go : (c : Bool) → Tied plan (ticked (with_seat x p x.store
+      go : (c : Bool) → Ties plan x tied (ticked (with_seat x p x.store
           (seat_after now u (On (cond c (S.HeldReply row) S.Stuck))) x.answers))
       go true =
           quietly plan x pools tied p inside x.store (seat_after now u (On (S.HeldReply row))) x.answers
@@ -117,32 +123,35 @@ module _ (plan : Plan) (is_plan : IsPlan plan) (x : Lasting) (pools : Pools plan
           (sym (ap look_of stood)) refl tt
       go false =
           on_load u (On S.Stuck) x.answers H.NoLook refl (has_read plan x pools tied p inside row (ap look_of stood)) tt
+          (λ a. absurd a)
 
   reply_step : (u : Update) (row : ℕ) → now.stand ≡ S.Goes u (S.HeldReply row) →
-      Tied plan (ticked (goes plan x p now u (S.HeldReply row)))
+      Ties plan x tied (ticked (goes plan x p now u (S.HeldReply row)))
   reply_step u row stood = go (reply_of_word (x.store.row row (reply_place p)))
     where
-      go : (r : Option Reply) → Tied plan (ticked (with_seat x p x.store (seat_after now u (ends_with r))
+      go : (r : Option Reply) → Ties plan x tied (ticked (with_seat x p x.store (seat_after now u (ends_with r))
           (answers_after x p u.call (stepped now.course) (ends_with r))))
       go None =
           on_load u (On S.Stuck) x.answers H.NoLook refl (has_read plan x pools tied p inside row (ap look_of stood)) tt
+          (λ a. absurd a)
       go (Some r) =
           on_load u (Ends r) (answers_after x p u.call (stepped now.course) (Ends r)) H.NoLook refl
-          (has_read plan x pools tied p inside row (ap look_of stood)) tt
+          (has_read plan x pools tied p inside row (ap look_of stood)) tt (λ a. absurd a)
 
   -- a step that loads, or stores what nobody else looks at
   plain_step : (u : Update) (step : Step) → now.stand ≡ S.Goes u step → IsPlain step → look_of_step step ≡ H.NoLook →
       (store : W.Store) → ((b : ℕ) → row_in (store.bucket b) ≡ word_in x b) →
       ((q : ℕ) → store.hold q ≡ x.store.hold q) → ((q : ℕ) → store.want q ≡ x.store.want q) → (word : ℕ) →
       (let next = fate (ample plan) p now u step word in
-      Tied plan (ticked (with_seat x p store (seat_after now u next)
+      Ties plan x tied (ticked (with_seat x p store (seat_after now u next)
       (answers_after x p u.call (stepped now.course) next))))
   plain_step u step stood plain none store bucket hold want word =
       quiet_fate plan is_plan x pools tied p inside store bucket hold want u (fate (ample plan) p now u step word)
       (answers_after x p u.call (stepped now.course) (fate (ample plan) p now u step word))
       (plain_on (ample plan) p now u step word plain) (ap look_of stood ∙ none)
 
-  update_step : (u : Update) (step : Step) → now.stand ≡ S.Goes u step → Tied plan (ticked (goes plan x p now u step))
+  update_step : (u : Update) (step : Step) → now.stand ≡ S.Goes u step →
+      Ties plan x tied (ticked (goes plan x p now u step))
   update_step u (S.Sweeps rows) e = sweep_step plan is_plan x pools tied p inside u rows e
   update_step u (S.StoreOp i) e =
       plain_step u (S.StoreOp i) e tt refl (store_after (deed_of (ample plan) p now u (S.StoreOp i)) x.store)
@@ -226,7 +235,7 @@ module _ (plan : Plan) (is_plan : IsPlan plan) (x : Lasting) (pools : Pools plan
     Quiet Disturbed = Unit {0}
 
     quiet_look : time_after now.time was ≡ now.time → (f : GlanceFate) → Quiet f → look_of now.stand ≡ H.NoLook →
-        Tied plan (ticked (with_seat x p x.store (look_after now aim was f)
+        Ties plan x tied (ticked (with_seat x p x.store (look_after now aim was f)
         (look_answers (ample plan) x p aim (stepped now.course) f)))
     quiet_look t (Looks glance) q none =
         quietly plan x pools tied p inside x.store (look_after now aim was (Looks glance)) x.answers
@@ -244,7 +253,7 @@ module _ (plan : Plan) (is_plan : IsPlan plan) (x : Lasting) (pools : Pools plan
     -- in a row
     row_look : time_after now.time was ≡ now.time → (source : Source) → look_of now.stand ≡ look_of_source source →
         (f : GlanceFate) → Going source aim f →
-        Tied plan (ticked (with_seat x p x.store (look_after now aim was f)
+        Ties plan x tied (ticked (with_seat x p x.store (look_after now aim was f)
         (look_answers (ample plan) x p aim (stepped now.course) f)))
     row_look t source look (Looks glance) g =
         quietly plan x pools tied p inside x.store (look_after now aim was (Looks glance)) x.answers
@@ -255,7 +264,7 @@ module _ (plan : Plan) (is_plan : IsPlan plan) (x : Lasting) (pools : Pools plan
         look_moves plan x pools tied p inside x.store (look_after now aim was (Shows items))
         (look_answers (ample plan) x p aim (stepped now.course) (Shows items))
         (record { bucket = λ b. refl; free = refl; listed = λ r i. i }) (λ k. refl) (λ k. refl) refl refl H.NoLook refl
-        (has_read plan x pools tied p inside row look) tt
+        (has_read plan x pools tied p inside row look) tt (λ a. absurd a)
     row_look t source look Disturbed g = absurd g
 
   lost_quiet : (aim : Aim) (was : Glance) (stood : now.stand ≡ S.Glances aim was) (left : ℕ) →
@@ -271,7 +280,7 @@ module _ (plan : Plan) (is_plan : IsPlan plan) (x : Lasting) (pools : Pools plan
   aim_small (OfBucket bucket) is = is
 
   look_step : (aim : Aim) (glance : Glance) → now.stand ≡ S.Glances aim glance →
-      Tied plan (ticked (glances plan x p now aim glance))
+      Ties plan x tied (ticked (glances plan x p now aim glance))
   look_step aim (S.GlanceWord left) e =
       quiet_look aim (S.GlanceWord left) e refl
       (Looks (S.GlanceCount (Tried left (x.store.bucket (bucket_of_aim (ample plan) aim))))) (refl, λ w b. tt)
@@ -313,13 +322,13 @@ module _ (plan : Plan) (is_plan : IsPlan plan) (x : Lasting) (pools : Pools plan
       (record { bucket = λ a. refl; free = refl; listed = λ r i. i }) (λ q. refl) (λ q. refl) refl refl
       (H.Loaded (word_in x b)) refl
       (loaded plan x pools tied p inside b (ap look_of e) (wants_at (S.Glances aim S.GlanceHeld) e).1)
-      (aims aim S.GlanceHeld e, tt)
+      (aims aim S.GlanceHeld e, tt) (λ _. subst H.IsActive (sym (ap look_of e)) tt)
   look_step aim (S.GlanceTake old) e = go (x.store.hold p == asking now.time) refl
     where
       is_aim : IsAim plan aim
       is_aim = aims aim (S.GlanceTake old) e
 
-      go : (c : Bool) → (x.store.hold p == asking now.time) ≡ c → Tied plan (ticked (with_seat x p
+      go : (c : Bool) → (x.store.hold p == asking now.time) ≡ c → Ties plan x tied (ticked (with_seat x p
           (cond c (with_word x.store (W.Hold p) (holding (row_in old))) x.store)
           (look_after now aim (S.GlanceTake old)
           (Looks (S.GlanceCount (HeldIn (cond c (row_in old) (held_row (x.store.hold p))))))) x.answers))
@@ -336,10 +345,11 @@ module _ (plan : Plan) (is_plan : IsPlan plan) (x : Lasting) (pools : Pools plan
           (H.Reads (held_row (x.store.hold p))) refl
           (given plan x pools tied p inside (row_in old) (ap look_of e) (x.store.hold p) refl
           (eqb-false (x.store.hold p) (asking now.time) not_it)) (is_aim, tt)
+          (λ _. subst H.IsActive (sym (ap look_of e)) tt)
 
   -- ---- begins
 
-  look_first : (aim : Aim) → IsAim plan aim → now.stand ≡ S.Idle → Tied plan (ticked (look_begins x p now aim))
+  look_first : (aim : Aim) → IsAim plan aim → now.stand ≡ S.Idle → Ties plan x tied (ticked (look_begins x p now aim))
   look_first aim is e =
       quietly plan x pools tied p inside x.store
       (record now { stand = S.Glances aim (S.GlanceWord (LOOK_TRIES - 1)); course = course_from x.clock }) x.answers
@@ -361,7 +371,8 @@ module _ (plan : Plan) (is_plan : IsPlan plan) (x : Lasting) (pools : Pools plan
       (sweep : Option Sweep) → now.named ≡ named → now.sweep ≡ sweep →
       (let taken = sweep_begins named sweep now in
       let next = first_fate now.free taken.sweep in
-      Tied plan (ticked (with_seat x p x.store (record taken { stand = stand_at u next; course = course }) answers)))
+      Ties plan x tied (ticked (with_seat x p x.store
+      (record taken { stand = stand_at u next; course = course }) answers)))
   begun u course answers e named (Some sweep) en es =
       let next = first_fate now.free now.sweep in
       let none = first_on now.free now.sweep in
@@ -396,26 +407,27 @@ module _ (plan : Plan) (is_plan : IsPlan plan) (x : Lasting) (pools : Pools plan
         ]
       ])
 
-  update_first : (call : Call) → now.stand ≡ S.Idle → Tied plan (ticked (update_begins x p now call))
+  update_first : (call : Call) → now.stand ≡ S.Idle → Ties plan x tied (ticked (update_begins x p now call))
   update_first call e =
       let taken = sweep_begins now.named now.sweep now in
       let next = first_fate now.free taken.sweep in
       begun (next_update now call) (course_from x.clock) (answers_after x p call (course_from x.clock) next) e now.named
       now.sweep refl refl
 
-  call_first : (call : Call) → Fits plan now (Begin call) → Tied plan (ticked (call_begins x p now call))
+  call_first : (call : Call) → Fits plan now (Begin call) → Ties plan x tied (ticked (call_begins x p now call))
   call_first (Lookup key) fits = look_first (OfKey key) fits.1 fits.0
   call_first (Insert key value) fits = update_first (Insert key value) fits.0
   call_first (Remove key) fits = update_first (Remove key) fits.0
   call_first (Tally key amount) fits = update_first (Tally key amount) fits.0
 
-  seat_goes : (stand : Stand) → now.stand ≡ stand → IsFlying stand → Tied plan (ticked (goes_on plan x p now stand))
+  seat_goes : (stand : Stand) → now.stand ≡ stand → IsFlying stand → Ties plan x tied (ticked
+      (goes_on plan x p now stand))
   seat_goes S.Idle e flies = absurd flies
   seat_goes (S.Goes u step) e flies = update_step u step e
   seat_goes (S.Glances aim glance) e flies = look_step aim glance e
 
   -- THE RESULT: each event of a seat
-  pub seat_ties : (what : What) → Fits plan now what → Tied plan (ticked (act plan x p now what))
+  pub seat_ties : (what : What) → Fits plan now what → Ties plan x tied (ticked (act plan x p now what))
   seat_ties (Begin call) fits = call_first call fits
   seat_ties (Copy bucket) fits = look_first (OfBucket bucket) fits.1 fits.0
   seat_ties Step_on fits = seat_goes now.stand refl fits

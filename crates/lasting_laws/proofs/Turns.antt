@@ -1,5 +1,5 @@
 -- Each event of a lasting table keeps the generations of its rows, and leaves each row as it is or gives it a new one.
-use Rattle.std.proofs.Common.{◌≡◌, ◌≢◌, ℕ, zero, suc, ◌+◌, ◌-◌, ◌^◌, ◌<◌, ◌≤◌, inl, inr, Bool, true, false, cond, List, [], ◌∷◌, length, Option, Some, None, refl, sym, ap, ◌∙◌, subst, arith}
+use Rattle.std.proofs.Common.{◌≡◌, ◌≢◌, ℕ, zero, suc, ◌+◌, ◌-◌, ◌^◌, ◌<◌, ◌≤◌, inl, inr, Bool, true, false, cond, List, [], ◌∷◌, length, Option, Some, None, refl, sym, ap, ◌∙◌, subst, arith, true≢false}
 use Rattle.std.specs.Prelude.{◌==◌, nat_lt, All, slice_index, slice_index_or}
 use Rattle.std.proofs.lemmas.Bool.{cases_eq}
 use Rattle.std.proofs.lemmas.List.Elements.{All-nil, All-cons, All-append}
@@ -21,6 +21,8 @@ use Rattle.lasting_model.specs.Worlds.{Lasting, Answer, Asker, BySeat, ByReader,
 use Rattle.lasting_laws.proofs.Lists.{either_put}
 use Rattle.lasting_laws.proofs.Words.{row_of_tag, generation_of_tag}
 use Rattle.lasting_laws.proofs.Pools.{owner_in, Pools, rows_at}
+use Rattle.lasting_laws.proofs.HeldStates.{among}
+use Rattle.lasting_laws.proofs.HeldSteps.{in_among}
 use Rattle.lasting_laws.proofs.PoolSteps.{IsNoExchange, quiet_words, quiet_step, quiet_glance}
 use Rattle.lasting_laws.proofs.Marks.{Writes, Marks, Turn, Change, next_in, writer_owns, own_small, turns, marked, NoWrite, no_write, replied, loses, IsReading, reads_on, piece_on, first_on, same_rows, IsNoStore, step_rows, glance_rows}
 
@@ -36,6 +38,9 @@ pub record Leaves (plan : Plan) (x y : Lasting) : Type 1 where
   pub answers : (P : Answer → Type 0) → ((a : Answer) → IsSeat a.by → P a) → All P x.answers → All P y.answers
   pub readers : y.readers ≡ x.readers
   pub clock : y.clock ≡ x.clock + 1
+  -- a row that is not free stays as it is
+  pub live : (row : ℕ) → among (seat_in x (owner_in plan row)).free row ≡ false → (i : ℕ) →
+      y.store.row row i ≡ x.store.row row i
 
 -- the answers, with one of a seat
 one_more : (x : Lasting) (seat : ℕ) (asked : Asked) (told : Told) (course : Course) (P : Answer → Type 0) →
@@ -58,7 +63,7 @@ seat_known own u (On step) = refl
 seat_known own u (Ends reply) = refl
 seat_known own u Refuses = refl
 
-swept_known : (now : SeatNow) (f : SweepFate) → (swept now f).generation ≡ now.generation
+pub swept_known : (now : SeatNow) (f : SweepFate) → (swept now f).generation ≡ now.generation
 swept_known now (SweepsOn kept sweep) = refl
 swept_known now (Swept kept gone) = refl
 
@@ -68,7 +73,7 @@ look_known now aim was (Looks glance) = refl
 look_known now aim was (Shows items) = refl
 look_known now aim was Disturbed = refl
 
-begin_known : (named : List (ℕ × ℕ)) (sweep : Option Sweep) (now : SeatNow) →
+pub begin_known : (named : List (ℕ × ℕ)) (sweep : Option Sweep) (now : SeatNow) →
     (sweep_begins named sweep now).generation ≡ now.generation
 begin_known named (Some sweep) now = refl
 begin_known [] None now = refl
@@ -89,6 +94,11 @@ module _ (plan : Plan) (is_plan : IsPlan plan) (x : Lasting) (h : Pools plan x) 
     answers = adds;
     readers = refl;
     clock = refl;
+    live = λ row kept. elim (c.rows row) [
+      | inl same ↦ same
+      | inr z ↦ absurd (true≢false (sym (in_among (seat_in x p).free row z.1)
+          ∙ ap (λ q. among (seat_in x q).free row) (sym z.0) ∙ kept))
+    ];
   }
 
   -- a step that changes neither rows nor bucket words

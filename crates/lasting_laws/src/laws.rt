@@ -1,11 +1,15 @@
 //! What holds in every run of a lasting table, and what of the core it rests on.
 
 ghost use Rattle.lasting_laws.specs.Facts.{EndedAreApplied, FixedDepthNeverFreezes, NumbersHaveOneReply};
+ghost use Rattle.lasting_laws.specs.Promises.{UpdatesAreOrdered};
 ghost use Rattle.lasting_model.specs.Laws.{
+  AllCountsAreSmall,
   BucketsAreApart,
   HeldRowsAreKept,
+  LooksAreOfMoments,
   NoneIsRefused,
   PeeksAreOfMoments,
+  SeatsGoOn,
   StepsAreBounded,
 };
 
@@ -24,19 +28,35 @@ pub fn pool_laws()
     ensures apart { BucketsAreApart }
 {}
 
-/// In every run of a lasting table each call of a seat is answered within its bound of steps.
+/// In every run of a lasting table each call of a seat is answered within its bound of steps. No seat comes to where
+/// there is no further step.
 pub fn step_laws()
     ensures bounded { StepsAreBounded }
+    ensures go_on { SeatsGoOn }
 {}
 
-/// In every run of a lasting table each lookup of a reader, and each copy of a bucket that it makes, tells what the
-/// bucket had at one moment of the call, or that it may be tried again.
+/// In every run of a lasting table each lookup of a seat, and each copy of a bucket that it makes, tells what the
+/// bucket had at one moment of the call. A reader is told that, or that it may be tried again.
 pub fn peek_laws()
     ensures of_moments { PeeksAreOfMoments }
+    ensures of_seats { LooksAreOfMoments }
 {}
 
 /// In every run of a lasting table a row that a seat reads under its hold is free for no seat, so nobody writes it
 /// meanwhile.
 pub fn hold_laws()
     ensures kept { HeldRowsAreKept }
+{}
+
+/// In every run of a lasting table all updates have one order. Each that was answered stands in it once, with the reply
+/// of the plain map, after all that had ended before its call began. Each lookup, and each copy of a bucket, tells what
+/// the plain map has at one moment of its call.
+pub fn ordered_laws()
+    ensures ordered { UpdatesAreOrdered }
+{}
+
+/// In every run of a lasting table each row was published at most once in each update that its seat has answered, and a
+/// seat has asked at most once in each event. So a bucket word has no more than 55 bits.
+pub fn count_laws()
+    ensures small { AllCountsAreSmall }
 {}

@@ -3,4 +3,4 @@
 
 mod laws;
 
-pub use laws::{hold_laws, peek_laws, pool_laws, shown_facts, step_laws};
+pub use laws::{count_laws, hold_laws, ordered_laws, peek_laws, pool_laws, shown_facts, step_laws};

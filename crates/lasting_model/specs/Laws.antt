@@ -1,11 +1,11 @@
 -- What is promised of every run of a lasting table by its steps alone. What its answers mean is told by the run of its
 -- ghost.
-use Rattle.std.specs.Prelude.{◌≡◌, ◌⊎◌, ℕ, ◌<◌, ◌≤◌, ◌==◌, false, List, ◌++◌, length, All}
+use Rattle.std.specs.Prelude.{◌≡◌, ◌⊎◌, ℕ, ◌^◌, ◌<◌, ◌≤◌, ◌==◌, false, List, ◌++◌, length, All}
 use Rattle.std.specs.List.{list_any}
 use Rattle.step_counts.specs.declared.settings.Settings.{Settings}
 use Rattle.plain_map.specs.declared.calls.Call.TheVariants.{Lookup}
 use Rattle.plain_map.specs.declared.keys.Pair.{Pair}
-use Rattle.lasting_model.specs.Plans.{Plan, ample, buckets_of}
+use Rattle.lasting_model.specs.Plans.{Plan, ample, buckets_of, MOST_UPDATES}
 use Rattle.lasting_model.specs.Codes.{row_in, pairs_of_row}
 use Rattle.lasting_model.specs.Bounds.{update_bound, look_bound}
 use Rattle.lasting_model.specs.Steps.{Stand, Idle, Goes, Glances, Stuck, HeldNumber, HeldReply, HeldIn, GlanceCount, GlanceItem, Aim, OfKey, OfBucket, bucket_of_aim}
@@ -88,6 +88,19 @@ PeeksAreOfMoments =
     (plan : Plan) (events : List Event) → IsRun plan events →
     All (λ (a : Answer). IsPeek plan events a a.by a.asked) (world_after plan events).answers
 
+-- a seat's lookup, or its copy of a bucket, tells what the bucket had at one moment of the call
+abbrev pub IsLook : Plan → List Event → Answer → Asker → Asked → Type 0
+IsLook plan events a (ByReader reader) asked = Unit {0}
+IsLook plan events a (BySeat seat) (Called (Lookup key)) = IsOfMoment plan events a (OfKey key)
+IsLook plan events a (BySeat seat) (Called call) = Unit {0}
+IsLook plan events a (BySeat seat) (Copied bucket) = IsOfMoment plan events a (OfBucket bucket)
+
+-- whatever the others do meanwhile
+abbrev pub LooksAreOfMoments : Type 0
+LooksAreOfMoments =
+    (plan : Plan) (events : List Event) → IsRun plan events →
+    All (λ (a : Answer). IsLook plan events a a.by a.asked) (world_after plan events).answers
+
 -- the row that a seat reads under its hold
 abbrev pub ReadsHeld : Stand → (row : ℕ) → Type 0
 ReadsHeld (Goes u (HeldNumber held)) row = held ≡ row
@@ -102,3 +115,18 @@ HeldRowsAreKept =
     (plan : Plan) (events : List Event) (seat other row : ℕ) → IsRun plan events → seat < plan.settings.seats →
     other < plan.settings.seats → ReadsHeld (seat_in (world_after plan events) seat).stand row →
     list_any (λ free. free == row) (seat_in (world_after plan events) other).free ≡ false
+
+-- what is counted in a run is small: no row was published more often than its seat has answered updates, of which there
+-- are not more than there may be; and no seat has asked more often than there were events
+pub record CountsAreSmall (plan : Plan) (world : Lasting) : Type 0 where
+  pub answered : (seat : ℕ) → seat < plan.settings.seats → (seat_in world seat).answered ≤ MOST_UPDATES
+  pub generations : (seat row : ℕ) → seat < plan.settings.seats →
+      (seat_in world seat).generation row ≤ (seat_in world seat).answered
+  pub times : (seat : ℕ) → seat < plan.settings.seats → (seat_in world seat).time ≤ world.clock
+  -- so a bucket word has no more than 55 bits
+  pub words : (bucket : ℕ) → bucket < buckets_of plan.settings → world.store.bucket bucket < 2 ^ 55
+
+-- in each run
+abbrev pub AllCountsAreSmall : Type 0
+AllCountsAreSmall =
+    (plan : Plan) (events : List Event) → IsRun plan events → CountsAreSmall plan (world_after plan events)
