@@ -1,0 +1,6 @@
+mod RunLemmas
+mod PlaceLemmas
+mod LookLemmas
+mod FindLemmas
+mod HoldLemmas
+mod EndLemmas

@@ -1,0 +1,4 @@
+pub mod Going
+pub mod Starts
+pub mod Desks
+pub mod Items

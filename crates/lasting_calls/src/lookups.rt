@@ -1,0 +1,133 @@
+//! Whole lookups: by a seat, which always comes to an answer, and by a reader, which has so many tries.
+
+ghost use Rattle.std.specs.Prelude.{◌≡◌, ◌+◌, ◌<◌, ◌≤◌, ◌^◌, Some, None, MatchOption, true, false};
+ghost use Rattle.std.specs.Option.{option_map_or};
+ghost use Rattle.plain_map.specs.PlainObject.{class_of};
+ghost use Rattle.plain_map.specs.declared.calls.Reply.TheVariants.{Absent, Found};
+ghost use Rattle.lasting_model.specs.Steps.{GlanceWant, GlanceWord, Glances, Idle, OfKey};
+ghost use Rattle.lasting_model.specs.Goes.{Again, Replied};
+ghost use Rattle.lasting_calls.specs.Desks.{IsOf};
+ghost use Rattle.lasting_calls.specs.Items.{HasShown, HasTried, asked_again, ended};
+
+use crate::desk::{Desk, ROW_LIMIT};
+use crate::holding::hold;
+use crate::looks::{Source, find_item};
+use crate::steps::Steps;
+use plain_map::{Key, Reply};
+
+/// What a try has come to.
+#[derive(Clone, Copy)]
+pub enum Tried {
+    /// Its row is of one writing, and this was found.
+    Shown(Option<u64>),
+    /// Its row was written anew meanwhile.
+    Lost,
+}
+
+/// How many tries a seat has before it asks for a hold.
+pub const LOOK_TRIES: u64 = 2;
+
+// The reply to a lookup that found this.
+#[inline(always)]
+fn reply_of(found: Option<u64>) -> Reply
+    ensures { result ≡ option_map_or Found found Absent }
+{
+    match found {
+        Some(value) => Reply::Found(value),
+        None => Reply::Absent,
+    }
+}
+
+// A look at the row that stands in the bucket's word.
+#[inline(always)]
+fn try_find<S: Steps>(steps: &mut S, desk: &Desk, bucket: u64, left: u64, key: &Key) -> Tried
+    requires phase { (S.now steps.old).now.stand ≡ Glances (OfKey key.now) (GlanceWord left) }
+    requires desk { IsOf (S.now steps.old) desk.now }
+    requires bucket { bucket ≡ class_of desk.now.rules key.now }
+    requires few { bucket < 2 ^ 32 }
+    ensures { HasTried (S.now steps.old) (S.now steps.new) key.now left result }
+{
+    let place = desk.bucket(bucket);
+    let word = steps.load(place);
+    let found = find_item(steps, desk, Source::Word(left, word), key);
+    // Its owner stores the generation before it writes the row anew. So if it is the same after all other words, they
+    // are of one writing.
+    let first = desk.row(word % ROW_LIMIT);
+    let generation = steps.load(first);
+    if generation == word / ROW_LIMIT {
+        Tried::Shown(found)
+    } else {
+        Tried::Lost
+    }
+}
+
+// The held look at a key.
+#[inline(always)]
+fn find_held<S: Steps>(
+    steps: &mut S,
+    desk: &Desk,
+    time: &mut u64,
+    bucket: u64,
+    key: &Key,
+) -> Option<u64>
+    requires phase { (S.now steps.old).now.stand ≡ Glances (OfKey key.now) GlanceWant }
+    requires desk { IsOf (S.now steps.old) desk.now }
+    requires time { time.old ≡ (S.now steps.old).now.time }
+    requires late { time.old < 2 ^ 62 }
+    requires bucket { bucket ≡ class_of desk.now.rules key.now }
+    requires few { bucket < 2 ^ 32 }
+    ensures shown { HasShown (asked_again (S.now steps.old)) (S.now steps.new) key.now result }
+    ensures time { time.new ≡ time.old + 1 }
+{
+    let row = hold(steps, desk, time, bucket);
+    find_item(steps, desk, Source::Held(row), key)
+}
+
+/// Looks a key up. `time` is how often the seat has asked for a hold.
+///
+/// **Steps:** 3 and one for each item, and six more for an item that has the key's last word; in no case more than
+/// `look_bound`.
+#[inline(always)]
+pub fn lookup<S: Steps>(steps: &mut S, desk: &Desk, time: &mut u64, key: &Key) -> Reply
+    requires idle { (S.now steps.old).now.stand ≡ Idle }
+    requires seat { (S.now steps.old).holds ≡ true }
+    requires desk { IsOf (S.now steps.old) desk.now }
+    requires time { time.old ≡ (S.now steps.old).now.time }
+    requires few { time.old < 2 ^ 62 }
+    ensures told { S.now steps.new ≡ ended (S.now steps.old) time.new (Replied result) }
+{
+    steps.begin_look(key, LOOK_TRIES);
+    let bucket = desk.bucket_of(key);
+    match try_find(steps, desk, bucket, 1, key) {
+        Tried::Shown(found) => return reply_of(found),
+        Tried::Lost => {}
+    }
+    match try_find(steps, desk, bucket, 0, key) {
+        Tried::Shown(found) => return reply_of(found),
+        Tried::Lost => {}
+    }
+    let held = find_held(steps, desk, time, bucket, key);
+    reply_of(held)
+}
+
+/// Looks a key up by loads alone, with so many tries. `None` tells that each was disturbed: it may be asked again.
+#[inline(always)]
+pub fn peek<S: Steps>(steps: &mut S, desk: &Desk, tries: u64, key: &Key) -> Option<Reply>
+    requires idle { (S.now steps.old).now.stand ≡ Idle }
+    requires reader { (S.now steps.old).holds ≡ false }
+    requires desk { IsOf (S.now steps.old) desk.now }
+    requires tries { 1 ≤ tries }
+    ensures told { MatchOption result
+        (S.now steps.new ≡ ended (S.now steps.old) (S.now steps.old).now.time Again)
+        (λ reply. S.now steps.new ≡ ended (S.now steps.old) (S.now steps.old).now.time (Replied reply)) }
+{
+    steps.begin_look(key, tries);
+    let bucket = desk.bucket_of(key);
+    for i in 0..tries {
+        match try_find(steps, desk, bucket, tries - 1 - i, key) {
+            Tried::Shown(found) => return Some(reply_of(found)),
+            Tried::Lost => {}
+        }
+    }
+    None
+}
