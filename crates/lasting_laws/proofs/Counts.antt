@@ -136,7 +136,8 @@ module _ (plan : Plan) (x : Lasting) (shown : IsShown plan x) (counts : Counts p
         answers f = answers_after x p u.call (stepped now.course) f
 
         -- nothing is counted
-        plainly : (s : Step) → Counts plan (ticked (with_seat x p (store s) (seat_after now u (next s)) (answers (next s))))
+        plainly : (s : Step) →
+            Counts plan (ticked (with_seat x p (store s) (seat_after now u (next s)) (answers (next s))))
         plainly s = moves (store s) (seat_after now u (next s)) (answers (next s))
             (after now u (next s) refl refl time_was less)
 
@@ -264,7 +265,8 @@ module _ (plan : Plan) (x : Lasting) (shown : IsShown plan x) (counts : Counts p
     call_first (Tally key amount) = update_first (Tally key amount)
 
     seat_goes : (stand : Stand) → now.stand ≡ stand → IsFlying stand →
-        GoesOn (seat_in (ticked (goes_on plan x p now stand)) p).stand → Counts plan (ticked (goes_on plan x p now stand))
+        GoesOn (seat_in (ticked (goes_on plan x p now stand)) p).stand →
+        Counts plan (ticked (goes_on plan x p now stand))
     seat_goes S.Idle e flies live = absurd flies
     seat_goes (S.Goes u step) e flies live = update_step u step e live
     seat_goes (S.Glances aim glance) e flies live = look_step aim glance
