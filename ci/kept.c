@@ -29,7 +29,7 @@ static void expect(const char *what, uint64_t told, uint64_t wanted) {
 static void list(struct flowdir_table *closed) {
     size_t count = 0;
     refused = 0;
-    expect("count", flowdir_count(closed, &count), FLOWDIR_OK);
+    expect("count", flowdir_list(closed, &count), FLOWDIR_OK);
     expect("three pairs", count, 3);
 }
 

@@ -6,7 +6,7 @@
  * 1,000 keys find room, with none refused in 999 of 1,000 tables, and with 16 and 12 some 14,600. A seat makes at most
  * 4,294,967,294 calls, lookups among them; then it answers FLOWDIR_BAD. Peeks are not counted. An exporter that closes
  * its books every interval closes one table and opens the next with the pairs that it left: flowdir_close,
- * flowdir_count, flowdir_reopen, and flowdir_free for the closed one. From the second time on the next table is opened
+ * flowdir_list, flowdir_reopen, and flowdir_free for the closed one. From the second time on the next table is opened
  * in memory that was kept; examples/c/intervals.c does so.
  *
  * A table is opened with a number of seats. A thread takes a seat and makes its calls by it, one at a time. No call by
@@ -80,7 +80,7 @@ enum flowdir_status {
 
 enum flowdir_kind {
     FLOWDIR_NEW = 0,           /* the key was inserted */
-    FLOWDIR_OLD = 1,           /* the key was there already, with this value, which it keeps */
+    FLOWDIR_OLD = 1,           /* the key was there already, with this value: an insert keeps it, a put replaces it */
     FLOWDIR_NOROOM = 2,        /* the key's class has no room for another key */
     FLOWDIR_GONE = 3,          /* the key was taken out, and had this value */
     FLOWDIR_FOUND = 4,         /* the key has this value */
@@ -132,10 +132,21 @@ uint32_t flowdir_insert(struct flowdir_seat *seat, const struct flowdir_key *key
 /* Takes the key out: GONE or ABSENT. BAD: calls used up; FULL. As flowdir_insert. */
 uint32_t flowdir_remove(struct flowdir_seat *seat, const struct flowdir_key *key, struct flowdir_reply *reply);
 
-/* Adds so many bytes to the key's: SUM, with their total, which stops at 2^61 - 1, or ABSENT. A key that is inserted has
- * 0 bytes. BAD: 2^61 bytes or more, or calls used up; FULL. As flowdir_insert. */
+/* Adds so many bytes to the key's: SUM, with their total, which stops at 2^61 - 1, or ABSENT. An insert and a put
+ * bring a key with 0 bytes. BAD: 2^61 bytes or more, or calls used up; FULL. As flowdir_insert. */
 uint32_t flowdir_tally(struct flowdir_seat *seat, const struct flowdir_key *key, uint64_t bytes,
                        struct flowdir_reply *reply);
+
+/* Counts so many bytes of the key: where it is there, they are added to its own, SUM, with their total, which stops at
+ * 2^61 - 1; else it gets the value and these bytes, NEW or NOROOM. BAD: a value or bytes of 2^61 or more, or calls used
+ * up; FULL. As flowdir_insert. */
+uint32_t flowdir_count(struct flowdir_seat *seat, const struct flowdir_key *key, uint64_t value, uint64_t bytes,
+                       struct flowdir_reply *reply);
+
+/* Gives the key this value, and lets it keep its bytes: OLD, with the value that it had, NEW or NOROOM. BAD: a value of
+ * 2^61 or more, or calls used up; FULL. As flowdir_insert. */
+uint32_t flowdir_put(struct flowdir_seat *seat, const struct flowdir_key *key, uint64_t value,
+                     struct flowdir_reply *reply);
 
 /* Asks for the key's value: FOUND or ABSENT. BAD: calls used up. As flowdir_insert. Who only looks up should peek, which
  * costs less: a lookup by a seat loads the done word of every seat too, and stores its own. */
@@ -163,7 +174,7 @@ uint32_t flowdir_close(struct flowdir_table *table);
 
 /* Lists the pairs of a closed table in the order of their keys, and tells how many there are. BAD: it is not closed;
  * MEMORY. One thread at a time for a table. */
-uint32_t flowdir_count(struct flowdir_table *table, size_t *count);
+uint32_t flowdir_list(struct flowdir_table *table, size_t *count);
 
 /* The pair at this place of those that were listed, from 0. BAD: there is none. One thread at a time for a table. */
 uint32_t flowdir_pair_at(struct flowdir_table *table, size_t at, struct flowdir_pair *pair);

@@ -78,6 +78,18 @@ public:
         return told(flowdir_tally(&seat_, &key, bytes, &reply), reply);
     }
 
+    /* Adds bytes to the key's, or inserts the key with this value and these bytes. */
+    std::optional<flowdir_reply> count(const Key &key, uint64_t value, uint64_t bytes) {
+        flowdir_reply reply;
+        return told(flowdir_count(&seat_, &key, value, bytes, &reply), reply);
+    }
+
+    /* Gives the key this value, whether it is there or not. */
+    std::optional<flowdir_reply> put(const Key &key, uint64_t value) {
+        flowdir_reply reply;
+        return told(flowdir_put(&seat_, &key, value, &reply), reply);
+    }
+
     /* The key's value, if it is there. */
     std::optional<uint64_t> find(const Key &key) {
         flowdir_reply reply;
@@ -144,7 +156,7 @@ public:
         if (!is_closed_) check(flowdir_close(&table_));
         is_closed_ = true;
         std::size_t count = 0;
-        check(flowdir_count(&table_, &count));
+        check(flowdir_list(&table_, &count));
         std::vector<Pair> pairs(count);
         for (std::size_t at = 0; at < count; at++) check(flowdir_pair_at(&table_, at, &pairs[at]));
         return pairs;

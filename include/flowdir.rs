@@ -65,13 +65,15 @@ extern "C" {
     fn flowdir_insert(seat: *mut Handle, key: *const Key, value: u64, reply: *mut RawReply) -> u32;
     fn flowdir_remove(seat: *mut Handle, key: *const Key, reply: *mut RawReply) -> u32;
     fn flowdir_tally(seat: *mut Handle, key: *const Key, bytes: u64, reply: *mut RawReply) -> u32;
+    fn flowdir_count(seat: *mut Handle, key: *const Key, value: u64, bytes: u64, reply: *mut RawReply) -> u32;
+    fn flowdir_put(seat: *mut Handle, key: *const Key, value: u64, reply: *mut RawReply) -> u32;
     fn flowdir_lookup(seat: *mut Handle, key: *const Key, reply: *mut RawReply) -> u32;
     fn flowdir_rise(table: *mut Handle, seat: *mut Handle) -> u32;
     fn flowdir_read(table: *mut Handle, reader: *mut Handle) -> u32;
     fn flowdir_peek(reader: *mut Handle, key: *const Key, reply: *mut RawReply) -> u32;
     fn flowdir_leave(reader: *mut Handle);
     fn flowdir_close(table: *mut Handle) -> u32;
-    fn flowdir_count(table: *mut Handle, count: *mut usize) -> u32;
+    fn flowdir_list(table: *mut Handle, count: *mut usize) -> u32;
     fn flowdir_pair_at(table: *mut Handle, at: usize, pair: *mut Pair) -> u32;
     fn flowdir_reopen(options: *const Options, closed: *mut Handle, table: *mut Handle) -> u32;
     fn flowdir_free(table: *mut Handle);
@@ -225,7 +227,7 @@ impl Table {
             self.is_closed.store(true, Ordering::Relaxed);
         }
         let mut count = 0;
-        done(unsafe { flowdir_count(&mut *handle, &mut count) })?;
+        done(unsafe { flowdir_list(&mut *handle, &mut count) })?;
         let mut pairs = vec![Pair::default(); count];
         for (at, pair) in pairs.iter_mut().enumerate() {
             done(unsafe { flowdir_pair_at(&mut *handle, at, pair) })?;
@@ -261,6 +263,18 @@ impl Seat<'_> {
     pub fn tally(&mut self, key: &Key, bytes: u64) -> Result<Reply, Refused> {
         let mut reply = RawReply::default();
         told(unsafe { flowdir_tally(&mut self.handle, key, bytes, &mut reply) }, reply)
+    }
+
+    /// Adds bytes to the key's, or inserts the key with this value and these bytes.
+    pub fn count(&mut self, key: &Key, value: u64, bytes: u64) -> Result<Reply, Refused> {
+        let mut reply = RawReply::default();
+        told(unsafe { flowdir_count(&mut self.handle, key, value, bytes, &mut reply) }, reply)
+    }
+
+    /// Gives the key this value, whether it is there or not.
+    pub fn put(&mut self, key: &Key, value: u64) -> Result<Reply, Refused> {
+        let mut reply = RawReply::default();
+        told(unsafe { flowdir_put(&mut self.handle, key, value, &mut reply) }, reply)
     }
 
     pub fn lookup(&mut self, key: &Key) -> Result<Reply, Refused> {

@@ -30,7 +30,7 @@ static void end(struct flowdir_table *table, uint32_t seats) {
         need(flowdir_rise(table, &seat));
     }
     need(flowdir_close(table));
-    need(flowdir_count(table, &count));
+    need(flowdir_list(table, &count));
     if (count != FLOWS) abort();
 }
 

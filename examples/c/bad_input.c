@@ -120,8 +120,11 @@ static void calls(void) {
     expect("a second seat", flowdir_sit(&table, &other), FLOWDIR_BUSY);
     expect("no seat", other.at != NULL, 0);
     expect("a value of 2^61", flowdir_insert(&seat, &key, 1ull << 61, &reply), FLOWDIR_BAD);
+    expect("a count with a value of 2^61", flowdir_count(&seat, &key, 1ull << 61, 0, &reply), FLOWDIR_BAD);
+    expect("a count by 2^61", flowdir_count(&seat, &key, 0, 1ull << 61, &reply), FLOWDIR_BAD);
+    expect("a put of 2^61", flowdir_put(&seat, &key, 1ull << 61, &reply), FLOWDIR_BAD);
     expect("no reply", memcmp(&reply, &same, sizeof reply), 0);
-    expect("a count of a table that runs", flowdir_count(&table, &count), FLOWDIR_BAD);
+    expect("a list of a table that runs", flowdir_list(&table, &count), FLOWDIR_BAD);
     expect("a pair of a table that runs", flowdir_pair_at(&table, 0, &pair), FLOWDIR_BAD);
     expect("reopen a table that runs", flowdir_reopen(&options, &table, &next), FLOWDIR_BAD);
     expect("no count", count, 77);
@@ -131,6 +134,10 @@ static void calls(void) {
     int updates = 0;
     while (updates < 10 && flowdir_remove(&seat, updates ? &absent : &key, &reply) == FLOWDIR_OK) updates++;
     expect("updates by three op rows", updates, 3);
+    reply = same;
+    expect("no row for a count", flowdir_count(&seat, &key, 1, 1, &reply), FLOWDIR_FULL);
+    expect("no row for a put", flowdir_put(&seat, &key, 1, &reply), FLOWDIR_FULL);
+    expect("no reply", memcmp(&reply, &same, sizeof reply), 0);
     expect("lookups go on", flowdir_lookup(&seat, &key, &reply), FLOWDIR_OK);
     expect("absent", reply.kind, FLOWDIR_ABSENT);
     expect("peeks go on", flowdir_peek(&reader, &absent, &reply), FLOWDIR_OK);
@@ -146,13 +153,55 @@ static void calls(void) {
     expect("no reader", reader.at != NULL, 0);
     expect("reopen what is not listed", flowdir_reopen(&options, &table, &next), FLOWDIR_BAD);
     expect("no next table", next.at != NULL, 0);
-    expect("count", flowdir_count(&table, &count), FLOWDIR_OK);
+    expect("count", flowdir_list(&table, &count), FLOWDIR_OK);
     expect("no pair is left", count, 0);
     expect("no pair there", flowdir_pair_at(&table, 0, &pair), FLOWDIR_BAD);
     expect("the pair is as it was", pair.value, 8);
     expect("reopen", flowdir_reopen(&options, &table, &next), FLOWDIR_OK);
     flowdir_free(&table);
     flowdir_free(&next);
+}
+
+/* Counts and puts by two seats at one class of keys, which has room for two of them. */
+static void counts(void) {
+    static const struct { const char *what; uint64_t key, value, bytes, kind, told; } table[] = {
+        {"a count of an absent key", 1, 10, 100, FLOWDIR_NEW, 0},
+        {"a count of one that is there", 1, 11, 50, FLOWDIR_SUM, 150},
+        {"a put of one that is there", 1, 12, 0, FLOWDIR_OLD, 10},
+        {"a put of an absent key", 2, 20, 0, FLOWDIR_NEW, 0},
+        {"a count at a full class", 3, 30, 1, FLOWDIR_NOROOM, 0},
+        {"a put at a full class", 3, 30, 0, FLOWDIR_NOROOM, 0},
+        {"a count up to the limit", 1, 13, (1ull << 61) - 1, FLOWDIR_SUM, (1ull << 61) - 1},
+        {"a count beyond it", 1, 13, 7, FLOWDIR_SUM, (1ull << 61) - 1},
+        {"a count by a byte", 2, 21, 1, FLOWDIR_SUM, 1},
+    };
+    struct flowdir_options options = options_of(2, 2, 0, 0);
+    struct flowdir_table opened = {0};
+    struct flowdir_seat seats[2] = {{0}};
+    struct flowdir_pair pair;
+    size_t count = 0;
+    expect("open", flowdir_open(&options, NULL, 0, &opened), FLOWDIR_OK);
+    for (int i = 0; i < 2; i++) expect("sit", flowdir_sit(&opened, &seats[i]), FLOWDIR_OK);
+    for (size_t i = 0; i < sizeof table / sizeof *table; i++) {
+        struct flowdir_key key = key_of(table[i].key);
+        struct flowdir_reply reply = {99, 98, 97};
+        uint32_t status = table[i].bytes ? flowdir_count(&seats[i % 2], &key, table[i].value, table[i].bytes, &reply)
+                                         : flowdir_put(&seats[i % 2], &key, table[i].value, &reply);
+        expect(table[i].what, status, FLOWDIR_OK);
+        expect(table[i].what, reply.kind, table[i].kind);
+        expect(table[i].what, reply.value, table[i].told);
+        expect("no more steps than the bound", reply.steps <= flowdir_bound(&options), 1);
+    }
+    for (int i = 0; i < 2; i++) expect("rise", flowdir_rise(&opened, &seats[i]), FLOWDIR_OK);
+    expect("close", flowdir_close(&opened), FLOWDIR_OK);
+    expect("list", flowdir_list(&opened, &count), FLOWDIR_OK);
+    expect("two pairs", count, 2);
+    expect("the first", flowdir_pair_at(&opened, 0, &pair), FLOWDIR_OK);
+    expect("has the value of the put", pair.value, 12);
+    expect("and the greatest bytes", pair.bytes, (1ull << 61) - 1);
+    expect("the second", flowdir_pair_at(&opened, 1, &pair), FLOWDIR_OK);
+    expect("has its value and a byte", pair.value * 10 + pair.bytes, 201);
+    flowdir_free(&opened);
 }
 
 /* A table is closed whatever seats were never taken, and a call that is refused uses up none of a seat's calls. */
@@ -174,7 +223,7 @@ static void untaken(void) {
         }
         for (int i = 0; i < taken; i++) expect("rise", flowdir_rise(&table, &seats[i]), FLOWDIR_OK);
         expect("close", flowdir_close(&table), FLOWDIR_OK);
-        expect("list", flowdir_count(&table, &count), FLOWDIR_OK);
+        expect("list", flowdir_list(&table, &count), FLOWDIR_OK);
         expect("pairs", count, taken ? 3 : 2);
         expect("the second pair", flowdir_pair_at(&table, 1, &pair), FLOWDIR_OK);
         expect("is the first one", pair.key.k0 * 1000 + pair.value * 10 + pair.bytes, 2207);
@@ -212,7 +261,7 @@ static void interval(void) {
     flowdir_rise(&table, &one);
     expect("close", flowdir_close(&table), FLOWDIR_OK);
     size_t count = 0;
-    expect("count", flowdir_count(&table, &count), FLOWDIR_OK);
+    expect("count", flowdir_list(&table, &count), FLOWDIR_OK);
     expect("four pairs", count, 4);
     struct flowdir_pair counted;
     expect("the third pair", flowdir_pair_at(&table, 2, &counted), FLOWDIR_OK);
@@ -239,6 +288,7 @@ int main(void) {
     memory();
     first_pairs();
     calls();
+    counts();
     untaken();
     interval();
     printf("%s\n", failures ? "WRONG" : "each status is as the header says");

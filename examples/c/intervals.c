@@ -35,24 +35,21 @@ static struct flowdir_key key_of(uint64_t flow) {
     return key;
 }
 
-/* A packet of a flow: the first begins it, one in sixteen ends it, the others add their bytes. Whether the reply is as
- * it should be. */
+/* A packet of a flow: one in sixteen of a flow that is held ends it, and each other one is counted, by one call that
+ * begins the flow or adds to its bytes. Whether the reply is as it should be. */
 static int count_packet(struct worker *me, uint64_t number, uint64_t drawn) {
     struct flow *flow = &me->flows[number];
     struct flowdir_key key = key_of(number);
     struct flowdir_reply reply;
-    if (!flow->is_held) {
-        *flow = (struct flow){1, 0};
-        return flowdir_insert(&me->seat, &key, number * 7, &reply) == FLOWDIR_OK && reply.kind == FLOWDIR_NEW;
-    }
-    if (drawn % 16 == 0) {
+    if (flow->is_held && drawn % 16 == 0) {
         flow->is_held = 0;
         return flowdir_remove(&me->seat, &key, &reply) == FLOWDIR_OK && reply.kind == FLOWDIR_GONE
             && reply.value == number * 7;
     }
-    flow->bytes += drawn % 1500;
-    return flowdir_tally(&me->seat, &key, drawn % 1500, &reply) == FLOWDIR_OK && reply.kind == FLOWDIR_SUM
-        && reply.value == flow->bytes;
+    int was_held = flow->is_held;
+    *flow = (struct flow){1, (was_held ? flow->bytes : 0) + drawn % 1500};
+    return flowdir_count(&me->seat, &key, number * 7, drawn % 1500, &reply) == FLOWDIR_OK
+        && (was_held ? reply.kind == FLOWDIR_SUM && reply.value == flow->bytes : reply.kind == FLOWDIR_NEW);
 }
 
 static void *count_packets(void *of) {
@@ -81,7 +78,7 @@ static int count_interval(struct flowdir_table *table, struct worker *workers, u
 /* Tells the pairs of a closed table, in the order of their keys. Whether they are those that were counted. */
 static int export_pairs(struct flowdir_table *closed, const struct flow *flows, uint64_t *bytes) {
     size_t count = 0, at = 0;
-    if (flowdir_count(closed, &count) != FLOWDIR_OK) return 0;
+    if (flowdir_list(closed, &count) != FLOWDIR_OK) return 0;
     *bytes = 0;
     for (uint64_t flow = 0; flow < FLOWS; flow++) {
         struct flowdir_pair pair;

@@ -21,10 +21,12 @@ int main() {
         for (int i = 0; i < 1000; i++) wrong |= reader.find({1, 2, 3, 4, 5}) != 6u;
         for (auto &thread : threads) thread.join();
         for (auto &seat : seats) seat.tally({1, 2, 3, 4, 5}, 1500);
+        wrong |= seats[0].count({1, 2, 3, 4, 5}, 9, 40)->value != 6040u || seats[1].put({1, 2, 3, 4, 5}, 8)->value != 6u;
+        wrong |= seats[2].count({9, 5, 0, 0, 0}, 9, 40)->kind != FLOWDIR_NEW || reader.find({1, 2, 3, 4, 5}) != 8u;
         wrong |= seats[0].find({9, 3, 99, 0, 0}) != 99u || reader.find({9, 4, 0, 0, 0}).has_value();
     }
     const auto left = table.close();
-    wrong |= left.size() != 401 || left[0].bytes != 6000;
+    wrong |= left.size() != 402 || left[0].bytes != 6040 || left[401].value != 9 || left[401].bytes != 40;
     table.reopen(options);
     wrong |= table.read().find({9, 0, 7, 0, 0}) != 7u || table.sit().find({9, 3, 99, 0, 0}) != 99u;
     try {

@@ -20,6 +20,9 @@ fn main() -> Result<(), Refused> {
                     assert_eq!(seat.insert(&Key([9, i, n, 0, 0]), n), Ok(Reply::New));
                 }
                 assert!(matches!(seat.tally(&first.key, 1500), Ok(Reply::Sum(_))));
+                assert_eq!(seat.count(&Key([9, i, 100, 0, 0]), 7, 40), Ok(Reply::New));
+                assert_eq!(seat.count(&Key([9, i, 100, 0, 0]), 8, 2), Ok(Reply::Sum(42)));
+                assert_eq!(seat.put(&Key([9, i, 100, 0, 0]), i), Ok(Reply::Old(7)));
             });
         }
         let mut reader = table.read()?;
@@ -29,7 +32,8 @@ fn main() -> Result<(), Refused> {
         Ok::<(), Refused>(())
     })?;
     let (left, table) = table.reopen(&options).map_err(|(refused, _)| refused)?;
-    assert_eq!((left.len(), left[0].bytes), (401, 6000));
+    assert_eq!((left.len(), left[0].bytes), (405, 6000));
+    assert_eq!((left[404].key, left[404].value, left[404].bytes), (Key([9, 3, 100, 0, 0]), 3, 42));
     assert_eq!(table.read()?.peek(&Key([9, 3, 99, 0, 0])), Some(99));
     table.sit()?.lookup(&first.key)?;
     // three of its seats were never taken

@@ -5,7 +5,7 @@ use Rattle.std.specs.FinMap.{empty, get-empty}
 use Rattle.std.proofs.lemmas.Bool.{eq-eqb}
 use Rattle.std.proofs.lemmas.List.Sums.{length-filter}
 use Rattle.plain_map.specs.declared.calls.Call.{Call}
-use Rattle.plain_map.specs.declared.calls.Call.TheVariants.{Insert, Remove, Lookup, Tally}
+use Rattle.plain_map.specs.declared.calls.Call.TheVariants.{Insert, Remove, Lookup, Tally, Count, Put}
 use Rattle.plain_map.specs.declared.keys.Key.{Key}
 use Rattle.plain_map.specs.Keys.{key_cmp}
 use Rattle.plain_map.specs.PlainObject.{class_of}
@@ -28,6 +28,8 @@ inserts_key key (Insert other value) is = inl (sym is)
 inserts_key key (Remove other) is = elim is [ ]
 inserts_key key (Lookup other) is = elim is [ ]
 inserts_key key (Tally other amount) is = elim is [ ]
+inserts_key key (Count other value amount) is = inl (sym is)
+inserts_key key (Put other value) is = inl (sym is)
 
 -- what records insert is inserted by the calls
 inserted_there : (outcomes : List Outcome) (key : Key) → SomeInserts key (records_in outcomes) →

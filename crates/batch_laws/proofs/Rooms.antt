@@ -11,7 +11,7 @@ use Rattle.std.proofs.Math.Seq.{take-append_seam}
 use Rattle.step_counts.specs.StepCounts.{need_of}
 use Rattle.step_counts.specs.declared.rows.SeatRows.{SeatRows}
 use Rattle.plain_map.specs.declared.calls.Call.{Call}
-use Rattle.plain_map.specs.declared.calls.Call.TheVariants.{Insert, Remove, Lookup, Tally}
+use Rattle.plain_map.specs.declared.calls.Call.TheVariants.{Insert, Remove, Lookup, Tally, Count, Put}
 use Rattle.plain_map.specs.declared.keys.Key.{Key}
 use Rattle.plain_map.specs.declared.records.Record.{Record}
 use Rattle.plain_map.specs.Room.{left_of, published, refusal}
@@ -50,6 +50,8 @@ not_refused left need (Insert key value) h = h refl
 not_refused left need (Remove key) h = h refl
 not_refused left need (Lookup key) h = refl
 not_refused left need (Tally key amount) h = h refl
+not_refused left need (Count key value amount) h = h refl
+not_refused left need (Put key value) h = h refl
 
 module _ (setup : Setup) (events : List Event) (calls : List (ℕ × Call)) (shares : List (List (ℕ × Call)))
     (logs : List (List Outcome)) (once : IsPermutation (flat_map (λ share. share) shares) calls)

@@ -9,13 +9,13 @@ use Rattle.std.proofs.lemmas.List.{map-append}
 use Rattle.std.proofs.lemmas.List.Sums.{length-filter, sum_by-append, sum_by-cons}
 use Rattle.std.proofs.lemmas.Map.Keys.{IsDistinct-cons}
 use Rattle.plain_map.specs.declared.calls.Call.{Call}
-use Rattle.plain_map.specs.declared.calls.Call.TheVariants.{Insert, Remove, Lookup, Tally}
+use Rattle.plain_map.specs.declared.calls.Call.TheVariants.{Insert, Remove, Lookup, Tally, Count, Put}
 use Rattle.plain_map.specs.declared.keys.Key.{Key}
 use Rattle.plain_map.specs.declared.keys.Pair.{Pair}
 use Rattle.plain_map.specs.declared.rules.Rules.{Rules}
 use Rattle.plain_map.specs.History.{Placed, answered, pending, call_in, Legal, sessions_after}
 use Rattle.plain_map.specs.Keys.{Session, hash_of_key, held_in, key_cmp}
-use Rattle.plain_map.specs.PlainObject.{Sessions, brought, class_of, class_size, grown, has_room, insert_reply, inserted, map_after, new_session, pairs_of, reply_of, tallied}
+use Rattle.plain_map.specs.PlainObject.{Sessions, brought, class_of, class_size, count_reply, counted_session, grown, has_room, insert_reply, inserted, map_after, new_session, pairs_of, reply_of, revalued, revised, tallied}
 use Rattle.bucket_states.specs.Items.{prefix_of, same_key}
 use Rattle.bucket_states.specs.Parts.{keys_of, HasDistinctKeys}
 use Rattle.bucket_states.proofs.KeyTests.{Decides-same_key}
@@ -140,14 +140,19 @@ module _ (rules : Rules) (start : ℕ) (keys : List Key) (within : start ≤ rul
           (omega (arith, low, mates_below key (pairs_of m))))
     ]
 
-    -- so a session that comes to a key leaves the same
-    brought_alike : (key : Key) (new : Session) → has keys key ≡ true → brought less m key new ≡ brought rules m key new
-    brought_alike key new own = go (get m key) refl
+    -- so what hangs on the room of a new key alone is the same
+    by_room_alike : {A : Type 0} (f : Option Session → Bool → A) →
+        ((held : Session) (a b : Bool) → f (Some held) a ≡ f (Some held) b) → (key : Key) → has keys key ≡ true →
+        f (get m key) (has_room less m key) ≡ f (get m key) (has_room rules m key)
+    by_room_alike f alike key own = go (get m key) refl
       where
-        go : (o : Option Session) → get m key ≡ o →
-            inserted m key new o (has_room less m key) ≡ inserted m key new o (has_room rules m key)
-        go (Some held) is = refl
-        go None is = ap (inserted m key new None) (room_alike key own is)
+        go : (o : Option Session) → get m key ≡ o → f o (has_room less m key) ≡ f o (has_room rules m key)
+        go (Some held) is = alike held (has_room less m key) (has_room rules m key)
+        go None is = ap (f None) (room_alike key own is)
+
+    -- a session that comes to a key leaves the same
+    brought_alike : (key : Key) (new : Session) → has keys key ≡ true → brought less m key new ≡ brought rules m key new
+    brought_alike key new own = by_room_alike (inserted m key new) (λ held a b. refl) key own
 
     -- and so does a call
     map_alike : (call : Call) → All (IsAmongKeys keys) (inserted_by call) →
@@ -157,20 +162,24 @@ module _ (rules : Rules) (start : ℕ) (keys : List Key) (within : start ≤ rul
     map_alike (Remove key) own = refl
     map_alike (Lookup key) own = refl
     map_alike (Tally key amount) own = refl
+    map_alike (Count key value amount) own =
+        by_room_alike (revised m key (counted_session value amount) (λ held. grown held amount)) (λ held a b. refl) key
+        (own 0 key (omega arith))
+    map_alike (Put key value) own =
+        by_room_alike (revised m key (new_session value) (λ held. revalued held value)) (λ held a b. refl) key
+        (own 0 key (omega arith))
 
     -- which has the same reply
     reply_alike : (call : Call) → All (IsAmongKeys keys) (inserted_by call) →
         reply_of less m call ≡ reply_of rules m call
     unfolding reply_of
-    reply_alike (Insert key value) own = go (get m key) refl
-      where
-        go : (o : Option Session) → get m key ≡ o →
-            insert_reply o (has_room less m key) ≡ insert_reply o (has_room rules m key)
-        go (Some held) is = refl
-        go None is = ap (insert_reply None) (room_alike key (own 0 key (omega arith)) is)
+    reply_alike (Insert key value) own = by_room_alike insert_reply (λ held a b. refl) key (own 0 key (omega arith))
     reply_alike (Remove key) own = refl
     reply_alike (Lookup key) own = refl
     reply_alike (Tally key amount) own = refl
+    reply_alike (Count key value amount) own =
+        by_room_alike (count_reply amount) (λ held a b. refl) key (own 0 key (omega arith))
+    reply_alike (Put key value) own = by_room_alike insert_reply (λ held a b. refl) key (own 0 key (omega arith))
 
     -- where one of the keys gets a session, what is held then is among the keys
     set_among : (key : Key) (new : Session) → has keys key ≡ true → AreAmong keys (insert m key new)
@@ -191,6 +200,16 @@ module _ (rules : Rules) (start : ℕ) (keys : List Key) (within : start ≤ rul
         go None true = set_among key new own
         go None false = among
 
+    -- and where a call changes the session of a key that is held, and brings one to another key
+    revised_among : (key : Key) (new : Session) (change : Session → Session) → has keys key ≡ true →
+        AreAmong keys (revised m key new change (get m key) (has_room rules m key))
+    revised_among key new change own = go (get m key) (has_room rules m key)
+      where
+        go : (o : Option Session) (room : Bool) → AreAmong keys (revised m key new change o room)
+        go (Some held) room = set_among key (change held) own
+        go None true = set_among key new own
+        go None false = among
+
     -- and after a call
     among_after : (call : Call) → All (IsAmongKeys keys) (inserted_by call) → AreAmong keys (map_after rules m call)
     unfolding map_after
@@ -202,6 +221,10 @@ module _ (rules : Rules) (start : ℕ) (keys : List Key) (within : start ≤ rul
         by q true some = cc
         by q false some = among q some
     among_after (Lookup key) own = among
+    among_after (Count key value amount) own =
+        revised_among key (counted_session value amount) (λ held. grown held amount) (own 0 key (omega arith))
+    among_after (Put key value) own =
+        revised_among key (new_session value) (λ held. revalued held value) (own 0 key (omega arith))
     among_after (Tally key amount) own = go (get m key) refl
       where
         go : (o : Option Session) → get m key ≡ o → AreAmong keys (tallied m key amount o)

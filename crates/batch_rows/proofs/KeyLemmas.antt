@@ -11,7 +11,6 @@ use Rattle.std.proofs.lemmas.List.Kept.{Contains-dedup, Contains-from_dedup}
 use Rattle.std.proofs.lemmas.List.Sorted.{list_any-IsPermutation}
 use Rattle.std.proofs.lemmas.Map.Views.{Contains-from_any, list_any-from_Contains}
 use Rattle.plain_map.specs.declared.calls.Call.{Call}
-use Rattle.plain_map.specs.declared.calls.Call.TheVariants.{Insert, Lookup, Remove, Tally}
 use Rattle.plain_map.specs.declared.keys.Key.{Key}
 use Rattle.plain_map.specs.declared.rules.Rules.{Rules}
 use Rattle.bucket_states.specs.Items.{prefix_of, same_key}
@@ -134,13 +133,6 @@ pub same_lists : (keys grown others more : List Key) → grown ≡ keys → more
     HaveSameKeys grown more
 same_lists keys grown others more grown_is more_is same q =
     ap (λ (l : List Key). has l q) grown_is ∙ same q ∙ sym (ap (λ (l : List Key). has l q) more_is)
-
--- a call that inserts nothing brings no key
-pub none_inserted : (call : Call) → ((key : Key) (value : ℕ) → ¬ (call ≡ Insert key value)) → inserted_by call ≡ []
-none_inserted (Insert key value) other = absurd (other key value refl)
-none_inserted (Remove key) other = refl
-none_inserted (Lookup key) other = refl
-none_inserted (Tally key amount) other = refl
 
 -- ---- the keys of two lists
 

@@ -1,6 +1,8 @@
 //! Tells what a batch asks of its table, from its calls.
 
-ghost use Rattle.std.specs.Prelude.{◌≡◌, ◌<◌, All, IfOk, map, vec_len};
+ghost use Rattle.std.specs.Prelude.{◌≡◌, ◌<◌, ◌∷◌, [], All, IfOk, map, vec_len};
+ghost use Rattle.std.specs.Option.{option_map_or};
+ghost use Rattle.table_model.specs.Needs.{inserted_by};
 ghost use Rattle.batch_rows.specs.BatchRows.{inserted_in_calls, updates_in_calls};
 ghost use Rattle.batch_rows.specs.Counts.{AreInOrder, HaveSameKeys};
 ghost use Rattle.batch_rows.specs.Demands.{IsDemandOf};
@@ -34,8 +36,19 @@ pub fn demand_of(
     Ok(Demand { inserted, updates })
 }
 
-// The keys of the inserts among these calls, in order and each once. Most that stand there again are left out before
-// the sort: those of which the last key that has their hint is the same.
+// The key that the call may insert.
+#[inline(always)]
+fn inserted_by(call: &Call) -> Option<Key>
+    ensures { inserted_by call.now ≡ option_map_or (λ key. key ∷ []) result [] }
+{
+    match call {
+        Call::Insert(key, _) | Call::Count(key, _, _) | Call::Put(key, _) => Some(*key),
+        Call::Remove(_) | Call::Lookup(_) | Call::Tally(_, _) => None,
+    }
+}
+
+// The keys that these calls may insert, in order and each once. Most that stand there again are left out before the
+// sort: those of which the last key that has their hint is the same.
 fn inserted_keys(alloc: Global, calls: &[(u32, Call)]) -> Result<Vec<Key>, AllocError>
     ensures same { IfOk result (λ inserted. HaveSameKeys inserted.items (inserted_in_calls calls.now)) }
     ensures in_order { IfOk result (λ inserted. AreInOrder inserted.items) }
@@ -43,11 +56,14 @@ fn inserted_keys(alloc: Global, calls: &[(u32, Call)]) -> Result<Vec<Key>, Alloc
     let mut hints = vec![in alloc; 0u32; HINTS]?;
     let mut inserted = Vec::with_capacity(alloc, FIRST_ROOM)?;
     for asked in calls {
-        if let Call::Insert(key, _) = asked.1 {
-            if !is_hinted(&inserted, &hints, &key) {
-                hints[hint_place(&key)] = u32::try_from(inserted.len()).unwrap_or(0);
-                inserted.push(key)?;
+        match inserted_by(&asked.1) {
+            Some(key) => {
+                if !is_hinted(&inserted, &hints, &key) {
+                    hints[hint_place(&key)] = u32::try_from(inserted.len()).unwrap_or(0);
+                    inserted.push(key)?;
+                }
             }
+            None => {}
         }
     }
     keep_once(&mut inserted);

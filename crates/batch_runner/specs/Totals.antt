@@ -4,7 +4,7 @@ use Rattle.std.specs.Prelude.{◌≡◌, ℕ, ◌+◌, ◌-◌, ◌^◌, ◌<◌
 use Rattle.plain_map.specs.declared.calls.Reply.{Reply}
 use Rattle.plain_map.specs.declared.calls.Reply.TheVariants.{New, Old, NoRoom, Gone, Found, Absent, Sum}
 use Rattle.plain_map.specs.declared.calls.Call.{Call}
-use Rattle.plain_map.specs.declared.calls.Call.TheVariants.{Insert, Remove, Lookup, Tally}
+use Rattle.plain_map.specs.declared.calls.Call.TheVariants.{Insert, Remove, Lookup, Tally, Count, Put}
 use Rattle.trace_share.specs.declared.outcome.Outcome.{Outcome}
 use Rattle.trace_share.specs.declared.outcome.Outcome.TheVariants.{Answered, Refused}
 use Rattle.batch_runner.specs.declared.totals.Replies.{Replies}
@@ -99,6 +99,8 @@ with_steps (Lookup key) steps totals = record totals { lookup = max totals.looku
 with_steps (Insert key value) steps totals = record totals { update = max totals.update steps }
 with_steps (Remove key) steps totals = record totals { update = max totals.update steps }
 with_steps (Tally key amount) steps totals = record totals { update = max totals.update steps }
+with_steps (Count key value amount) steps totals = record totals { update = max totals.update steps }
+with_steps (Put key value) steps totals = record totals { update = max totals.update steps }
 
 -- one call more
 abbrev pub with_outcome : Outcome → Totals → Totals

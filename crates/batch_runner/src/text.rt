@@ -3,7 +3,7 @@
 ghost use Rattle.std.specs.Prelude.{◌≡◌, ℕ, ◌≤◌, [], ◌++◌, All, IfOk, List, OnErr, OnOk, flat_map, map};
 ghost use Rattle.plain_map.specs.Calls.{key_in};
 ghost use Rattle.plain_map.specs.History.{ids_of};
-ghost use Rattle.flow_keys.specs.FlowText.{HasText};
+ghost use Rattle.key_texts.specs.FlowText.{HasText};
 ghost use Rattle.table_model.specs.Order.{order_of};
 ghost use Rattle.table_model.specs.Closing.{IsOfARun, closing_with};
 ghost use Rattle.trace_share.specs.Outcomes.{records_in};

@@ -96,7 +96,11 @@ impl Totals {
                 self.replies.put(made.reply);
                 let (update, lookup) = match made.call {
                     Call::Lookup(_) => (0, made.steps),
-                    Call::Insert(_, _) | Call::Remove(_) | Call::Tally(_, _) => (made.steps, 0),
+                    Call::Insert(_, _)
+                    | Call::Remove(_)
+                    | Call::Tally(_, _)
+                    | Call::Count(_, _, _)
+                    | Call::Put(_, _) => (made.steps, 0),
                 };
                 self.update = self.update.max(update);
                 self.lookup = self.lookup.max(lookup);

@@ -31,7 +31,7 @@ use Rattle.bound_laws.proofs.KeyCounts.{has, each_has}
 use Rattle.bound_laws.proofs.Stages.{Kind, Sees, Roots, Finds, Looks, Ends, Stops, kind}
 use Rattle.bound_laws.proofs.Spending.{updating, ops_of, dirs_of, Spent, SpentStand}
 use Rattle.bound_laws.proofs.Gains.{Gain, GainsStand}
-use Rattle.bound_laws.proofs.Given.{CallOf, Known, known_all, has_left, has_right}
+use Rattle.bound_laws.proofs.Given.{CallOf, Known, known_all, has_left, has_right, given_brought}
 use Rattle.bound_laws.proofs.Crowding.{Came}
 use Rattle.bound_laws.proofs.Crowded.{all_keys}
 use Rattle.list_laws.proofs.Pigeons.{flag, passing, pigeons, all_of}
@@ -85,8 +85,8 @@ module _ (setup : Setup) (events : List Event) (a : Calling setup (world_after s
   came_given key (inr x) =
       let given = (a.holds.1 x.seat x.there).given x.at
       (omega (arith, x.old, ap (λ (u : SeatRows). u.op_rows) (used_same x.seat x.there))) in
-      inr (known_now setup events x.seat (Insert key x.value)
-      (subst (CallOf (state x.seat).account (state x.seat).stand) x.call_is given))
+      inr (given_brought (inserted_in events) x.call key (known_now setup events x.seat x.call
+      (subst (CallOf (state x.seat).account (state x.seat).stand) x.call_is given)) x.brings)
 
   module _ (inserted : List Key) (sub : (key : Key) → has (inserted_in events) key ≡ true → has inserted key ≡ true)
     where

@@ -12,7 +12,7 @@ use Rattle.plain_map.specs.declared.keys.Key.{Key}
 use Rattle.plain_map.specs.declared.keys.Pair.{Pair}
 use Rattle.plain_map.specs.declared.rules.Rules.{Rules}
 use Rattle.plain_map.specs.declared.calls.Call.{Call}
-use Rattle.plain_map.specs.declared.calls.Call.TheVariants.{Insert, Remove, Lookup, Tally}
+use Rattle.plain_map.specs.declared.calls.Call.TheVariants.{Insert, Remove, Lookup, Tally, Count, Put}
 use Rattle.word_rows.specs.Memory.{put, put_at}
 use Rattle.word_rows.proofs.MemoryLemmas.{put_same, put_other, put_at_same}
 use Rattle.bucket_states.specs.declared.ops.Op.{Op}
@@ -35,7 +35,7 @@ use Rattle.table_model.specs.DirectoryChange.{LoadedBucket, loaded_of, is_bucket
 use Rattle.table_model.specs.Phases.{BucketTry, DirectoryTry, Phase, FindRoot, TryWord, TryExchange, DirRoot, DirExchange}
 use Rattle.table_model.specs.SeatStates.{Account, Flight}
 use Rattle.table_model.specs.Stores.{made_bucket, made_leaves}
-use Rattle.table_model.specs.Needs.{distinct_keys}
+use Rattle.table_model.specs.Needs.{distinct_keys, inserted_by}
 use Rattle.change_laws.proofs.Bits.{hash_in, prefix_of-hash}
 use Rattle.hash_bits.proofs.FewerBits.{first_bits-fewer}
 use Rattle.list_laws.proofs.Totals.{each-alike}
@@ -56,16 +56,17 @@ use Rattle.bound_laws.proofs.SplitCrowds.{FromCrowd, leaves_crowded}
 use Rattle.list_laws.proofs.Options.{some_same, none_some}
 use Rattle.list_laws.proofs.Truths.{not_both}
 
--- an insert of the key was announced
+-- a call that can bring the key was announced
 pub record Announced (setup : Setup) (c : Common) (key : Key) : Type 0 where
   pub seat : ℕ
   pub there : seat < seats_of setup
   pub at : ℕ
   pub old : at < (c.used seat).op_rows
-  pub value : ℕ
-  pub call_is : (c.op_at seat at).call ≡ Insert key value
+  pub call : Call
+  pub call_is : (c.op_at seat at).call ≡ call
+  pub brings : inserted_by call ≡ key ∷ []
 
--- the key is a first one, or that of an announced insert
+-- the key is a first one, or that of an announced call that can bring it
 abbrev pub Came : Setup → Common → Key → Type 0
 Came setup c key = (has (keys_of setup.first) key ≡ true) ⊎ Announced setup c key
 
@@ -95,8 +96,9 @@ came_moves setup me c d z key (inr a) = inr (record {
   there = a.there;
   at = a.at;
   old = omega (arith, a.old, z.moves.ops_up a.seat);
-  value = a.value;
+  call = a.call;
   call_is = ap (λ (o : Op). o.call) (z.moves.calls a.seat a.at a.old).0 ∙ a.call_is;
+  brings = a.brings;
 })
 
 -- the keys of items, and a crowd
@@ -175,14 +177,18 @@ module _ (setup : Setup) (me : ℕ) (c d : Common) (z : Step setup me c d) (w : 
 
 -- ---- what was found and loaded
 
--- an op that was announced comes from announced inserts
+-- the key of an op that was announced and can bring it came
 op_came : (setup : Setup) (c : Common) (p j : ℕ) (call : Call) → p < seats_of setup → j < (c.used p).op_rows →
     (c.op_at p j).call ≡ call → CallIn (Came setup c) call
 op_came setup c p j (Insert key value) h lt e =
-    inr (record { seat = p; there = h; at = j; old = lt; value = value; call_is = e })
+    inr (record { seat = p; there = h; at = j; old = lt; call = Insert key value; call_is = e; brings = refl })
 op_came setup c p j (Remove key) h lt e = tt
 op_came setup c p j (Lookup key) h lt e = tt
 op_came setup c p j (Tally key amount) h lt e = tt
+op_came setup c p j (Count key value amount) h lt e =
+    inr (record { seat = p; there = h; at = j; old = lt; call = Count key value amount; call_is = e; brings = refl })
+op_came setup c p j (Put key value) h lt e =
+    inr (record { seat = p; there = h; at = j; old = lt; call = Put key value; call_is = e; brings = refl })
 
 -- and so does an op that a try found
 found_came : (setup : Setup) (c : Common) (p : ℕ) (o : Option Op) → p < seats_of setup → (o ≡ None)

@@ -8,12 +8,12 @@ use Rattle.plain_map.specs.declared.keys.Key.{Key}
 use Rattle.plain_map.specs.declared.keys.Pair.{Pair}
 use Rattle.plain_map.specs.declared.rules.Rules.{Rules}
 use Rattle.plain_map.specs.declared.calls.Call.{Call}
-use Rattle.plain_map.specs.declared.calls.Call.TheVariants.{Insert, Remove, Lookup, Tally}
+use Rattle.plain_map.specs.declared.calls.Call.TheVariants.{Insert, Remove, Lookup, Tally, Count, Put}
 use Rattle.plain_map.specs.Calls.{key_in}
 use Rattle.plain_map.specs.Keys.{Session, pair_of}
-use Rattle.plain_map.specs.PlainObject.{InRange, new_session}
+use Rattle.plain_map.specs.PlainObject.{InRange, new_session, counted_session, grown, revalued}
 use Rattle.bucket_states.specs.declared.ops.Op.{Op}
-use Rattle.bucket_states.specs.Items.{prefix_of, same_key, value_at, has_place, overflows, items_after, appended, tallied_in, with_more, without}
+use Rattle.bucket_states.specs.Items.{prefix_of, same_key, value_at, has_place, overflows, items_after, is_too_many, appended, changed_in, revised_in, with_change, without}
 use Rattle.bucket_states.specs.Parts.{keys_of, HasDistinctKeys, HasPrefix}
 use Rattle.bucket_states.specs.States.{BucketState}
 use Rattle.bucket_states.specs.Change.{change, after_seats, after_op, frozen, answered}
@@ -63,7 +63,7 @@ crowd_fewer C rules depth few prefix less most x = record {
       )) x.keys x.each;
 }
 
--- the keys of these items are of the kind, and so is that of the call if it is an insert
+-- the keys of these items are of the kind, and so is that of the call if it can bring it
 abbrev pub KeysIn : (Key → Type 0) → List Pair → Type 0
 KeysIn C items = Each (λ (pair : Pair). C pair.key) items
 
@@ -72,6 +72,8 @@ CallIn C (Insert key value) = C key
 CallIn C (Remove key) = Unit {0}
 CallIn C (Lookup key) = Unit {0}
 CallIn C (Tally key amount) = Unit {0}
+CallIn C (Count key value amount) = C key
+CallIn C (Put key value) = C key
 
 -- ---- items
 
@@ -83,15 +85,23 @@ keys_without C key (pair ∷ items) k = go (same_key pair.key key) (keys_without
     go true rest = k.1
     go false rest = (k.0, rest)
 
-keys_tallied : (C : Key → Type 0) (key : Key) (amount : ℕ) (items : List Pair) → KeysIn C items →
-    KeysIn C (tallied_in key amount items)
-keys_tallied C key amount [] k = tt
-keys_tallied C key amount (pair ∷ items) k = go (same_key pair.key key) (keys_tallied C key amount items k.1)
+keys_changed : (C : Key → Type 0) (key : Key) (change : Session → Session) (items : List Pair) → KeysIn C items →
+    KeysIn C (changed_in key change items)
+keys_changed C key change [] k = tt
+keys_changed C key change (pair ∷ items) k = go (same_key pair.key key) (keys_changed C key change items k.1)
   where
-    go : (b : Bool) → KeysIn C (tallied_in key amount items) →
-        KeysIn C (cond b (with_more pair amount ∷ items) (pair ∷ tallied_in key amount items))
+    go : (b : Bool) → KeysIn C (changed_in key change items) →
+        KeysIn C (cond b (with_change change pair ∷ items) (pair ∷ changed_in key change items))
     go true rest = (k.0, k.1)
     go false rest = (k.0, rest)
+
+-- a call that brings the key or changes what it has
+keys_revised : (C : Key → Type 0) (key : Key) (new : Session) (change : Session → Session) (items : List Pair)
+    (held : Option Session) (place : Bool) → C key → KeysIn C items →
+    KeysIn C (revised_in items key new change held place)
+keys_revised C key new change items (Some held) place c k = keys_changed C key change items k
+keys_revised C key new change items None true c k = each-append (λ (pair : Pair). C pair.key) items _ k (c, tt)
+keys_revised C key new change items None false c k = k
 
 -- after a call
 pub keys_after : (C : Key → Type 0) (rules : Rules) (items : List Pair) (call : Call) → CallIn C call → KeysIn C items →
@@ -105,7 +115,13 @@ keys_after C rules items (Insert key value) c k = go (value_at key items) (has_p
     go None false = k
 keys_after C rules items (Remove key) c k = keys_without C key items k
 keys_after C rules items (Lookup key) c k = k
-keys_after C rules items (Tally key amount) c k = keys_tallied C key amount items k
+keys_after C rules items (Tally key amount) c k = keys_changed C key (λ held. grown held amount) items k
+keys_after C rules items (Count key value amount) c k =
+    keys_revised C key (counted_session value amount) (λ held. grown held amount) items (value_at key items)
+    (has_place rules items) c k
+keys_after C rules items (Put key value) c k =
+    keys_revised C key (new_session value) (λ held. revalued held value) items (value_at key items)
+    (has_place rules items) c k
 
 each_prefix : (rules : Rules) (prefix depth : ℕ) (all items : List Pair) → HasPrefix rules prefix depth all →
     ((key : Key) → list_any (same_key key) (keys_of items) ≡ true → list_any (same_key key) (keys_of all) ≡ true) →
@@ -125,16 +141,16 @@ each_key : (P : Key → Type 0) (items : List Pair) → Each (λ (pair : Pair). 
 each_key P [] e = tt
 each_key P (pair ∷ items) e = (e.0, each_key P items e.1)
 
--- a call that overflows a bucket brings one key more than there is room for
-pub overflow_crowd : (C : Key → Type 0) (rules : Rules) (depth prefix : ℕ) (items : List Pair) (call : Call) →
+-- a key that is too many for a bucket is one more than there is room for
+too_many_crowd : (C : Key → Type 0) (rules : Rules) (depth prefix : ℕ) (items : List Pair) (key : Key) →
     HasDistinctKeys items → HasPrefix rules prefix depth items → KeysIn C items →
-    CallIn C call → prefix_of rules depth (key_in call) ≡ prefix → overflows rules depth items call ≡ true →
+    C key → prefix_of rules depth key ≡ prefix → is_too_many rules depth items key ≡ true →
     Crowd C rules depth prefix
 unfolding overflows
-overflow_crowd C rules depth prefix items (Insert key value) distinct inside keys c for_it over =
-    let pair : Pair = pair_of (key, new_session value) in
+too_many_crowd C rules depth prefix items key distinct inside keys c for_it over =
+    let pair : Pair = pair_of (key, new_session 0) in
     let absent : value_at key items ≡ None = none (value_at key items) (and_parts _ _ over).0 in
-    let many = (overflow_parts rules depth items (Insert key value) over).0 in
+    let many = (overflow_parts rules depth items (Insert key 0) over).0 in
     record {
       keys = keys_of (items ++ pair ∷ []);
       distinct = HasDistinctKeys-push items pair distinct absent;
@@ -149,9 +165,22 @@ overflow_crowd C rules depth prefix items (Insert key value) distinct inside key
     none : (o : Option Session) → not (is_some o) ≡ true → o ≡ None
     none (Some x) e = cc
     none None e = refl
+
+-- a call that overflows a bucket brings such a key
+pub overflow_crowd : (C : Key → Type 0) (rules : Rules) (depth prefix : ℕ) (items : List Pair) (call : Call) →
+    HasDistinctKeys items → HasPrefix rules prefix depth items → KeysIn C items →
+    CallIn C call → prefix_of rules depth (key_in call) ≡ prefix → overflows rules depth items call ≡ true →
+    Crowd C rules depth prefix
+unfolding overflows
+overflow_crowd C rules depth prefix items (Insert key value) distinct inside keys c for_it over =
+    too_many_crowd C rules depth prefix items key distinct inside keys c for_it over
 overflow_crowd C rules depth prefix items (Remove key) distinct inside keys c for_it over = cc
 overflow_crowd C rules depth prefix items (Lookup key) distinct inside keys c for_it over = cc
 overflow_crowd C rules depth prefix items (Tally key amount) distinct inside keys c for_it over = cc
+overflow_crowd C rules depth prefix items (Count key value amount) distinct inside keys c for_it over =
+    too_many_crowd C rules depth prefix items key distinct inside keys c for_it over
+overflow_crowd C rules depth prefix items (Put key value) distinct inside keys c for_it over =
+    too_many_crowd C rules depth prefix items key distinct inside keys c for_it over
 
 -- ---- the bucket change
 

@@ -32,15 +32,15 @@ use Rattle.bound_laws.proofs.Kept.{Fews, FewRows, dones, fews}
 used_below : (setup : Setup) (me : ℕ) (c : Common) → me < seats_of setup → Shared setup c → Fews setup c →
     AreBelow (2 ^ 62) (c.used me)
 used_below setup me c h s d =
-    let below : AreBelow (2 ^ 32) (sizes_of setup.shape me) =
-    All-get_or (AreBelow (2 ^ 32)) setup.shape.ranges me no_rows (omega (arith, h, s.opened.shape.each_seat))
+    let below : AreBelow setup.shape.limit (sizes_of setup.shape me) =
+    All-get_or (AreBelow setup.shape.limit) setup.shape.ranges me no_rows (omega (arith, h, s.opened.shape.each_seat))
     s.opened.ranges in
     let few = d me h in
     record {
-      op_rows = omega (arith, s.calls.few me h, below.op_rows);
-      bucket_rows = omega (arith, few.rows, below.bucket_rows);
-      bucket_words = omega (arith, few.words, below.bucket_words);
-      directory_rows = omega (arith, few.dirs, below.directory_rows);
+      op_rows = omega (arith, s.calls.few me h, below.op_rows, s.opened.shape.limited);
+      bucket_rows = omega (arith, few.rows, below.bucket_rows, s.opened.shape.limited);
+      bucket_words = omega (arith, few.words, below.bucket_words, s.opened.shape.limited);
+      directory_rows = omega (arith, few.dirs, below.directory_rows, s.opened.shape.limited);
     }
 
 -- what holds of the seat that acts and of the others holds of all

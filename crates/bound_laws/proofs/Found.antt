@@ -13,9 +13,9 @@ use Rattle.run_laws.proofs.Induction.{found_in}
 use Rattle.table_model.specs.Fits.{Finds, IsRowSoFar, IsOpSoFar}
 use Rattle.list_laws.proofs.Cuts.{seen_more, seen_all}
 
--- the done words have 32 bits
+-- the done words are below the limit
 abbrev pub Dones : Setup → Common → Type 0
-Dones setup c = (p : ℕ) → p < seats_of setup → c.memory.done p < 2 ^ 32
+Dones setup c = (p : ℕ) → p < seats_of setup → c.memory.done p < setup.shape.limit
 
 module _ (setup : Setup) (me : ℕ) (c : Common) (used : SeatRows) (flight : Flight) (local : Local)
     (h : me < seats_of setup) (s : Shared setup c) where

@@ -1,12 +1,12 @@
 -- Announced ops are calls that events gave.
-use Rattle.std.proofs.Common.{◌≡◌, ℕ, ◌+◌, ◌<◌, ◌⊎◌, ◌||◌, Bool, true, false, cond, eqb, List, [], ◌∷◌, ◌++◌, length, Option, Some, None, inl, inr, refl, sym, ap, ◌∙◌, subst, arith, length-set}
+use Rattle.std.proofs.Common.{◌≡◌, ℕ, ◌+◌, ◌<◌, ◌⊎◌, ◌||◌, Bool, true, false, cond, eqb, List, [], ◌∷◌, ◌++◌, length, get_or, Option, Some, None, inl, inr, refl, sym, ap, ◌∙◌, subst, arith, length-set}
 use Rattle.std.specs.Prelude.{fold, flat_map, nat_lt}
 use Rattle.std.proofs.lemmas.Bool.{cases_lt, cases_eq, ltb-true}
 use Rattle.std.proofs.lemmas.List.{append_assoc}
 use Rattle.std.specs.Option.{option_map_or}
 use Rattle.step_counts.specs.declared.rows.SeatRows.{SeatRows}
 use Rattle.plain_map.specs.declared.calls.Call.{Call}
-use Rattle.plain_map.specs.declared.calls.Call.TheVariants.{Insert, Remove, Lookup, Tally}
+use Rattle.plain_map.specs.declared.calls.Call.TheVariants.{Insert, Remove, Lookup, Tally, Count, Put}
 use Rattle.plain_map.specs.declared.full.Full.{Full}
 use Rattle.plain_map.specs.declared.keys.Key.{Key}
 use Rattle.plain_map.specs.declared.records.Record.{Record}
@@ -138,14 +138,30 @@ given_others setup me q c d z local state h k g j lt =
 
 -- ---- each of its calls was given by an event
 
--- the key of an insert is among these
+-- of two lists of one key, the key
+first_same : {a b : Key} → a ∷ [] ≡ b ∷ [] → a ≡ b
+first_same {a} e = ap (λ (xs : List Key). get_or xs 0 a) e
+
+-- the key that a call can bring is among these
 abbrev pub KeyGiven : List Key → Call → Type 0
 KeyGiven keys (Insert key value) = has keys key ≡ true
 KeyGiven keys (Remove key) = Unit {0}
 KeyGiven keys (Lookup key) = Unit {0}
 KeyGiven keys (Tally key amount) = Unit {0}
+KeyGiven keys (Count key value amount) = has keys key ≡ true
+KeyGiven keys (Put key value) = has keys key ≡ true
 
--- the keys of all its inserts are among these
+-- so it is of each call that can bring it
+pub given_brought : (keys : List Key) (call : Call) (key : Key) → KeyGiven keys call → inserted_by call ≡ key ∷ [] →
+    has keys key ≡ true
+given_brought keys (Insert own value) key k e = subst (λ (x : Key). has keys x ≡ true) (first_same e) k
+given_brought keys (Remove own) key k e = cc
+given_brought keys (Lookup own) key k e = cc
+given_brought keys (Tally own amount) key k e = cc
+given_brought keys (Count own value amount) key k e = subst (λ (x : Key). has keys x ≡ true) (first_same e) k
+given_brought keys (Put own value) key k e = subst (λ (x : Key). has keys x ≡ true) (first_same e) k
+
+-- the keys of all its calls that can bring one are among these
 abbrev pub Known : List Key → SeatState → Type 0
 Known keys state = (call : Call) → CallOf state.account state.stand call → KeyGiven keys call
 
@@ -173,12 +189,16 @@ given_left xs ys (Insert key value) k = has_left xs ys key k
 given_left xs ys (Remove key) k = tt
 given_left xs ys (Lookup key) k = tt
 given_left xs ys (Tally key amount) k = tt
+given_left xs ys (Count key value amount) k = has_left xs ys key k
+given_left xs ys (Put key value) k = has_left xs ys key k
 
 given_right : (xs ys : List Key) (call : Call) → KeyGiven ys call → KeyGiven (xs ++ ys) call
 given_right xs ys (Insert key value) k = has_right xs ys key k
 given_right xs ys (Remove key) k = tt
 given_right xs ys (Lookup key) k = tt
 given_right xs ys (Tally key amount) k = tt
+given_right xs ys (Count key value amount) k = has_right xs ys key k
+given_right xs ys (Put key value) k = has_right xs ys key k
 
 -- the key of a call itself
 given_own : (call : Call) → KeyGiven (inserted_by call) call
@@ -186,6 +206,8 @@ given_own (Insert key value) = ap (λ b. b || false) ((Decides-same_key key key)
 given_own (Remove key) = tt
 given_own (Lookup key) = tt
 given_own (Tally key amount) = tt
+given_own (Count key value amount) = ap (λ b. b || false) ((Decides-same_key key key).1 refl)
+given_own (Put key value) = ap (λ b. b || false) ((Decides-same_key key key).1 refl)
 
 -- a step brings no call
 calls_after : (setup : Setup) (me : ℕ) (account : Account) (flight : Flight) (phase : Phase) (word : ℕ) (call : Call) →

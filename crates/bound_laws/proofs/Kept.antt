@@ -47,11 +47,12 @@ own_done setup me used (Done p) m w o = absurd o
 module _ (changes : (setup : Setup) → Changes setup) (setup : Setup) (me : ℕ) (c : Common) (used : SeatRows)
     (flight : Flight) (local : Local) (h : me < seats_of setup) (s : Shared setup c) where
   -- stores and exchanges leave the done words
-  done_put : (n : ℕ) → n < 2 ^ 32 → Dones setup c → (p : ℕ) → p < seats_of setup → put c.memory.done me n p < 2 ^ 32
+  done_put : (n : ℕ) → n < setup.shape.limit → Dones setup c → (p : ℕ) → p < seats_of setup →
+      put c.memory.done me n p < setup.shape.limit
   done_put n few d p hp = elim (cases_eq p me) [
-    | inl e ↦ subst (λ q. put c.memory.done me n q < 2 ^ 32) (sym e)
-        (subst (λ x. x < 2 ^ 32) (sym (put_same c.memory.done me n)) few)
-    | inr o ↦ subst (λ x. x < 2 ^ 32) (sym (put_other c.memory.done me n p o)) (d p hp)
+    | inl e ↦ subst (λ q. put c.memory.done me n q < setup.shape.limit) (sym e)
+        (subst (λ x. x < setup.shape.limit) (sym (put_same c.memory.done me n)) few)
+    | inr o ↦ subst (λ x. x < setup.shape.limit) (sym (put_other c.memory.done me n p o)) (d p hp)
   ]
 
   done_exchange : (b : ℕ) (attempt : BucketTry) (found : List (Option Op)) (e : Bool) → Dones setup c →
@@ -96,7 +97,7 @@ module _ (changes : (setup : Setup) → Changes setup) (setup : Setup) (me : ℕ
   dones (DirWord round attempt found loaded bucket) k d = d
   dones (DirRow round attempt found loaded bucket row words) k d = d
   dones (DirStore round attempt found loaded i) k d =
-      subst (λ (f : ℕ → ℕ). (p : ℕ) → p < seats_of setup → f p < 2 ^ 32)
+      subst (λ (f : ℕ → ℕ). (p : ℕ) → p < seats_of setup → f p < setup.shape.limit)
       (sym (own_done setup me used (put_in (directory_puts setup me used attempt found loaded) i).address c.memory
       (put_in (directory_puts setup me used attempt found loaded) i).word (k.owns i k.short))) d
   dones (DirExchange round attempt found loaded) k d = done_root attempt found loaded (eqb c.memory.root attempt.root) d

@@ -22,6 +22,7 @@ use Rattle.run_invariant.proofs.Change.{Changes, IsChange as Change, IsTry, no_l
 use Rattle.run_laws.proofs.Won.{based}
 use Rattle.table_model.specs.Fits.{Makes, IsChange}
 use Rattle.list_laws.proofs.Options.{some_same}
+use Rattle.plain_map.specs.Updates.{number_limit}
 
 module _ (laws : BucketLaws) (changes : (setup : Setup) → Changes setup) (setup : Setup) (me : ℕ) (c : Common)
     (used : SeatRows) (flight : Flight) (local : Local) (h : me < seats_of setup) (s : Shared setup c) where
@@ -34,7 +35,7 @@ module _ (laws : BucketLaws) (changes : (setup : Setup) → Changes setup) (setu
       | inl z ↦ absurd (grind (arith, z, e))
       | inr r ↦ (let sound = s.calls.sound seat r.0 (omega (arith, all)) r.1 in
           let is : c.op_at seat r.0 ≡ op = some_same (sym r.2 ∙ e) in
-          (subst (λ o. IsUpdate o.call) is sound.update, subst (λ (o : Op). o.number < 2 ^ 32) is sound.few))
+          (subst (λ o. IsUpdate o.call) is sound.update, subst (λ (o : Op). o.number < number_limit) is sound.few))
     ]
   ]
 

@@ -258,7 +258,7 @@ module _ (setup : Setup) (w : World) (me : ℕ) (h : me < length w.seats) where
 
   -- an event of a seat changes nothing, or gives it a call, or goes on with the one that was given
   asked_act : (stand : Stand) (begin : Option (ℕ × Call)) → (seat_in w me).stand ≡ stand →
-      FitsStand account stand begin → (act setup w me account stand begin ≡ w)
+      FitsStand setup account stand begin → (act setup w me account stand begin ≡ w)
       ⊎ (asked_calls (seat_in (act setup w me account stand begin) me)
       ≡ asked_calls (seat_in w me) ++ option_to_list begin)
   asked_act Idle None s fits = inl refl

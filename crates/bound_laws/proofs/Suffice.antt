@@ -7,7 +7,7 @@ use Rattle.std.proofs.Math.Nat.{le-min}
 use Rattle.step_counts.specs.declared.rows.SeatRows.{SeatRows}
 use Rattle.step_counts.specs.StepCounts.{need_of, automatic_rows_of}
 use Rattle.plain_map.specs.declared.calls.Call.{Call}
-use Rattle.plain_map.specs.declared.calls.Call.TheVariants.{Insert, Remove, Lookup, Tally}
+use Rattle.plain_map.specs.declared.calls.Call.TheVariants.{Insert, Remove, Lookup, Tally, Count, Put}
 use Rattle.plain_map.specs.declared.full.Full.{Full}
 use Rattle.plain_map.specs.Room.{IsEnough, left_of, refusal, first_short, no_rows}
 use Rattle.word_rows.specs.Shape.{sizes_of}
@@ -119,6 +119,8 @@ enough_none left need (Lookup key) e = refl
 enough_none left need (Insert key value) e = none_short left need e
 enough_none left need (Remove key) e = none_short left need e
 enough_none left need (Tally key amount) e = none_short left need e
+enough_none left need (Count key value amount) e = none_short left need e
+enough_none left need (Put key value) e = none_short left need e
 
 -- a seat's ranges
 pub sizes_are : (setup : Setup) (f : ℕ → SeatRows) (updates : List ℕ) (seat : ℕ) → setup.shape.ranges ≡ map f updates →

@@ -17,7 +17,7 @@ use Rattle.plain_map.specs.declared.keys.TheConstants.{KEY_WORDS}
 use Rattle.plain_map.specs.Keys.{held_in, no_pair}
 use Rattle.plain_map.specs.Updates.{IsSmallPair}
 use Rattle.std.proofs.Math.ListN.{length-set}
-use Rattle.bucket_states.specs.Items.{same_key, tallied_in, value_at, with_more, without}
+use Rattle.bucket_states.specs.Items.{same_key, changed_in, value_at, with_change, without}
 use Rattle.bucket_states.specs.Places.{IsPlaceOf}
 use Rattle.word_rows.specs.Blocks.{blocks}
 use Rattle.word_rows.specs.KeyWords.{words_of_pair, pair_of_words}
@@ -27,7 +27,7 @@ use Rattle.word_rows.proofs.BlockLemmas.{blocks_zero, blocks_more, block-blocks,
 use Rattle.word_rows.specs.Blocks.{block}
 use Rattle.word_rows.proofs.PartLemmas.{places_padded}
 use Rattle.word_rows.proofs.BucketLemmas.{length-item_words}
-use Rattle.bucket_machine.specs.Rows.{bytes_set, with_bytes, with_pair, with_answer, with_items, without_place, HasPlaces, Spell}
+use Rattle.bucket_machine.specs.Rows.{bytes_set, value_set, with_bytes, with_value, with_pair, with_answer, with_items, without_place, HasPlaces, Spell}
 
 -- a word is written behind the front
 pub set_in : (front ys : List ℕ) (n k i v : ℕ) → length front ≡ n → i ≡ n + k →
@@ -286,16 +286,16 @@ pair_in_row settings b row i at k d pair is fit h e wide read =
     let r = item_in settings b row i at d is fit h e in
     ap pair_of_words (sym read ∙ (λ j. take (wide j) (r.1 j)))
 
--- so many bytes are written
-pub bytes_in_row : (settings : Settings) (b : BucketContent) (row : List ℕ) (i at bytes : ℕ) →
+-- a word of an item is written
+word_in_row : (settings : Settings) (b : BucketContent) (row : List ℕ) (i at k v : ℕ) (q : Pair) →
+    ((tail : List ℕ) → set (words_of_pair (get_or b.items i no_pair) ++ tail) k v ≡ words_of_pair q ++ tail) →
     row ≡ words_of_bucket settings b → length b.items ≤ settings.items → i < length b.items →
-    at ≡ 5 + ITEM_WORDS * i + (KEY_WORDS + 1) → set row at bytes ≡ words_of_bucket settings (with_bytes i bytes b)
-bytes_in_row settings b row i at bytes is fit h e =
+    at ≡ 5 + ITEM_WORDS * i + k → set row at v ≡ words_of_bucket settings (with_items (set b.items i q) b)
+word_in_row settings b row i at k v q writes is fit h e =
     let m : ℕ = settings.items - length b.items in
     let back : List ℕ = replicate (m * ITEM_WORDS) 0 ++ seat_words settings.seats b.applied b.replies in
     let xs : List Pair = take i b.items in
     let p : Pair = get_or b.items i no_pair in
-    let q : Pair = bytes_set p bytes in
     let zs : List Pair = drop (suc i) b.items in
     let front : List ℕ = head_words b ++ flat xs in
     let few : length xs ≡ i = length-take-le i b.items (omega (arith, h)) in
@@ -307,16 +307,31 @@ bytes_in_row settings b row i at bytes is fit h e =
     ∙ ap (λ (ws : List ℕ). head_words b ++ ws) (append_assoc (flat xs) (flat (p ∷ zs)) back) in
     let n : ℕ = 5 + ITEM_WORDS * i in
     let long : length front ≡ n = omega (arith, few, length-flat xs) in
-    let written : set row at bytes ≡ front ++ (flat (q ∷ zs) ++ back) =
-    ap (λ (ws : List ℕ). set ws at bytes) whole
-    ∙ set_in front (flat (p ∷ zs) ++ back) n (KEY_WORDS + 1) at bytes long (omega (arith, e)) in
+    let written : set row at v ≡ front ++ (flat (q ∷ zs) ++ back) =
+    ap (λ (ws : List ℕ). set ws at v) whole
+    ∙ set_in front (flat (p ∷ zs) ++ back) n k at v long (omega (arith, e))
+    ∙ ap (λ (ws : List ℕ). front ++ ws) (writes (flat zs ++ back)) in
     let now : set b.items i q ≡ xs ++ q ∷ zs = set_split b.items i q h in
     let same : flat (set b.items i q) ≡ flat xs ++ flat (q ∷ zs) = ap flat now ∙ flat-append xs (q ∷ zs) in
     let many : length (set b.items i q) ≡ length b.items = length-set b.items i q in
     written ∙ ap (λ (ws : List ℕ). head_words b ++ ws) (sym (append_assoc (flat xs) (flat (q ∷ zs)) back))
     ∙ ap (λ (ws : List ℕ). head_words b ++ (ws ++ back)) (sym same)
     ∙ ap (λ (k : ℕ). set (head_words b) 4 k ++ (flat (set b.items i q) ++ back)) (sym many)
-    ∙ sym (words_flat settings (with_bytes i bytes b) m (omega (arith, fit, many)))
+    ∙ sym (words_flat settings (with_items (set b.items i q) b) m (omega (arith, fit, many)))
+
+-- its bytes
+pub bytes_in_row : (settings : Settings) (b : BucketContent) (row : List ℕ) (i at bytes : ℕ) →
+    row ≡ words_of_bucket settings b → length b.items ≤ settings.items → i < length b.items →
+    at ≡ 5 + ITEM_WORDS * i + (KEY_WORDS + 1) → set row at bytes ≡ words_of_bucket settings (with_bytes i bytes b)
+bytes_in_row settings b row i at bytes is fit h e = word_in_row settings b row i at (KEY_WORDS + 1) bytes
+    (bytes_set (get_or b.items i no_pair) bytes) (λ tail. refl) is fit h e
+
+-- and its value
+pub value_in_row : (settings : Settings) (b : BucketContent) (row : List ℕ) (i at value : ℕ) →
+    row ≡ words_of_bucket settings b → length b.items ≤ settings.items → i < length b.items →
+    at ≡ 5 + ITEM_WORDS * i + KEY_WORDS → set row at value ≡ words_of_bucket settings (with_value i value b)
+value_in_row settings b row i at value is fit h e = word_in_row settings b row i at KEY_WORDS value
+    (value_set (get_or b.items i no_pair) value) (λ tail. refl) is fit h e
 
 -- ---- a key among items that are gone through one by one
 
@@ -328,7 +343,7 @@ placed_here key (p ∷ ps) zero d h none is = record {
   in_range = omega arith;
   value = λ d. ap (λ (t : Bool). cond t (Some (held_in p)) (value_at key ps)) is;
   rest = ap (λ (t : Bool). cond t ps (p ∷ without key ps)) is;
-  more = λ d amount. ap (λ (t : Bool). cond t (with_more p amount ∷ ps) (p ∷ tallied_in key amount ps)) is;
+  other = λ d change. ap (λ (t : Bool). cond t (with_change change p ∷ ps) (p ∷ changed_in key change ps)) is;
 }
 placed_here key (p ∷ ps) (suc i) d h none is =
     by (same_key p.key key) refl none (λ none. placed_here key ps i d (omega (arith, h)) none is)
@@ -342,9 +357,9 @@ placed_here key (p ∷ ps) (suc i) d h none is =
           in_range = omega (arith, there.in_range);
           value = λ d. ap (λ (t : Bool). cond t (Some (held_in p)) (value_at key ps)) e ∙ there.value d;
           rest = ap (λ (t : Bool). cond t ps (p ∷ without key ps)) e ∙ ap (λ (qs : List Pair). p ∷ qs) there.rest;
-          more = λ d amount.
-              ap (λ (t : Bool). cond t (with_more p amount ∷ ps) (p ∷ tallied_in key amount ps)) e
-              ∙ ap (λ (qs : List Pair). p ∷ qs) (there.more d amount);
+          other = λ d change.
+              ap (λ (t : Bool). cond t (with_change change p ∷ ps) (p ∷ changed_in key change ps)) e
+              ∙ ap (λ (qs : List Pair). p ∷ qs) (there.other d change);
         }
 
 -- it is not among one item more
@@ -405,15 +420,25 @@ items_removed room items at h inside = record {
       (All-drop IsSmallPair (suc at) items h.values);
 }
 
--- and so can the items with so many bytes in one
+-- and so can the items with another in the place of one
+items_set : (room : ℕ) (items : List Pair) (at : ℕ) (q : Pair) → AreItems room items → IsSmallPair q →
+    AreItems room (set items at q)
+items_set room items at q h small = record {
+  fit = omega (arith, h.fit, length-set items at q);
+  values = All-set IsSmallPair items at q small h.values;
+}
+
+-- as with so many bytes in one
 pub items_counted : (room : ℕ) (items : List Pair) (at bytes : ℕ) → AreItems room items → at < length items →
     bytes < 2 ^ 61 → AreItems room (set items at (bytes_set (get_or items at no_pair) bytes))
 items_counted room items at bytes h inside small =
-    let q : Pair = bytes_set (get_or items at no_pair) bytes in
-    record {
-      fit = omega (arith, h.fit, length-set items at q);
-      values = All-set IsSmallPair items at q ((h.values at no_pair inside).0, small) h.values;
-    }
+    items_set room items at (bytes_set (get_or items at no_pair) bytes) h ((h.values at no_pair inside).0, small)
+
+-- or with another value
+pub items_valued : (room : ℕ) (items : List Pair) (at value : ℕ) → AreItems room items → at < length items →
+    value < 2 ^ 61 → AreItems room (set items at (value_set (get_or items at no_pair) value))
+items_valued room items at value h inside small =
+    items_set room items at (value_set (get_or items at no_pair) value) h (small, (h.values at no_pair inside).1)
 
 -- a value that stands in the items is small
 pub small_at : (room : ℕ) (items : List Pair) (at v : ℕ) (d : Pair) → AreItems room items → at < length items →

@@ -11,7 +11,7 @@ use Rattle.plain_map.specs.declared.calls.Call.{Call}
 use Rattle.bucket_states.specs.States.{BucketState, row_of_state, state_in_row}
 use Rattle.bucket_states.specs.declared.ops.Op.{Op}
 use Rattle.bucket_states.specs.Change.{change}
-use Rattle.bucket_states.specs.Places.{IsAnswer}
+use Rattle.bucket_states.specs.Places.{IsAnswer, IsBrought}
 use Rattle.plain_map.specs.Updates.{IsUpdateReply}
 use Rattle.word_rows.specs.BucketWords.{AreItems, words_of_bucket}
 
@@ -43,6 +43,14 @@ bytes_set pair bytes = record pair { bytes = bytes }
 abbrev pub with_bytes : (at bytes : ℕ) → BucketContent → BucketContent
 with_bytes at bytes b = with_items (slice_set b.items at (bytes_set (slice_index_or b.items at no_pair) bytes)) b
 
+-- an item with another value
+abbrev pub value_set : Pair → (value : ℕ) → Pair
+value_set pair value = record pair { value = value }
+
+-- a bucket with another value in the item at a place
+abbrev pub with_value : (at value : ℕ) → BucketContent → BucketContent
+with_value at value b = with_items (slice_set b.items at (value_set (slice_index_or b.items at no_pair) value)) b
+
 -- a bucket with a later number and reply of a seat
 abbrev pub with_answer : (seat number : ℕ) → Reply → BucketContent → BucketContent
 with_answer seat number reply b = record b {
@@ -71,6 +79,14 @@ pub record IsAnsweredIn (rules : Rules) (settings : Settings) (call : Call) (b :
     (given : Option Reply) : Type 0 where
   pub left : List Pair
   pub answer : IsAnswer rules b.depth b.items call left given
+  pub reply : IsUpdateReply given
+  pub spelled : Spell settings (with_items left b) row
+
+-- a pair of a key that is not there has come, and the words have the items that are left
+pub record IsBroughtIn (rules : Rules) (settings : Settings) (pair : Pair) (b : BucketContent) (row : List ℕ)
+    (given : Option Reply) : Type 0 where
+  pub left : List Pair
+  pub brought : IsBrought rules b.depth b.items pair left given
   pub reply : IsUpdateReply given
   pub spelled : Spell settings (with_items left b) row
 

@@ -7,7 +7,10 @@ ghost use Rattle.std.specs.Prelude.{◌≡◌, ◌+◌, ◌^◌, ◌<◌, ◌≤
 ghost use Rattle.step_counts.specs.StepCounts.{bucket_row_words};
 ghost use Rattle.plain_map.specs.Rows.{BucketContent};
 ghost use Rattle.plain_map.specs.declared.rules.Rules.{Rules};
-ghost use Rattle.plain_map.specs.declared.calls.Call.TheVariants.{Insert, Remove, Tally};
+ghost use Rattle.plain_map.specs.declared.calls.Call.TheVariants.{Insert, Remove, Tally, Count, Put};
+ghost use Rattle.plain_map.specs.Keys.{pair_of};
+ghost use Rattle.plain_map.specs.PlainObject.{counted_session};
+ghost use Rattle.plain_map.specs.Updates.{IsSmallPair};
 ghost use Rattle.word_rows.specs.BucketWords.{SpellSomeBucket, bucket_of_words, words_of_bucket};
 ghost use Rattle.bucket_states.specs.States.{row_of_state};
 ghost use Rattle.bucket_states.specs.States.{state_in_row};
@@ -15,11 +18,11 @@ ghost use Rattle.bucket_states.specs.Items.{prefix_of};
 ghost use Rattle.bucket_states.specs.Change.{after_op, change, is_due};
 ghost use Rattle.bucket_states.specs.Values.{AreUpdates, IsUpdate};
 ghost use Rattle.bucket_machine.specs.HashedKeys.{IsHashed};
-ghost use Rattle.bucket_machine.specs.Rows.{Becomes, BecomesChanged, IsAnsweredIn, IsSpelled, Spell};
+ghost use Rattle.bucket_machine.specs.Rows.{Becomes, BecomesChanged, IsAnsweredIn, IsBroughtIn, IsSpelled, Spell};
 
 use crate::hashed::Hashed;
 use crate::row::{
-    find_item, freeze, pair_in, push_item, remove_item, set_base, set_bytes, set_seat,
+    find_item, freeze, pair_in, push_item, remove_item, set_base, set_bytes, set_seat, set_value,
 };
 use bucket_states::Op;
 use hash_bits::bits;
@@ -27,13 +30,37 @@ use plain_map::{Call, Key, Pair, Reply, Rules, add_bytes};
 use step_counts::{BUCKET_HEAD_WORDS, COUNT_PLACE, ITEM_WORDS, SEAT_WORDS, Settings};
 use word_rows::row_laws;
 
-// Takes a new pair, or answers why not. `None` is for a bucket that has to be split first.
+// Takes a new pair, or answers why it does not. `None` is for a bucket that has to be split first.
+#[inline(always)]
+fn bring(settings: &Settings, rules: &Rules, row: &mut [u64], pair: &Pair) -> Option<Reply>
+    requires long { length row.old ≡ bucket_row_words settings.now }
+    requires few { slice_index row.old COUNT_PLACE ≤ settings.now.items }
+    requires rules { rules.now.items ≡ settings.now.items }
+    requires small { IsSmallPair pair.now }
+    ensures brought { (b : BucketContent) → Spell settings.now b row.old →
+        IsBroughtIn rules.now settings.now pair.now b row.new result }
+    ensures long { length row.new ≡ length row.old }
+{
+    let _pair = *pair;
+    if row[COUNT_PLACE] < settings.items as u64 {
+        push_item(settings, row, pair);
+        Some(Reply::New)
+    } else {
+        if row[1] < rules.depth as u64 {
+            None
+        } else {
+            Some(Reply::NoRoom)
+        }
+    }
+}
+
+// Takes a new pair, or answers what the key has.
 #[inline(always)]
 fn insert(settings: &Settings, rules: &Rules, row: &mut [u64], pair: &Pair) -> Option<Reply>
     requires long { length row.old ≡ bucket_row_words settings.now }
     requires few { slice_index row.old COUNT_PLACE ≤ settings.now.items }
     requires rules { rules.now.items ≡ settings.now.items }
-    requires value { pair.now.value < 2 ^ 61 }
+    requires small { IsSmallPair pair.now }
     requires begins { pair.now.bytes ≡ 0 }
     ensures answer { (b : BucketContent) → Spell settings.now b row.old →
         IsAnsweredIn rules.now settings.now (Insert pair.now.key pair.now.value) b row.new result }
@@ -42,12 +69,52 @@ fn insert(settings: &Settings, rules: &Rules, row: &mut [u64], pair: &Pair) -> O
     let _pair = *pair;
     match find_item(settings, row, &pair.key) {
         Some(at) => Some(Reply::Old(pair_in(settings, row, at).value)),
-        None if row[COUNT_PLACE] < settings.items as u64 => {
-            push_item(settings, row, pair);
-            Some(Reply::New)
+        None => bring(settings, rules, row, pair),
+    }
+}
+
+// Takes a new pair, or adds its bytes to the key's.
+#[inline(always)]
+fn count(settings: &Settings, rules: &Rules, row: &mut [u64], pair: &Pair) -> Option<Reply>
+    requires long { length row.old ≡ bucket_row_words settings.now }
+    requires few { slice_index row.old COUNT_PLACE ≤ settings.now.items }
+    requires rules { rules.now.items ≡ settings.now.items }
+    requires small { IsSmallPair pair.now }
+    ensures answer { (b : BucketContent) → Spell settings.now b row.old →
+        IsAnsweredIn rules.now settings.now (Count pair.now.key pair.now.value pair.now.bytes) b row.new result }
+    ensures long { length row.new ≡ length row.old }
+{
+    let _pair = *pair;
+    match find_item(settings, row, &pair.key) {
+        Some(at) => {
+            let bytes = add_bytes(pair_in(settings, row, at).bytes, pair.bytes);
+            set_bytes(settings, row, at, bytes);
+            Some(Reply::Sum(bytes))
         }
-        None if row[1] < rules.depth as u64 => None,
-        None => Some(Reply::NoRoom),
+        None => bring(settings, rules, row, pair),
+    }
+}
+
+// Takes a new pair, or gives the key the pair's value.
+#[inline(always)]
+fn put(settings: &Settings, rules: &Rules, row: &mut [u64], pair: &Pair) -> Option<Reply>
+    requires long { length row.old ≡ bucket_row_words settings.now }
+    requires few { slice_index row.old COUNT_PLACE ≤ settings.now.items }
+    requires rules { rules.now.items ≡ settings.now.items }
+    requires small { IsSmallPair pair.now }
+    requires begins { pair.now.bytes ≡ 0 }
+    ensures answer { (b : BucketContent) → Spell settings.now b row.old →
+        IsAnsweredIn rules.now settings.now (Put pair.now.key pair.now.value) b row.new result }
+    ensures long { length row.new ≡ length row.old }
+{
+    let _pair = *pair;
+    match find_item(settings, row, &pair.key) {
+        Some(at) => {
+            let old = pair_in(settings, row, at).value;
+            set_value(settings, row, at, pair.value);
+            Some(Reply::Old(old))
+        }
+        None => bring(settings, rules, row, pair),
     }
 }
 
@@ -91,6 +158,18 @@ fn tally(settings: &Settings, row: &mut [u64], key: &Key, amount: u64) -> Reply
     }
 }
 
+// The pair of a key, a value and bytes.
+#[inline(always)]
+fn pair_of(key: &Key, value: u64, bytes: u64) -> Pair
+    ensures { result ≡ pair_of (key.now, counted_session value bytes) }
+{
+    Pair {
+        key: *key,
+        value,
+        bytes,
+    }
+}
+
 // The answer to a call, with the change that it makes.
 #[inline(always)]
 fn answer(settings: &Settings, rules: &Rules, row: &mut [u64], call: &Call) -> Option<Reply>
@@ -103,16 +182,11 @@ fn answer(settings: &Settings, rules: &Rules, row: &mut [u64], call: &Call) -> O
     ensures long { length row.new ≡ length row.old }
 {
     match call {
-        Call::Insert(key, value) => insert(
-            settings,
-            rules,
-            row,
-            &Pair {
-                key: *key,
-                value: *value,
-                bytes: 0,
-            },
-        ),
+        Call::Insert(key, value) => insert(settings, rules, row, &pair_of(key, *value, 0)),
+        Call::Count(key, value, amount) => {
+            count(settings, rules, row, &pair_of(key, *value, *amount))
+        }
+        Call::Put(key, value) => put(settings, rules, row, &pair_of(key, *value, 0)),
         Call::Remove(key) => Some(remove(settings, row, key)),
         Call::Tally(key, amount) => Some(tally(settings, row, key, *amount)),
         Call::Lookup(_) => unreachable!(),
@@ -149,7 +223,7 @@ fn is_due(
 {
     let _depth = settings.depth;
     let at = BUCKET_HEAD_WORDS + ITEM_WORDS * settings.items as usize + SEAT_WORDS * seat;
-    row[at] < op.number as u64 && prefix_of(rules, own, row[1] as u32, op.call.key()) == row[0]
+    row[at] < op.number && prefix_of(rules, own, row[1] as u32, op.call.key()) == row[0]
 }
 
 // Takes the call of one seat, in a bucket that is not frozen.

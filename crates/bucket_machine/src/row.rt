@@ -11,7 +11,7 @@ ghost use Rattle.word_rows.specs.BucketWords.{IsBucket};
 ghost use Rattle.plain_map.specs.Updates.{IsUpdateReply};
 ghost use Rattle.bucket_states.specs.Items.{same_key, value_at};
 ghost use Rattle.bucket_states.specs.Places.{IsPlaceOf};
-ghost use Rattle.bucket_machine.specs.Rows.{Spell, Turns, with_answer, with_base, with_bytes, with_frozen, with_pair, without_place};
+ghost use Rattle.bucket_machine.specs.Rows.{Spell, Turns, with_answer, with_base, with_bytes, with_frozen, with_pair, with_value, without_place};
 
 use plain_map::{KEY_WORDS, Key, Pair, Reply};
 use step_counts::{BUCKET_HEAD_WORDS, COUNT_PLACE, ITEM_WORDS, SEAT_WORDS, Settings};
@@ -40,7 +40,7 @@ pub(crate) fn set_base(settings: &Settings, row: &mut [u64], base: u64)
 
 /// Says which update of a seat is the last in here, and its reply.
 #[inline(always)]
-pub(crate) fn set_seat(settings: &Settings, row: &mut [u64], seat: usize, number: u32, reply: Reply)
+pub(crate) fn set_seat(settings: &Settings, row: &mut [u64], seat: usize, number: u64, reply: Reply)
     requires long { length row.old ≡ bucket_row_words settings.now }
     requires seat { seat < settings.now.seats }
     requires reply { IsUpdateReply (Some reply) }
@@ -48,7 +48,7 @@ pub(crate) fn set_seat(settings: &Settings, row: &mut [u64], seat: usize, number
     ensures long { length row.new ≡ length row.old }
 {
     let at = BUCKET_HEAD_WORDS + ITEM_WORDS * settings.items as usize + SEAT_WORDS * seat;
-    row[at] = number as u64;
+    row[at] = number;
     row[at + 1] = reply_word(Some(reply));
 }
 
@@ -124,6 +124,19 @@ pub(crate) fn pair_in(settings: &Settings, row: &[u64], i: usize) -> Pair
     let _items = settings.items;
     let at = BUCKET_HEAD_WORDS + ITEM_WORDS * i;
     read_pair(&row[at..at + ITEM_WORDS])
+}
+
+/// Says which value an item has.
+#[inline(always)]
+pub(crate) fn set_value(settings: &Settings, row: &mut [u64], i: usize, value: u64)
+    requires long { length row.old ≡ bucket_row_words settings.now }
+    requires few { slice_index row.old COUNT_PLACE ≤ settings.now.items }
+    requires place { i < slice_index row.old COUNT_PLACE }
+    ensures spelled { Turns settings.now (with_value i value) row.old row.new }
+    ensures long { length row.new ≡ length row.old }
+{
+    let _items = settings.items;
+    row[BUCKET_HEAD_WORDS + ITEM_WORDS * i + KEY_WORDS] = value;
 }
 
 /// Says how many bytes an item has.

@@ -10,12 +10,12 @@ use Rattle.plain_map.specs.declared.keys.Key.{Key}
 use Rattle.plain_map.specs.declared.keys.Pair.{Pair}
 use Rattle.plain_map.specs.declared.rules.Rules.{Rules}
 use Rattle.plain_map.specs.declared.calls.Call.{Call}
-use Rattle.plain_map.specs.declared.calls.Call.TheVariants.{Insert, Remove, Lookup, Tally}
+use Rattle.plain_map.specs.declared.calls.Call.TheVariants.{Insert, Remove, Lookup, Tally, Count, Put}
 use Rattle.plain_map.specs.Keys.{held_in, key_cmp, entry_of}
 use Rattle.plain_map.specs.PlainObject.{InRange, Sessions, map_after}
 use Rattle.plain_map.proofs.KeyLemmas.{keys_total}
 use Rattle.bucket_states.specs.declared.ops.Op.{Op}
-use Rattle.bucket_states.specs.Items.{value_at, has_place, reply_in, items_after, overflows}
+use Rattle.bucket_states.specs.Items.{value_at, has_place, is_too_many, reply_in, items_after, overflows}
 use Rattle.bucket_states.specs.States.{BucketState}
 use Rattle.bucket_states.specs.Change.{frozen, answered, after_op, after_seats, change}
 use Rattle.bucket_states.specs.Parts.{HasDistinctKeys, HasPrefix, HoldsPart, CanAnswer}
@@ -49,17 +49,23 @@ own_part rules prefix depth items distinct inside = record {
 -- ---- one op
 
 -- a bucket that overflows has no place, and can be split
-pub overflow_parts : (rules : Rules) (depth : ℕ) (items : List Pair) (call : Call) →
-    overflows rules depth items call ≡ true → (rules.items ≤ length items) × (depth < rules.depth)
-unfolding overflows
-overflow_parts rules depth items (Insert key value) full =
+too_many_parts : (rules : Rules) (depth : ℕ) (items : List Pair) (key : Key) →
+    is_too_many rules depth items key ≡ true → (rules.items ≤ length items) × (depth < rules.depth)
+too_many_parts rules depth items key full =
     let parts = and_parts (not (is_some (value_at key items))) (not (has_place rules items) && nat_lt depth rules.depth)
     full in
     let more = and_parts (not (has_place rules items)) (nat_lt depth rules.depth) parts.1 in
     (ltb-false _ _ (not-true _ more.0), ltb-true _ _ more.1)
+
+pub overflow_parts : (rules : Rules) (depth : ℕ) (items : List Pair) (call : Call) →
+    overflows rules depth items call ≡ true → (rules.items ≤ length items) × (depth < rules.depth)
+unfolding overflows
+overflow_parts rules depth items (Insert key value) full = too_many_parts rules depth items key full
 overflow_parts rules depth items (Remove key) full = cc
 overflow_parts rules depth items (Lookup key) full = cc
 overflow_parts rules depth items (Tally key amount) full = cc
+overflow_parts rules depth items (Count key value amount) full = too_many_parts rules depth items key full
+overflow_parts rules depth items (Put key value) full = too_many_parts rules depth items key full
 
 module _ (rules : Rules) (range : InRange rules) (seats : ℕ) where
   -- a good bucket can be asked

@@ -1,5 +1,5 @@
 -- What the items hold at a key, after one pair more and after one less.
-use Rattle.std.proofs.Common.{◌≡◌, ℕ, ◌≤◌, Bool, true, false, cond, List, [], ◌∷◌, ◌++◌, length, Option, Some, None, refl, sym, ap, subst, ◌∙◌, arith}
+use Rattle.std.proofs.Common.{◌≡◌, ◌≤◌, Bool, true, false, cond, List, [], ◌∷◌, ◌++◌, length, Option, Some, None, refl, sym, ap, subst, ◌∙◌, arith}
 use Rattle.std.specs.Prelude.{is_some, ◌||◌}
 use Rattle.std.specs.List.{IsDistinct, AllByRecursion, list_any}
 use Rattle.std.proofs.lemmas.Option.{same_Some}
@@ -8,8 +8,7 @@ use Rattle.std.proofs.lemmas.Map.Keys.{IsDistinct-push, IsDistinct-head, IsDisti
 use Rattle.plain_map.specs.declared.keys.Key.{Key}
 use Rattle.plain_map.specs.declared.keys.Pair.{Pair}
 use Rattle.plain_map.specs.Keys.{Session, held_in}
-use Rattle.plain_map.specs.PlainObject.{grown}
-use Rattle.bucket_states.specs.Items.{same_key, value_at, tallied_in, with_more, without}
+use Rattle.bucket_states.specs.Items.{same_key, value_at, changed_in, with_change, without}
 use Rattle.bucket_states.specs.Parts.{keys_of, HasDistinctKeys}
 use Rattle.bucket_states.proofs.KeyTests.{Decides-same_key, same_key-equiv}
 
@@ -154,51 +153,51 @@ length-without key (pair ∷ pairs) = by_test (same_key pair.key key) (length-wi
     by_test true rest = omega arith
     by_test false rest = omega arith
 
--- ---- so many bytes more in one pair
+-- ---- a change of the session in one pair
 
 -- the keys stay
-pub keys_of-tallied : (key : Key) (amount : ℕ) (items : List Pair) →
-    keys_of (tallied_in key amount items) ≡ keys_of items
-keys_of-tallied key amount [] = refl
-keys_of-tallied key amount (pair ∷ pairs) = by_test (same_key pair.key key) (keys_of-tallied key amount pairs)
+pub keys_of-changed : (key : Key) (change : Session → Session) (items : List Pair) →
+    keys_of (changed_in key change items) ≡ keys_of items
+keys_of-changed key change [] = refl
+keys_of-changed key change (pair ∷ pairs) = by_test (same_key pair.key key) (keys_of-changed key change pairs)
   where
-    by_test : (b : Bool) → keys_of (tallied_in key amount pairs) ≡ keys_of pairs →
-        keys_of (cond b (with_more pair amount ∷ pairs) (pair ∷ tallied_in key amount pairs)) ≡ keys_of (pair ∷ pairs)
+    by_test : (b : Bool) → keys_of (changed_in key change pairs) ≡ keys_of pairs →
+        keys_of (cond b (with_change change pair ∷ pairs) (pair ∷ changed_in key change pairs)) ≡ keys_of (pair ∷ pairs)
     by_test true rest = refl
     by_test false rest = ap (λ ks. pair.key ∷ ks) rest
 
 -- so many items stay
-pub length-tallied : (key : Key) (amount : ℕ) (items : List Pair) →
-    length (tallied_in key amount items) ≡ length items
-length-tallied key amount [] = refl
-length-tallied key amount (pair ∷ pairs) = by_test (same_key pair.key key) (length-tallied key amount pairs)
+pub length-changed : (key : Key) (change : Session → Session) (items : List Pair) →
+    length (changed_in key change items) ≡ length items
+length-changed key change [] = refl
+length-changed key change (pair ∷ pairs) = by_test (same_key pair.key key) (length-changed key change pairs)
   where
-    by_test : (b : Bool) → length (tallied_in key amount pairs) ≡ length pairs →
-        length (cond b (with_more pair amount ∷ pairs) (pair ∷ tallied_in key amount pairs)) ≡ length (pair ∷ pairs)
+    by_test : (b : Bool) → length (changed_in key change pairs) ≡ length pairs →
+        length (cond b (with_change change pair ∷ pairs) (pair ∷ changed_in key change pairs)) ≡ length (pair ∷ pairs)
     by_test true rest = refl
     by_test false rest = omega (arith, rest)
 
 -- what is held at a key
-pub value_at-tallied : (key : Key) (amount : ℕ) (items : List Pair) (held : Session) (q : Key) →
+pub value_at-changed : (key : Key) (change : Session → Session) (items : List Pair) (held : Session) (q : Key) →
     value_at key items ≡ Some held →
-    value_at q (tallied_in key amount items) ≡ cond (same_key key q) (Some (grown held amount)) (value_at q items)
-value_at-tallied key amount [] held q is = cc
-value_at-tallied key amount (pair ∷ pairs) held q is =
-    by_test (same_key pair.key key) refl (same_key key q) refl is (value_at-tallied key amount pairs held q)
+    value_at q (changed_in key change items) ≡ cond (same_key key q) (Some (change held)) (value_at q items)
+value_at-changed key change [] held q is = cc
+value_at-changed key change (pair ∷ pairs) held q is =
+    by_test (same_key pair.key key) refl (same_key key q) refl is (value_at-changed key change pairs held q)
   where
     -- the pair has the key
     here : same_key pair.key key ≡ true → (c : Bool) → same_key key q ≡ c → held_in pair ≡ held →
-        cond (same_key pair.key q) (Some (held_in (with_more pair amount))) (value_at q pairs)
-        ≡ cond c (Some (grown held amount)) (cond (same_key pair.key q) (Some (held_in pair)) (value_at q pairs))
+        cond (same_key pair.key q) (Some (held_in (with_change change pair))) (value_at q pairs)
+        ≡ cond c (Some (change held)) (cond (same_key pair.key q) (Some (held_in pair)) (value_at q pairs))
     here is true so own =
         let one : same_key pair.key q ≡ true = ap (λ (k : Key). same_key k q) ((Decides-same_key pair.key key).0 is)
         ∙ so in
-        ap (λ b. cond b (Some (held_in (with_more pair amount))) (value_at q pairs)) one
-        ∙ ap (λ (h : Session). Some (grown h amount)) own
+        ap (λ b. cond b (Some (held_in (with_change change pair))) (value_at q pairs)) one
+        ∙ ap (λ (h : Session). Some (change h)) own
     here is false so own =
         let other : same_key pair.key q ≡ false = ap (λ (k : Key). same_key k q) ((Decides-same_key pair.key key).0 is)
         ∙ so in
-        ap (λ b. cond b (Some (held_in (with_more pair amount))) (value_at q pairs)) other
+        ap (λ b. cond b (Some (held_in (with_change change pair))) (value_at q pairs)) other
         ∙ sym (ap (λ b. cond b (Some (held_in pair)) (value_at q pairs)) other)
 
     -- it has not
@@ -216,11 +215,11 @@ value_at-tallied key amount (pair ∷ pairs) held q is =
     by_test : (b : Bool) → same_key pair.key key ≡ b → (c : Bool) → same_key key q ≡ c →
         cond b (Some (held_in pair)) (value_at key pairs) ≡ Some held →
         (value_at key pairs ≡ Some held →
-        value_at q (tallied_in key amount pairs) ≡ cond (same_key key q) (Some (grown held amount)) (value_at q pairs))
-        → value_at q (cond b (with_more pair amount ∷ pairs) (pair ∷ tallied_in key amount pairs))
-        ≡ cond (same_key key q) (Some (grown held amount))
+        value_at q (changed_in key change pairs) ≡ cond (same_key key q) (Some (change held)) (value_at q pairs))
+        → value_at q (cond b (with_change change pair ∷ pairs) (pair ∷ changed_in key change pairs))
+        ≡ cond (same_key key q) (Some (change held))
         (cond (same_key pair.key q) (Some (held_in pair)) (value_at q pairs))
     by_test true is c so own rest = here is (same_key key q) refl (same_Some _ _ own)
     by_test false apart c so own rest =
         ap (cond (same_key pair.key q) (Some (held_in pair))) (rest own)
-        ∙ swapped (same_key pair.key q) (same_key key q) refl refl apart (value_at q pairs) (grown held amount)
+        ∙ swapped (same_key pair.key q) (same_key key q) refl refl apart (value_at q pairs) (change held)

@@ -8,15 +8,15 @@ use Rattle.std.proofs.lemmas.Bool.{ltb-true}
 use Rattle.plain_map.specs.declared.keys.Key.{Key}
 use Rattle.plain_map.specs.declared.keys.Pair.{Pair}
 use Rattle.plain_map.specs.declared.rules.Rules.{Rules}
-use Rattle.plain_map.specs.declared.calls.Call.TheVariants.{Insert, Remove, Lookup, Tally}
+use Rattle.plain_map.specs.declared.calls.Call.TheVariants.{Insert, Remove, Lookup, Tally, Count, Put}
 use Rattle.plain_map.specs.declared.calls.Reply.TheVariants.{Absent}
 use Rattle.plain_map.specs.Keys.{Session, pair_of}
-use Rattle.plain_map.specs.PlainObject.{Sessions, new_session, brought, found_in, gone_from, grown, has_room, insert_reply, inserted, reply_of, map_after, sum_of, tallied}
+use Rattle.plain_map.specs.PlainObject.{Sessions, counted_session, new_session, brought, count_reply, found_in, gone_from, grown, has_room, insert_reply, inserted, reply_of, revalued, revised, map_after, sum_of, tallied}
 use Rattle.std.specs.List.{IsDistinct}
-use Rattle.bucket_states.proofs.AnswerLemmas.{tallied-absent}
-use Rattle.bucket_states.specs.Items.{prefix_of, same_key, tallied_in, value_at, without, has_place, appended, items_with, reply_in, items_after, overflows}
+use Rattle.bucket_states.proofs.AnswerLemmas.{changed-absent}
+use Rattle.bucket_states.specs.Items.{prefix_of, same_key, changed_in, tallied_in, value_at, without, has_place, is_too_many, appended, items_with, revised_in, reply_in, items_after, overflows}
 use Rattle.bucket_states.specs.Parts.{HoldsPart, CanAnswer, AnswersAlike, LocalAnswers, OtherPartsStay}
-use Rattle.bucket_states.proofs.ItemLemmas.{value_at-push, value_at-without, HasDistinctKeys-push, HasDistinctKeys-without, keys_of-tallied, length-tallied, length-without, value_at-tallied}
+use Rattle.bucket_states.proofs.ItemLemmas.{value_at-push, value_at-without, HasDistinctKeys-push, HasDistinctKeys-without, keys_of-changed, length-changed, length-without, value_at-changed}
 use Rattle.bucket_states.proofs.PartLemmas.{changed, elsewhere, room_alike, get-inserted, get-removed}
 
 -- the items stay those of the map's part, after a session has come to a key of the prefix
@@ -96,17 +96,16 @@ module _ (rules : Rules) (prefix depth : ℕ) (items : List Pair) (sessions : Se
         }
 
     -- the bucket has a place for a new key where the map has room
-    alike_room : (value : ℕ) → overflows rules depth items (Insert key value) ≡ false → value_at key items ≡ None →
+    alike_room : is_too_many rules depth items key ≡ false → value_at key items ≡ None →
         has_place rules items ≡ has_room rules sessions key
-    unfolding overflows
-    alike_room value fits none =
+    alike_room fits none =
         room_alike rules prefix depth items sessions part key can here none
         (fits_more (value_at key items) none fits)
 
     -- a session that comes to any key
-    brings : (value : ℕ) (new : Session) → overflows rules depth items (Insert key value) ≡ false →
+    brings : (new : Session) → is_too_many rules depth items key ≡ false →
         BringsAlike rules prefix depth items sessions key new
-    brings value new fits = by_value (value_at key items) refl
+    brings new fits = by_value (value_at key items) refl
       where
         by_place : value_at key items ≡ None → (b : Bool) → has_place rules items ≡ b →
             has_place rules items ≡ has_room rules sessions key →
@@ -117,7 +116,7 @@ module _ (rules : Rules) (prefix depth : ℕ) (items : List Pair) (sessions : Se
         by_value : (o : Option Session) → value_at key items ≡ o →
             BringsAlike rules prefix depth items sessions key new
         by_value (Some held) is = brings_held new held is
-        by_value None none = by_place none (has_place rules items) refl (alike_room value fits none)
+        by_value None none = by_place none (has_place rules items) refl (alike_room fits none)
 
     -- an insert's reply
     insert_reply_alike : (o : Option Session) → (o ≡ None → has_place rules items ≡ has_room rules sessions key) →
@@ -127,11 +126,11 @@ module _ (rules : Rules) (prefix depth : ℕ) (items : List Pair) (sessions : Se
 
     insert_alike : (value : ℕ) → overflows rules depth items (Insert key value) ≡ false →
         AnswersAlike rules prefix depth items sessions (Insert key value)
-    unfolding reply_in items_after reply_of map_after
+    unfolding reply_in items_after reply_of map_after overflows
     insert_alike value fits =
-        let both = brings value (new_session value) fits in
+        let both = brings (new_session value) fits in
         record {
-          reply = insert_reply_alike (value_at key items) (alike_room value fits)
+          reply = insert_reply_alike (value_at key items) (alike_room fits)
               ∙ ap (λ o. insert_reply o (has_room rules sessions key)) (part.same key here);
           part = both.part;
           few = both.few;
@@ -166,9 +165,10 @@ module _ (rules : Rules) (prefix depth : ℕ) (items : List Pair) (sessions : Se
               (ap (tallied sessions key amount) kept)
               (changed rules prefix depth items sessions part key here (Some (grown held amount))
               (tallied_in key amount items) (finite.insert sessions key (grown held amount))
-              (subst (IsDistinct same_key) (sym (keys_of-tallied key amount items)) part.distinct)
-              (λ q. value_at-tallied key amount items held q is) (get-inserted sessions key (grown held amount)));
-          few = rw (length-tallied key amount items) can.few;
+              (subst (IsDistinct same_key) (sym (keys_of-changed key (λ held. grown held amount) items)) part.distinct)
+              (λ q. value_at-changed key (λ held. grown held amount) items held q is)
+              (get-inserted sessions key (grown held amount)));
+          few = rw (length-changed key (λ held. grown held amount) items) can.few;
         }
 
     tally_absent : (amount : ℕ) → value_at key items ≡ None →
@@ -178,9 +178,9 @@ module _ (rules : Rules) (prefix depth : ℕ) (items : List Pair) (sessions : Se
         let kept : get sessions key ≡ None = sym (part.same key here) ∙ none in
         record {
           reply = ap (λ o. option_map_or (sum_of amount) o Absent) (part.same key here);
-          part = moved items _ sessions _ (tallied-absent key amount items none)
+          part = moved items _ sessions _ (changed-absent key (λ held. grown held amount) items none)
               (ap (tallied sessions key amount) kept) part;
-          few = rw (length-tallied key amount items) can.few;
+          few = rw (length-changed key (λ held. grown held amount) items) can.few;
         }
 
     tally_alike : (amount : ℕ) → AnswersAlike rules prefix depth items sessions (Tally key amount)
@@ -190,6 +190,102 @@ module _ (rules : Rules) (prefix depth : ℕ) (items : List Pair) (sessions : Se
             AnswersAlike rules prefix depth items sessions (Tally key amount)
         by_value (Some held) is = tally_held amount held is
         by_value None none = tally_absent amount none
+
+    -- the same of a call that changes what is held at the key, or brings a new session to it
+    abbrev revised_items : (new : Session) (change : Session → Session) → List Pair
+    revised_items new change = revised_in items key new change (value_at key items) (has_place rules items)
+
+    abbrev revised_sessions : (new : Session) (change : Session → Session) → Sessions
+    revised_sessions new change = revised sessions key new change (get sessions key) (has_room rules sessions key)
+
+    record RevisesAlike (new : Session) (change : Session → Session) : Type 0 where
+      holds : HoldsPart rules prefix depth (revised_items new change) (revised_sessions new change)
+      few : length (revised_items new change) ≤ rules.items
+
+    revises_held : (new : Session) (change : Session → Session) (held : Session) → value_at key items ≡ Some held →
+        RevisesAlike new change
+    revises_held new change held is =
+        let kept : get sessions key ≡ Some held = sym (part.same key here) ∙ is in
+        let now_items : revised_items new change ≡ changed_in key change items =
+        ap (λ o. revised_in items key new change o (has_place rules items)) is in
+        let now_sessions : revised_sessions new change ≡ finite.insert sessions key (change held) =
+        ap (λ o. revised sessions key new change o (has_room rules sessions key)) kept in
+        record {
+          holds = moved (changed_in key change items) _ (finite.insert sessions key (change held)) _ now_items
+              now_sessions
+              (changed rules prefix depth items sessions part key here (Some (change held))
+              (changed_in key change items) (finite.insert sessions key (change held))
+              (subst (IsDistinct same_key) (sym (keys_of-changed key change items)) part.distinct)
+              (λ q. value_at-changed key change items held q is) (get-inserted sessions key (change held)));
+          few = rw (now_items, length-changed key change items) can.few;
+        }
+
+    same_items_come : (new : Session) (change : Session → Session) (b : Bool) →
+        revised_in items key new change None b ≡ appended items (pair_of (key, new)) None b
+    same_items_come new change true = refl
+    same_items_come new change false = refl
+
+    same_sessions_come : (new : Session) (change : Session → Session) (b : Bool) →
+        revised sessions key new change None b ≡ inserted sessions key new None b
+    same_sessions_come new change true = refl
+    same_sessions_come new change false = refl
+
+    revises_new : (new : Session) (change : Session → Session) → value_at key items ≡ None →
+        BringsAlike rules prefix depth items sessions key new → RevisesAlike new change
+    revises_new new change none comes =
+        let kept : get sessions key ≡ None = sym (part.same key here) ∙ none in
+        let now_items : revised_items new change ≡ items_with rules items (pair_of (key, new)) =
+        ap (λ o. revised_in items key new change o (has_place rules items)) none
+        ∙ same_items_come new change (has_place rules items)
+        ∙ sym (items_are new None (has_place rules items) none refl) in
+        let now_sessions : revised_sessions new change ≡ brought rules sessions key new =
+        ap (λ o. revised sessions key new change o (has_room rules sessions key)) kept
+        ∙ same_sessions_come new change (has_room rules sessions key)
+        ∙ sym (sessions_are new None (has_room rules sessions key) kept refl) in
+        record {
+          holds = moved (items_with rules items (pair_of (key, new))) _ (brought rules sessions key new) _ now_items
+              now_sessions comes.part;
+          few = rw now_items comes.few;
+        }
+
+    revises : (new : Session) (change : Session → Session) → is_too_many rules depth items key ≡ false →
+        RevisesAlike new change
+    revises new change fits = by_value (value_at key items) refl
+      where
+        by_value : (o : Option Session) → value_at key items ≡ o → RevisesAlike new change
+        by_value (Some held) is = revises_held new change held is
+        by_value None none = revises_new new change none (brings new fits)
+
+    -- a count's reply
+    count_reply_alike : (amount : ℕ) (o : Option Session) →
+        (o ≡ None → has_place rules items ≡ has_room rules sessions key) →
+        count_reply amount o (has_place rules items) ≡ count_reply amount o (has_room rules sessions key)
+    count_reply_alike amount (Some held) alike = refl
+    count_reply_alike amount None alike = ap (count_reply amount None) (alike refl)
+
+    count_alike : (value amount : ℕ) → overflows rules depth items (Count key value amount) ≡ false →
+        AnswersAlike rules prefix depth items sessions (Count key value amount)
+    unfolding reply_in items_after reply_of map_after overflows
+    count_alike value amount fits =
+        let both = revises (counted_session value amount) (λ held. grown held amount) fits in
+        record {
+          reply = count_reply_alike amount (value_at key items) (alike_room fits)
+              ∙ ap (λ o. count_reply amount o (has_room rules sessions key)) (part.same key here);
+          part = both.holds;
+          few = both.few;
+        }
+
+    put_alike : (value : ℕ) → overflows rules depth items (Put key value) ≡ false →
+        AnswersAlike rules prefix depth items sessions (Put key value)
+    unfolding reply_in items_after reply_of map_after overflows
+    put_alike value fits =
+        let both = revises (new_session value) (λ held. revalued held value) fits in
+        record {
+          reply = insert_reply_alike (value_at key items) (alike_room fits)
+              ∙ ap (λ o. insert_reply o (has_room rules sessions key)) (part.same key here);
+          part = both.holds;
+          few = both.few;
+        }
 
   -- a session that comes to a key of another prefix
   stays-brought : prefix_of rules depth key ≢ prefix → (new : Session) →
@@ -233,6 +329,29 @@ module _ (rules : Rules) (prefix depth : ℕ) (items : List Pair) (sessions : Se
           elsewhere rules prefix depth items sessions part key away (Some (grown held amount))
           (finite.insert sessions key (grown held amount)) (get-inserted sessions key (grown held amount))
 
+  -- a count or a put of another prefix
+  stays-revised : prefix_of rules depth key ≢ prefix → (new : Session) (change : Session → Session)
+      (o : Option Session) (b : Bool) → HoldsPart rules prefix depth items (revised sessions key new change o b)
+  stays-revised away new change (Some held) b =
+      elsewhere rules prefix depth items sessions part key away (Some (change held))
+      (finite.insert sessions key (change held)) (get-inserted sessions key (change held))
+  stays-revised away new change None true =
+      elsewhere rules prefix depth items sessions part key away (Some new) (finite.insert sessions key new)
+      (get-inserted sessions key new)
+  stays-revised away new change None false = part
+
+  stays-Count : prefix_of rules depth key ≢ prefix → (value amount : ℕ) →
+      HoldsPart rules prefix depth items (map_after rules sessions (Count key value amount))
+  unfolding map_after
+  stays-Count away value amount = stays-revised away (counted_session value amount) (λ held. grown held amount)
+      (get sessions key) (has_room rules sessions key)
+
+  stays-Put : prefix_of rules depth key ≢ prefix → (value : ℕ) →
+      HoldsPart rules prefix depth items (map_after rules sessions (Put key value))
+  unfolding map_after
+  stays-Put away value = stays-revised away (new_session value) (λ held. revalued held value) (get sessions key)
+      (has_room rules sessions key)
+
 -- the items of a bucket answer as the plain object does
 pub local_answers : LocalAnswers
 local_answers rules prefix depth items sessions (Insert key value) can part here fits =
@@ -243,6 +362,10 @@ local_answers rules prefix depth items sessions (Lookup key) can part here fits 
     lookup_alike rules prefix depth items sessions part key can here
 local_answers rules prefix depth items sessions (Tally key amount) can part here fits =
     tally_alike rules prefix depth items sessions part key can here amount
+local_answers rules prefix depth items sessions (Count key value amount) can part here fits =
+    count_alike rules prefix depth items sessions part key can here value amount fits
+local_answers rules prefix depth items sessions (Put key value) can part here fits =
+    put_alike rules prefix depth items sessions part key can here value fits
 
 -- a call leaves the other parts as they are
 pub other_parts_stay : OtherPartsStay
@@ -254,14 +377,19 @@ other_parts_stay rules prefix depth items sessions (Lookup key) part away =
     stays-Lookup rules prefix depth items sessions part key
 other_parts_stay rules prefix depth items sessions (Tally key amount) part away =
     stays-Tally rules prefix depth items sessions part key away amount
+other_parts_stay rules prefix depth items sessions (Count key value amount) part away =
+    stays-Count rules prefix depth items sessions part key away value amount
+other_parts_stay rules prefix depth items sessions (Put key value) part away =
+    stays-Put rules prefix depth items sessions part key away value
 
 -- a bucket takes a session that comes to a key, as the map does
 pub brings_alike : (rules : Rules) (prefix depth : ℕ) (items : List Pair) (sessions : Sessions) (key : Key)
     (value : ℕ) (new : Session) → CanAnswer rules depth items → HoldsPart rules prefix depth items sessions →
     prefix_of rules depth key ≡ prefix → overflows rules depth items (Insert key value) ≡ false →
     BringsAlike rules prefix depth items sessions key new
+unfolding overflows
 brings_alike rules prefix depth items sessions key value new can part here fits =
-    brings rules prefix depth items sessions part key can here value new fits
+    brings rules prefix depth items sessions part key can here new fits
 
 -- and the other buckets keep theirs
 pub brought_elsewhere : (rules : Rules) (prefix depth : ℕ) (items : List Pair) (sessions : Sessions) (key : Key)

@@ -6,7 +6,7 @@ use Rattle.std.specs.Option.{MatchOption}
 use Rattle.std.proofs.lemmas.Bool.Decides.{nat_tests}
 use Rattle.plain_map.specs.declared.keys.Key.{Key}
 use Rattle.plain_map.specs.declared.keys.Pair.{Pair}
-use Rattle.bucket_states.specs.Items.{same_key, value_at, tallied_in, with_more, without}
+use Rattle.bucket_states.specs.Items.{same_key, value_at, changed_in, with_change, without}
 use Rattle.plain_map.specs.Keys.{held_in}
 use Rattle.bucket_states.specs.Places.{IsPlaceOf}
 
@@ -29,7 +29,7 @@ module _ (key : Key) where
     in_range = omega arith;
     value = λ d. ap (λ b. cond b (Some (held_in pair)) (value_at key pairs)) is;
     rest = ap (λ b. cond b pairs (pair ∷ without key pairs)) is;
-    more = λ d amount. ap (λ b. cond b (with_more pair amount ∷ pairs) (pair ∷ tallied_in key amount pairs)) is;
+    other = λ d change. ap (λ b. cond b (with_change change pair ∷ pairs) (pair ∷ changed_in key change pairs)) is;
   }
 
   later : (pair : Pair) (pairs : List Pair) (at : ℕ) → has pair ≡ false → IsPlaceOf key pairs at →
@@ -38,9 +38,9 @@ module _ (key : Key) where
     in_range = omega (arith, there.in_range);
     value = λ d. ap (λ b. cond b (Some (held_in pair)) (value_at key pairs)) not_here ∙ there.value d;
     rest = ap (λ b. cond b pairs (pair ∷ without key pairs)) not_here ∙ ap (λ ps. pair ∷ ps) there.rest;
-    more = λ d amount.
-        ap (λ b. cond b (with_more pair amount ∷ pairs) (pair ∷ tallied_in key amount pairs)) not_here
-        ∙ ap (λ ps. pair ∷ ps) (there.more d amount);
+    other = λ d change.
+        ap (λ b. cond b (with_change change pair ∷ pairs) (pair ∷ changed_in key change pairs)) not_here
+        ∙ ap (λ ps. pair ∷ ps) (there.other d change);
   }
 
   none_later : (pair : Pair) (pairs : List Pair) → has pair ≡ false → value_at key pairs ≡ None →

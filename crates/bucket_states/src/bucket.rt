@@ -32,7 +32,7 @@ pub struct Bucket {
     /// In the order in which they came.
     pub items: Vec<Pair>,
     /// For each seat the number of its last update that is in here, 0 for none.
-    pub applied: Vec<u32>,
+    pub applied: Vec<u64>,
     /// For each seat the answer to that update.
     pub replies: Vec<Option<Reply>>,
 }

@@ -2,8 +2,10 @@
 
 ghost use Rattle.std.specs.Prelude.{◌≡◌, ℕ, ◌≤◌, None, Some, vec_capacity, MatchOption};
 ghost use Rattle.std.specs.List.{position};
-ghost use Rattle.plain_map.specs.declared.calls.Call.TheVariants.{Insert, Remove, Tally};
-ghost use Rattle.bucket_states.specs.Places.{IsPlaceOf, IsAnswer};
+ghost use Rattle.plain_map.specs.declared.calls.Call.TheVariants.{Insert, Remove, Tally, Count, Put};
+ghost use Rattle.plain_map.specs.Keys.{pair_of};
+ghost use Rattle.plain_map.specs.PlainObject.{counted_session};
+ghost use Rattle.bucket_states.specs.Places.{IsPlaceOf, IsAnswer, IsBrought};
 ghost use Rattle.bucket_states.specs.Items.{same_key, reply_in, value_at};
 
 use plain_map::{Call, Key, Pair, Reply, Rules, add_bytes};
@@ -29,16 +31,35 @@ pub(crate) fn reply(items: &[Pair], rules: &Rules, call: &Call) -> Reply
 {
     match (call, place_of(items, call.key())) {
         (Call::Insert(_, _), Some(at)) => Reply::Old(items[at].value),
-        (Call::Insert(_, _), None) if items.len() < rules.items as usize => Reply::New,
-        (Call::Insert(_, _), None) => Reply::NoRoom,
+        (Call::Put(_, _), Some(at)) => Reply::Old(items[at].value),
         (Call::Remove(_), Some(at)) => Reply::Gone(items[at].value),
         (Call::Lookup(_), Some(at)) => Reply::Found(items[at].value),
         (Call::Tally(_, amount), Some(at)) => Reply::Sum(add_bytes(items[at].bytes, *amount)),
-        (_, None) => Reply::Absent,
+        (Call::Count(_, _, amount), Some(at)) => Reply::Sum(add_bytes(items[at].bytes, *amount)),
+        (Call::Remove(_) | Call::Lookup(_) | Call::Tally(_, _), None) => Reply::Absent,
+        (_, None) if items.len() < rules.items as usize => Reply::New,
+        (_, None) => Reply::NoRoom,
     }
 }
 
 // Takes a new pair, or answers why it does not. `None` is for a bucket that has to be split first.
+fn bring(items: &mut Vec<Pair>, rules: &Rules, depth: u32, pair: Pair) -> Option<Reply>
+    requires room { rules.now.items ≤ vec_capacity items.old }
+    ensures brought { IsBrought rules.now depth items.old.items pair items.new.items result }
+    ensures room { vec_capacity items.new ≡ vec_capacity items.old }
+{
+    if items.len() < rules.items as usize {
+        items.push_reserved(pair);
+        return Some(Reply::New);
+    }
+    if depth < rules.depth {
+        None
+    } else {
+        Some(Reply::NoRoom)
+    }
+}
+
+// Takes a new pair, or answers what the key has.
 fn insert(items: &mut Vec<Pair>, rules: &Rules, depth: u32, pair: Pair) -> Option<Reply>
     requires room { rules.now.items ≤ vec_capacity items.old }
     requires begins { pair.bytes ≡ 0 }
@@ -47,12 +68,41 @@ fn insert(items: &mut Vec<Pair>, rules: &Rules, depth: u32, pair: Pair) -> Optio
 {
     match place_of(items, &pair.key) {
         Some(at) => Some(Reply::Old(items[at].value)),
-        None if items.len() < rules.items as usize => {
-            items.push_reserved(pair);
-            Some(Reply::New)
+        None => bring(items, rules, depth, pair),
+    }
+}
+
+// Takes a new pair, or adds its bytes to the key's.
+fn count(items: &mut Vec<Pair>, rules: &Rules, depth: u32, pair: Pair) -> Option<Reply>
+    requires room { rules.now.items ≤ vec_capacity items.old }
+    ensures answer { IsAnswer rules.now depth items.old.items (Count pair.key pair.value pair.bytes) items.new.items
+        result }
+    ensures room { vec_capacity items.new ≡ vec_capacity items.old }
+{
+    match place_of(items, &pair.key) {
+        Some(at) => {
+            let bytes = add_bytes(items[at].bytes, pair.bytes);
+            items[at].bytes = bytes;
+            Some(Reply::Sum(bytes))
         }
-        None if depth < rules.depth => None,
-        None => Some(Reply::NoRoom),
+        None => bring(items, rules, depth, pair),
+    }
+}
+
+// Takes a new pair, or gives the key the pair's value.
+fn put(items: &mut Vec<Pair>, rules: &Rules, depth: u32, pair: Pair) -> Option<Reply>
+    requires room { rules.now.items ≤ vec_capacity items.old }
+    requires begins { pair.bytes ≡ 0 }
+    ensures answer { IsAnswer rules.now depth items.old.items (Put pair.key pair.value) items.new.items result }
+    ensures room { vec_capacity items.new ≡ vec_capacity items.old }
+{
+    match place_of(items, &pair.key) {
+        Some(at) => {
+            let old = items[at].value;
+            items[at].value = pair.value;
+            Some(Reply::Old(old))
+        }
+        None => bring(items, rules, depth, pair),
     }
 }
 
@@ -84,6 +134,17 @@ fn tally(items: &mut Vec<Pair>, key: &Key, amount: u64) -> Reply
     }
 }
 
+// The pair of a key, a value and bytes.
+fn pair_of(key: &Key, value: u64, bytes: u64) -> Pair
+    ensures { result ≡ pair_of (key.now, counted_session value bytes) }
+{
+    Pair {
+        key: *key,
+        value,
+        bytes,
+    }
+}
+
 // The answer to a call, with the change that it makes. `None` is for a bucket that has to be split first.
 pub(crate) fn answer(items: &mut Vec<Pair>, rules: &Rules, depth: u32, call: &Call) -> Option<Reply>
     requires { rules.now.items ≤ vec_capacity items.old }
@@ -91,16 +152,11 @@ pub(crate) fn answer(items: &mut Vec<Pair>, rules: &Rules, depth: u32, call: &Ca
     ensures room { vec_capacity items.new ≡ vec_capacity items.old }
 {
     match call {
-        Call::Insert(key, value) => insert(
-            items,
-            rules,
-            depth,
-            Pair {
-                key: *key,
-                value: *value,
-                bytes: 0,
-            },
-        ),
+        Call::Insert(key, value) => insert(items, rules, depth, pair_of(key, *value, 0)),
+        Call::Count(key, value, amount) => {
+            count(items, rules, depth, pair_of(key, *value, *amount))
+        }
+        Call::Put(key, value) => put(items, rules, depth, pair_of(key, *value, 0)),
         Call::Remove(key) => Some(remove(items, key)),
         Call::Tally(key, amount) => Some(tally(items, key, *amount)),
         Call::Lookup(key) => match place_of(items, key) {

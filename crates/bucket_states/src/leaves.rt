@@ -34,13 +34,13 @@ impl Bucket {
         prefix_of(rules, self.depth, key) == self.prefix
     }
 
-    /// Whether the call inserts a new key where there is no place, and the bucket can still be split.
+    /// Whether the call brings a new key where there is no place, and the bucket can still be split.
     #[tactic(auto, using(std::proofs::lemmas::Bool::Decides::nat_tests), unfolding(crate::specs::Items::overflows))]
     pub fn overflows(&self, rules: &Rules, call: &Call) -> bool
         ensures { result ≡ overflows rules.now self.now.depth self.now.items.items call.now }
     {
         match call {
-            Call::Insert(key, _) => {
+            Call::Insert(key, _) | Call::Count(key, _, _) | Call::Put(key, _) => {
                 self.find(key).is_none()
                     && self.items.len() >= rules.items as usize
                     && self.depth < rules.depth

@@ -6,7 +6,7 @@ use Rattle.std.proofs.KnownBytes.{Appends-trans, Appends-nil, Consumes-nil}
 use Rattle.edge_traits.specs.Edge.{AppendsFront}
 use Rattle.pcapng_reader.specs.Reading.{Reading}
 use Rattle.pcapng_reader.proofs.ReadFacts.{read_longer}
-use Rattle.report_text.specs.declared.parts.Ending.{Ending}
+use Rattle.capture_faults.specs.declared.ending.Ending.{Ending}
 use Rattle.capture_loop.specs.declared.stop.Stop.{Stop}
 use Rattle.capture_loop.specs.declared.stop.Stop.TheVariants.{Memory, NotPut}
 use Rattle.capture_loop.specs.Input.{Begins, IsFirst, packet_limit}
@@ -174,20 +174,20 @@ HaveFirst-none link first =
 
 -- ---- what is left
 
-module _ (size : ℕ) (lines : Lines) (report : Reports) (read_failed : Type 0) (link : ℕ)
+module _ (size : ℕ) (lines : Lines) (report : Reports) (can_end : Ending → Type 0) (link : ℕ)
     (first left before after : Option (List ℕ)) where
   -- nothing was put
   pub leaves_nothing : Keeps before after →
-      LoopLeavesAll size lines report read_failed link first left before after (Err Memory)
+      LoopLeavesAll size lines report can_end link first left before after (Err Memory)
   leaves_nothing kept =
       record { told = λ bytes told. inl kept; took = (first, ([], Consumes-nil first, inl kept)) }
 
   module _ (packets : List (List ℕ)) (batches : List (List (List ℕ))) (ending : Ending) (text : List ℕ)
       (ended : HaveEnded packet_limit link first left packets ending) (cut : AreBatches size packets batches)
-      (met : IsMet read_failed ending) where
+      (met : IsMet can_end ending) where
     -- the whole report was put
     pub leaves_whole : report batches ending text → Appends before after text →
-        LoopLeavesAll size lines report read_failed link first left before after (Ok ending)
+        LoopLeavesAll size lines report can_end link first left before after (Ok ending)
     leaves_whole is put =
         record {
           told = λ bytes told. (met, (text, (packets, ended.told bytes told, (batches, cut, is)), put));
@@ -196,7 +196,7 @@ module _ (size : ℕ) (lines : Lines) (report : Reports) (read_failed : Type 0) 
 
     -- or a front of it
     pub leaves_front : report batches ending text → AppendsFront before after text →
-        LoopLeavesAll size lines report read_failed link first left before after (Err NotPut)
+        LoopLeavesAll size lines report can_end link first left before after (Err NotPut)
     leaves_front is put =
         record {
           told = λ bytes told. inl (ending, met, (text, (packets, ended.told bytes told, (batches, cut, is)), put));
@@ -209,7 +209,7 @@ module _ (size : ℕ) (lines : Lines) (report : Reports) (read_failed : Type 0) 
 
     -- or the lines of all batches
     pub leaves_less : lines batches text → Keeps before after ⊎ Appends before after text →
-        LoopLeavesAll size lines report read_failed link first left before after (Err Memory)
+        LoopLeavesAll size lines report can_end link first left before after (Err Memory)
     leaves_less is (inl kept) = leaves_nothing kept
     leaves_less is (inr put) =
         record {
@@ -229,7 +229,7 @@ module _ (size : ℕ) (lines : Lines) (report : Reports) (read_failed : Type 0) 
   pub leaves_before : (packets : List (List ℕ)) (batches : List (List (List ℕ))) (text : List ℕ) →
       HaveFirst link first packets → AreWhole size packets batches → lines batches text →
       Keeps before after ⊎ Appends before after text →
-      LoopLeavesAll size lines report read_failed link first left before after (Err Memory)
+      LoopLeavesAll size lines report can_end link first left before after (Err Memory)
   leaves_before packets batches text firsts whole is (inl kept) = leaves_nothing kept
   leaves_before packets batches text firsts whole is (inr put) =
       record {
@@ -243,7 +243,7 @@ module _ (size : ℕ) (lines : Lines) (report : Reports) (read_failed : Type 0) 
       (text : List ℕ) (come : HaveCome link first left reading packets) (few : length packets ≤ packet_limit)
       (whole : AreWhole size packets batches) (is : lines batches text) where
     pub leaves_some : AppendsFront before after text →
-        LoopLeavesAll size lines report read_failed link first left before after (Err NotPut)
+        LoopLeavesAll size lines report can_end link first left before after (Err NotPut)
     leaves_some put =
         record {
           told = λ bytes told.
@@ -268,29 +268,29 @@ module _ (size : ℕ) (lines : Lines) (report : Reports) (read_failed : Type 0) 
   -- a run that stops for want of memory
   pub leaves_memory : (result : Result Ending Stop) →
       IsErr result × IsErrAnd result (λ (stop : Stop). stop ≡ Memory) →
-      LoopLeavesAll size lines report read_failed link first left before after (Err Memory) →
-      LoopLeavesAll size lines report read_failed link first left before after result
+      LoopLeavesAll size lines report can_end link first left before after (Err Memory) →
+      LoopLeavesAll size lines report can_end link first left before after result
   leaves_memory (Ok ending) is leaves = absurd (cc)
   leaves_memory (Err stop) is leaves =
-      subst (λ (s : Stop). LoopLeavesAll size lines report read_failed link first left before after (Err s)) (sym is.1)
+      subst (λ (s : Stop). LoopLeavesAll size lines report can_end link first left before after (Err s)) (sym is.1)
       leaves
 
   -- and one that stops since a write failed
   pub leaves_not_put : (result : Result Ending Stop) →
       IsErr result × IsErrAnd result (λ (stop : Stop). stop ≡ NotPut) →
-      LoopLeavesAll size lines report read_failed link first left before after (Err NotPut) →
-      LoopLeavesAll size lines report read_failed link first left before after result
+      LoopLeavesAll size lines report can_end link first left before after (Err NotPut) →
+      LoopLeavesAll size lines report can_end link first left before after result
   leaves_not_put (Ok ending) is leaves = absurd (cc)
   leaves_not_put (Err stop) is leaves =
-      subst (λ (s : Stop). LoopLeavesAll size lines report read_failed link first left before after (Err s)) (sym is.1)
+      subst (λ (s : Stop). LoopLeavesAll size lines report can_end link first left before after (Err s)) (sym is.1)
       leaves
 
   -- a run that stops leaves what it leaves where a write failed, and where memory ran out
   pub leaves_stop : (stop : Stop) (A B : Type 0) →
       OnNotPut {T = Unit {0}} (Err stop) A → OnMemory {T = Unit {0}} (Err stop) B →
-      (A → LoopLeavesAll size lines report read_failed link first left before after (Err NotPut)) →
-      (B → LoopLeavesAll size lines report read_failed link first left before after (Err Memory)) →
-      LoopLeavesAll size lines report read_failed link first left before after (Err stop)
+      (A → LoopLeavesAll size lines report can_end link first left before after (Err NotPut)) →
+      (B → LoopLeavesAll size lines report can_end link first left before after (Err Memory)) →
+      LoopLeavesAll size lines report can_end link first left before after (Err stop)
   leaves_stop Memory A B a b on_a on_b = on_b b
   leaves_stop NotPut A B a b on_a on_b = on_a a
 

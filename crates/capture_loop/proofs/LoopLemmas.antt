@@ -5,10 +5,10 @@ use Rattle.std.specs.Io.KnownBytes.{Appends}
 use Rattle.std.proofs.KnownBytes.{Appends-trans}
 use Rattle.edge_traits.specs.Edge.{AppendsFront}
 use Rattle.edge_traits.proofs.EdgeLemmas.{AppendsFront-longer}
-use Rattle.report_text.specs.declared.parts.Ending.{Ending}
+use Rattle.capture_faults.specs.declared.ending.Ending.{Ending}
 use Rattle.capture_loop.specs.declared.stop.Stop.{Stop}
 use Rattle.capture_loop.specs.declared.stop.Stop.TheVariants.{Memory, NotPut}
-use Rattle.report_text.specs.declared.parts.Ending.TheVariants.{Done, ReadFault, Limit, Fault}
+use Rattle.capture_faults.specs.declared.ending.Ending.TheVariants.{Done, ReadFault, Limit, Fault}
 use Rattle.capture_loop.specs.Endings.{HasFailed, OnLimit}
 use Rattle.capture_loop.specs.Input.{packet_limit}
 use Rattle.pcapng_reader.specs.Reading.{Reading}
@@ -38,41 +38,41 @@ none_whole size all (batch ∷ batches) some whole none =
 no_packets : (last : List (List ℕ)) → last ≡ [] → length last ≡ 0
 no_packets last none = ap length none
 
-module _ (size : ℕ) (lines : Lines) (report : Reports) (read_failed : Type 0) (link : ℕ)
+module _ (size : ℕ) (lines : Lines) (report : Reports) (can_end : Ending → Type 0) (link : ℕ)
     (first left before : Option (List ℕ))
     (all : List (List ℕ)) (batches : List (List (List ℕ))) (ending : Ending)
     (ended : HaveEnded packet_limit link first left all ending) (cut : AreBatches size all batches)
-    (met : IsMet read_failed ending) where
+    (met : IsMet can_end ending) where
   -- the last lines could not be made
   pub end_memory : (now : Option (List ℕ)) (held done : List ℕ) → HasPut before now held done → lines batches done →
-      LoopLeavesAll size lines report read_failed link first left before now (Err Memory)
+      LoopLeavesAll size lines report can_end link first left before now (Err Memory)
   end_memory now held done put is =
-      leaves_less size lines report read_failed link first left before now all batches ending done ended cut met is
+      leaves_less size lines report can_end link first left before now all batches ending done ended cut met is
       (HasPut-kept before now held done put)
 
   -- or not be put
   pub end_front : (mid after : Option (List ℕ)) (held done rest text : List ℕ) → HasPut before mid held done →
       text ≡ held ++ rest → report batches ending (done ++ rest) → AppendsFront mid after text →
-      LoopLeavesAll size lines report read_failed link first left before after (Err NotPut)
+      LoopLeavesAll size lines report can_end link first left before after (Err NotPut)
   end_front mid after held done rest text put is reported front =
-      leaves_front size lines report read_failed link first left before after all batches ending (done ++ rest) ended
+      leaves_front size lines report can_end link first left before after all batches ending (done ++ rest) ended
       cut met
       reported (HasPut-cut before mid after held done rest put (subst (AppendsFront mid after) is front))
 
   pub end_whole : (mid after : Option (List ℕ)) (held done rest text : List ℕ) → HasPut before mid held done →
       text ≡ held ++ rest → report batches ending (done ++ rest) → Appends mid after text →
-      LoopLeavesAll size lines report read_failed link first left before after (Ok ending)
+      LoopLeavesAll size lines report can_end link first left before after (Ok ending)
   end_whole mid after held done rest text put is reported appended =
-      leaves_whole size lines report read_failed link first left before after all batches ending (done ++ rest) ended
+      leaves_whole size lines report can_end link first left before after all batches ending (done ++ rest) ended
       cut met
       reported (Appends-more before mid after held done rest put (subst (Appends mid after) is appended))
 
   -- the lines of the last batch could not be put
   pub last_front : (after : Option (List ℕ)) (done : List ℕ) →
       ((rest : List ℕ) × report batches ending (done ++ rest)) → AppendsFront before after done →
-      LoopLeavesAll size lines report read_failed link first left before after (Err NotPut)
+      LoopLeavesAll size lines report can_end link first left before after (Err NotPut)
   last_front after done more front =
-      leaves_front size lines report read_failed link first left before after all batches ending (done ++ more.0)
+      leaves_front size lines report can_end link first left before after all batches ending (done ++ more.0)
       ended cut
       met
       more.1 (AppendsFront-longer before after done more.0 front)
@@ -99,14 +99,14 @@ whole_cut size all batches whole large some = choose (AreBatches-whole size all 
     choose (inr cut) = cut
 
 -- the last batch could not be served
-pub last_memory : (size : ℕ) (lines : Lines) (report : Reports) (read_failed : Type 0)
+pub last_memory : (size : ℕ) (lines : Lines) (report : Reports) (can_end : Ending → Type 0)
     (served : List (List (List ℕ)) → List ℕ → Type 0) (link : ℕ) (first left : Option (List ℕ)) (many : ℕ)
     (all : List (List ℕ))
     (before now : Option (List ℕ)) (held : List ℕ) → (stands : Stands size served link first many all before now held) →
-    lines stands.batches stands.text → LoopLeavesAll size lines report read_failed link first left before now
+    lines stands.batches stands.text → LoopLeavesAll size lines report can_end link first left before now
     (Err Memory)
-last_memory size lines report read_failed served link first left many all before now held stands is =
-    leaves_before size lines report read_failed link first left before now all stands.batches stands.text stands.firsts
+last_memory size lines report can_end served link first left many all before now held stands is =
+    leaves_before size lines report can_end link first left before now all stands.batches stands.text stands.firsts
     stands.whole is (HasPut-kept before now held stands.text stands.put)
 
 -- ---- a choice

@@ -17,9 +17,9 @@ use Rattle.pcapng_reader.specs.Reading.{Answers, Form, GivesPacket, HasRead, IsA
 use Rattle.pcapng_reader.proofs.AnswerFacts.{no_capture_fault}
 use Rattle.pcapng_reader.proofs.InputFacts.{input_refused}
 use Rattle.pcapng_reader.proofs.ReadFacts.{read_longer, read_more, read_start, read_starts}
-use Rattle.report_text.specs.Report.{IsEnding}
-use Rattle.report_text.specs.declared.parts.Ending.{Ending}
-use Rattle.report_text.specs.declared.parts.Ending.TheVariants.{Done, ReadFault, Limit, Fault}
+use Rattle.capture_faults.specs.Endings.{IsEnding}
+use Rattle.capture_faults.specs.declared.ending.Ending.{Ending}
+use Rattle.capture_faults.specs.declared.ending.Ending.TheVariants.{Done, ReadFault, Limit, Fault}
 use Rattle.list_laws.proofs.Options.{some_same}
 use Rattle.capture_loop.specs.Endings.{ending_at, ending_of, OnLimit}
 use Rattle.capture_loop.specs.Input.{ServesUpTo, StopsAt}

@@ -11,8 +11,8 @@ use Rattle.pcapng_reader.specs.Laws.{HasInput, HoldsFront, Reaches}
 use Rattle.pcapng_reader.specs.Reading.{Form, GivesPacket, HasRead, IsOpened, MeetsEnding, OfBlocks, OfRecords, Reading, beyond, head_length}
 use Rattle.pcapng_reader.proofs.InputFacts.{input_refused, no_pcapng}
 use Rattle.pcapng_reader.proofs.ReadFacts.{end_few, reaches_read, read_ends, read_faults, read_few, read_longer, read_more, record_few}
-use Rattle.report_text.specs.declared.parts.Ending.{Ending}
-use Rattle.report_text.specs.declared.parts.Ending.TheVariants.{Done, ReadFault, Limit, Fault}
+use Rattle.capture_faults.specs.declared.ending.Ending.{Ending}
+use Rattle.capture_faults.specs.declared.ending.Ending.TheVariants.{Done, ReadFault, Limit, Fault}
 use Rattle.capture_loop.specs.Input.{Begins, IsFirst, MayFollow, ServesUpTo, TakesFew, packet_limit}
 
 -- A reader met this ending, of these bytes that were taken of its source, which then had the others left.

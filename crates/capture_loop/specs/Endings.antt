@@ -4,8 +4,8 @@ use Rattle.edge_traits.specs.Edge.{count_after}
 use Rattle.capture_faults.specs.declared.fault.CaptureFault.TheVariants as capture
 use Rattle.capture_faults.specs.declared.any_fault.AnyFault.{AnyFault}
 use Rattle.capture_faults.specs.declared.any_fault.AnyFault.TheVariants as fault
-use Rattle.report_text.specs.declared.parts.Ending.{Ending}
-use Rattle.report_text.specs.declared.parts.Ending.TheVariants.{Done, ReadFault, Limit, Fault}
+use Rattle.capture_faults.specs.declared.ending.Ending.{Ending}
+use Rattle.capture_faults.specs.declared.ending.Ending.TheVariants.{Done, ReadFault, Limit, Fault}
 use Rattle.capture_loop.specs.declared.opening.Unopened.{Unopened}
 use Rattle.capture_loop.specs.declared.opening.Unopened.TheVariants.{Memory, Ends}
 

@@ -8,8 +8,8 @@ use Rattle.capture_faults.specs.declared.any_fault.AnyFault.TheVariants.{Capture
 use Rattle.pcapng_reader.specs.Input.{Input}
 use Rattle.pcapng_reader.specs.Laws.{Reaches, StartsAt}
 use Rattle.pcapng_reader.specs.Reading.{Form, OfBlocks, OfRecords, beyond}
-use Rattle.report_text.specs.declared.parts.Ending.{Ending}
-use Rattle.report_text.specs.declared.parts.Ending.TheVariants.{Done, ReadFault, Limit, Fault}
+use Rattle.capture_faults.specs.declared.ending.Ending.{Ending}
+use Rattle.capture_faults.specs.declared.ending.Ending.TheVariants.{Done, ReadFault, Limit, Fault}
 
 -- how many packets a run serves at most
 abbrev pub packet_limit : ℕ

@@ -4,8 +4,8 @@ use Rattle.std.specs.Prelude.{◌≡◌, ◌⊎◌, ℕ, List, [], Option, Some,
 use Rattle.std.specs.Io.KnownBytes.{Appends, Keeps}
 use Rattle.edge_traits.specs.Edge.{AppendsFront, count_after}
 use Rattle.pcap_reader.specs.Reading.{Took}
-use Rattle.report_text.specs.declared.parts.Ending.{Ending}
-use Rattle.report_text.specs.declared.parts.Ending.TheVariants.{Done, Fault, Limit, ReadFault}
+use Rattle.capture_faults.specs.declared.ending.Ending.{Ending}
+use Rattle.capture_faults.specs.declared.ending.Ending.TheVariants.{Done, Fault, Limit, ReadFault}
 use Rattle.capture_loop.specs.Endings.{HasFailed}
 use Rattle.capture_loop.specs.declared.stop.Stop.{Stop}
 use Rattle.capture_loop.specs.declared.stop.Stop.TheVariants.{Memory, NotPut}
@@ -50,9 +50,13 @@ PutsFront before after IsText = (text : List ℕ) × IsText text × AppendsFront
 abbrev pub PutsWhole : (before after : Option (List ℕ)) → (List ℕ → Type 0) → Type 0
 PutsWhole before after IsText = (text : List ℕ) × IsText text × Appends before after text
 
--- an ending that can be told of a run: a failed read only where one failed
-abbrev pub IsMet : (read_failed : Type 0) → Ending → Type 0
-IsMet read_failed ending = ending ≡ ReadFault → read_failed
+-- the ending of a run before which so many reads had failed, and so many now: a failed read exactly where one failed
+abbrev pub EndsBy : (before now : ℕ) → Ending → Type 0
+EndsBy before now ending = HasFailed (Some ending) before now
+
+-- an ending that can be told of a run
+abbrev pub IsMet : (can_end : Ending → Type 0) → Ending → Type 0
+IsMet can_end ending = can_end ending
 
 -- The whole report was put, with this ending.
 abbrev pub PutsInput : (size : ℕ) → ℕ → Reports → List ℕ → Option (List ℕ) → Option (List ℕ) → Option (List ℕ) →
@@ -61,37 +65,35 @@ PutsInput size link report bytes left before after ending = PutsWhole before aft
     (ReportsInput size link report bytes left ending)
 
 -- A front of the report was put, where the ending is known, and otherwise of the lines of the batches so far.
-abbrev pub PutsSome : (size : ℕ) → ℕ → Lines → Reports → Type 0 → List ℕ → Option (List ℕ) → Option (List ℕ) → Option
-    (List ℕ) →
-    Type 0
-PutsSome size link lines report read_failed bytes left before after =
-    ((ending : Ending) × IsMet read_failed ending × PutsFront before after
+abbrev pub PutsSome : (size : ℕ) → ℕ → Lines → Reports → (can_end : Ending → Type 0) → List ℕ →
+    (left before after : Option (List ℕ)) → Type 0
+PutsSome size link lines report can_end bytes left before after =
+    ((ending : Ending) × IsMet can_end ending × PutsFront before after
     (ReportsInput size link report bytes left ending))
     ⊎ ((packets : List (List ℕ)) × Begins link bytes left packets × PutsFront before after
     (IsLoopFront size lines packets))
 
 -- Where memory ran out, nothing was put, or the lines of all batches of an input whose ending is known, or the lines of
 -- the batches so far. More of the input may have been read.
-abbrev pub PutsLess : (size : ℕ) → ℕ → Lines → Type 0 → List ℕ → Option (List ℕ) → Option (List ℕ) → Option (List ℕ) →
-    Type 0
-PutsLess size link lines read_failed bytes left before after =
+abbrev pub PutsLess : (size : ℕ) → ℕ → Lines → (can_end : Ending → Type 0) → List ℕ →
+    (left before after : Option (List ℕ)) → Type 0
+PutsLess size link lines can_end bytes left before after =
     Keeps before after
-    ⊎ (((ending : Ending) × IsMet read_failed ending × PutsWhole before after
+    ⊎ (((ending : Ending) × IsMet can_end ending × PutsWhole before after
     (TellsInput size link lines bytes left ending))
     ⊎ ((packets : List (List ℕ)) × IsFirst link bytes packets × PutsWhole before after
     (IsLoopFront size lines packets)))
 
 -- What a run leaves that ended so: of the input's bytes these are left, and the sink had taken `before` and has taken
 -- `after`.
-abbrev pub Leaves : (size : ℕ) → ℕ → Lines → Reports → Type 0 → List ℕ → Option (List ℕ) → Option (List ℕ) → Option
-    (List ℕ) →
-    Result Ending Stop → Type 0
-Leaves size link lines report read_failed bytes left before after (Ok ending) =
-    IsMet read_failed ending × PutsInput size link report bytes left before after ending
-Leaves size link lines report read_failed bytes left before after (Err NotPut) =
-    PutsSome size link lines report read_failed bytes left before after
-Leaves size link lines report read_failed bytes left before after (Err Memory) =
-    PutsLess size link lines read_failed bytes left before after
+abbrev pub Leaves : (size : ℕ) → ℕ → Lines → Reports → (can_end : Ending → Type 0) → List ℕ →
+    (left before after : Option (List ℕ)) → Result Ending Stop → Type 0
+Leaves size link lines report can_end bytes left before after (Ok ending) =
+    IsMet can_end ending × PutsInput size link report bytes left before after ending
+Leaves size link lines report can_end bytes left before after (Err NotPut) =
+    PutsSome size link lines report can_end bytes left before after
+Leaves size link lines report can_end bytes left before after (Err Memory) =
+    PutsLess size link lines can_end bytes left before after
 
 -- a fact of what was taken of a source; where memory ran out, of what had been taken at some moment of the run
 abbrev pub TookFor : Result Ending Stop → (first left : Option (List ℕ)) → (List ℕ → Type 0) → Type 0
@@ -102,12 +104,12 @@ TookFor (Err Memory) first left P = (between : Option (List ℕ)) × Took first 
 -- So it is for the bytes of a source, where they are told, and for those that were taken of it, as of a source that
 -- told just these: so these decide which answer it is. Of a source that tells nothing the second fact says only that
 -- there are some such bytes.
-pub record LoopLeavesAll (size : ℕ) (lines : Lines) (report : Reports) (read_failed : Type 0)
+pub record LoopLeavesAll (size : ℕ) (lines : Lines) (report : Reports) (can_end : Ending → Type 0)
     (link : ℕ) (first left before after : Option (List ℕ)) (answer : Result Ending Stop) : Type 0 where
-  pub told : (bytes : List ℕ) → first ≡ Some bytes → Leaves size link lines report read_failed bytes left before after
+  pub told : (bytes : List ℕ) → first ≡ Some bytes → Leaves size link lines report can_end bytes left before after
       answer
   pub took : TookFor answer first left
-      (λ taken. Leaves size link lines report read_failed taken (Some []) before after answer)
+      (λ taken. Leaves size link lines report can_end taken (Some []) before after answer)
 
 -- where the first packet starts that is too many: noted exactly if a run ended for that
 abbrev pub Marks : Result Ending Stop → (old new : Option ℕ) → (ℕ → Type 0) → Type 0

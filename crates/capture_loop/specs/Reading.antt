@@ -3,8 +3,8 @@ use Rattle.std.specs.Prelude.{◌≡◌, ℕ, List, [], Option, Some, Ok, Err}
 use Rattle.std.specs.Option.{IfSome}
 use Rattle.pcap_reader.specs.Reading.{Took}
 use Rattle.pcapng_reader.specs.Reading.{HasRead, MeetsEnding, Reading}
-use Rattle.report_text.specs.declared.parts.Ending.{Ending}
-use Rattle.report_text.specs.declared.parts.Ending.TheVariants.{Done, ReadFault, Limit, Fault}
+use Rattle.capture_faults.specs.declared.ending.Ending.{Ending}
+use Rattle.capture_faults.specs.declared.ending.Ending.TheVariants.{Done, ReadFault, Limit, Fault}
 use Rattle.capture_loop.specs.Input.{ServesUpTo}
 
 -- So far has an input been read, by what was taken of its source, which had these bytes left at first, and has these

@@ -2,7 +2,7 @@
 
 ghost use Rattle.std.specs.Prelude.{◌≡◌, ◌<◌, ◌≤◌, ◌+◌, ℕ, List, [], ◌++◌, false, length, Option, Some, MatchOption, IfOk, IfSome, IfNone, OnErr};
 ghost use Rattle.edge_traits.specs.Edge.{Rose};
-ghost use Rattle.report_text.specs.Report.{IsEnding};
+ghost use Rattle.capture_faults.specs.Endings.{IsEnding};
 ghost use Rattle.capture_loop.specs.Endings.{HasFailed, OnLimit};
 ghost use Rattle.capture_loop.specs.Input.{StopsAt};
 ghost use Rattle.capture_loop.specs.Reading.{HaveCome};
@@ -10,9 +10,9 @@ ghost use Rattle.capture_loop.specs.Intake.{IsRead, IsTaken};
 
 use crate::job::{MOST_BATCH, PACKET_LIMIT, Pile};
 use crate::opening::{read_on, read_past};
+use capture_faults::Ending;
 use edge_traits::Source;
 use pcapng_reader::AnyReader;
-use report_text::Ending;
 use std::alloc::AllocError;
 
 /// What was read of a batch.

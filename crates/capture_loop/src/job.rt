@@ -2,11 +2,11 @@
 
 ghost use Rattle.std.specs.Prelude.{◌≡◌, ◌≤◌, ◌+◌, ◌∷◌, ◌++◌, [], ℕ, List, length, vec_len, IfOk, OnOk};
 ghost use Rattle.std.specs.List.{All, AllZip};
-ghost use Rattle.report_text.specs.declared.parts.Ending.{Ending as AnEnding};
-ghost use Rattle.report_text.specs.Report.{IsEnding};
+ghost use Rattle.capture_faults.specs.declared.ending.Ending.{Ending as AnEnding};
+ghost use Rattle.capture_faults.specs.Endings.{IsEnding};
 
+use capture_faults::Ending;
 use edge_traits::Gate;
-use report_text::Ending;
 use std::alloc::{AllocError, Global};
 use std::thread::Threads;
 use trace_share::WorksOn;

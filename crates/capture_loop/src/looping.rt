@@ -4,10 +4,10 @@ ghost use Rattle.std.specs.Prelude.{◌≡◌, ◌≤◌, ◌<◌, ◌+◌, ℕ,
 ghost use Rattle.std.specs.Io.KnownBytes.{Appends};
 ghost use Rattle.edge_traits.specs.Edge.{AppendsFront, Rose, count_after};
 ghost use Rattle.pcapng_reader.specs.Reading.{IsAtStart};
-ghost use Rattle.report_text.specs.Report.{IsEnding};
+ghost use Rattle.capture_faults.specs.Endings.{IsEnding};
 ghost use Rattle.capture_loop.specs.Batches.{AreBatches};
 ghost use Rattle.capture_loop.specs.Intake.{IsTaken};
-ghost use Rattle.capture_loop.specs.Leaves.{IsMet, LoopLeavesAll, Marks, RunReads, RunWrites};
+ghost use Rattle.capture_loop.specs.Leaves.{EndsBy, IsMet, LoopLeavesAll, Marks, RunReads, RunWrites};
 ghost use Rattle.capture_loop.specs.Looping.{HasPut, OnMemory, OnNotPut, Stands};
 ghost use Rattle.capture_loop.specs.Reading.{HaveCome, HaveEnded};
 ghost use Rattle.capture_loop.specs.Endings.{OnLimit};
@@ -17,9 +17,9 @@ use crate::intake::{read_rest, take_held};
 use crate::job::{Job, MOST_BATCH, Means, Opened, PACKET_LIMIT, Pile, Piles};
 use crate::opening::{Unopened, open};
 use crate::stop::Stop;
+use capture_faults::Ending;
 use edge_traits::{Failed, Gate, Sink, Source, write_all};
 use pcapng_reader::AnyReader;
-use report_text::Ending;
 use std::alloc::AllocError;
 use std::mem;
 use std::thread::Threads;
@@ -45,7 +45,7 @@ pub fn run_job<R: Threads + Sync, S: Source, K: Sink, G: Gate + Sync, P, J: Job<
     requires ways { (J.Pile.way piles.old.now ≡ J.way job.old) × (J.Pile.way piles.old.next ≡ J.way job.old) }
     ensures leaves { (plan : P) → J.done job.old plan [] text.old.items →
         LoopLeavesAll means.now.batch (J.lines plan) (J.report plan)
-        (Rose (S.faults source.old) (S.faults source.new))
+        (EndsBy (S.failed source.old) (S.failed source.new))
         link (S.left source.old) (S.left source.new) (K.put sink.old) (K.put sink.new) result }
 
     // Where the first packet starts that is not served, exactly if there were more than are taken.
@@ -109,11 +109,11 @@ fn go_through<R: Threads + Sync, S: Source, K: Sink, G: Gate + Sync, P, J: Job<P
     requires going { J.going job.old 0 }
     requires none { J.Pile.holds piles.old.now 0 [] }
     requires ways { (J.Pile.way piles.old.now ≡ J.way job.old) × (J.Pile.way piles.old.next ≡ J.way job.old) }
-    ensures leaves { (plan : P) (link : ℕ) (first before : Option (List ℕ)) (faults : ℕ) →
-        faults ≤ S.faults source.old →
+    ensures leaves { (plan : P) (link : ℕ) (first before : Option (List ℕ)) (failed : ℕ) →
+        failed ≡ S.failed source.old →
         J.done job.old plan [] text.old.items → HasPut before (K.put sink.old) text.old.items text.old.items →
         HaveCome link first (S.left source.old) reader.old [] →
-        LoopLeavesAll means.now.batch (J.lines plan) (J.report plan) (Rose faults (S.faults source.new)) link first
+        LoopLeavesAll means.now.batch (J.lines plan) (J.report plan) (EndsBy failed (S.failed source.new)) link first
         (S.left source.new)
         before (K.put sink.new) result }
     ensures beyond { (plan : P) (link : ℕ) (first before : Option (List ℕ)) →
@@ -318,12 +318,12 @@ fn serve_last<R: Threads + Sync, K: Sink, G: Gate + Sync, P, J: Job<P>>(
     requires batch { (0 < means.now.batch) × (means.now.batch ≤ MOST_BATCH) }
     requires few { (last.packets ≤ means.now.batch) × (many + last.packets ≤ PACKET_LIMIT) }
     requires ending { IsEnding last.ending }
-    ensures leaves { (plan : P) (faults now : ℕ) (link : ℕ) (first left before : Option (List ℕ))
+    ensures leaves { (plan : P) (failed now : ℕ) (link : ℕ) (first left before : Option (List ℕ))
         (all packets : List (List ℕ)) →
         Stands means.now.batch (J.done job.old plan) link first many all before (K.put sink.old) text.old.items →
         J.Pile.holds pile.old many packets → length packets ≡ last.packets →
-        HaveEnded packet_limit link first left (all ++ packets) last.ending → IsMet (Rose faults now) last.ending →
-        LoopLeavesAll means.now.batch (J.lines plan) (J.report plan) (Rose faults now) link first left before
+        HaveEnded packet_limit link first left (all ++ packets) last.ending → IsMet (EndsBy failed now) last.ending →
+        LoopLeavesAll means.now.batch (J.lines plan) (J.report plan) (EndsBy failed now) link first left before
         (K.put sink.new) result }
     ensures same { IfOk result (λ ending. ending ≡ last.ending) }
     ensures write_fault { OnNotPut result (Rose (K.faults sink.old) (K.faults sink.new)) }
@@ -349,11 +349,11 @@ fn end_run<K: Sink, P, J: Job<P>>(
 ) -> Result<Ending, Stop>
     requires going { J.going job.now packets }
     requires ending { IsEnding ending }
-    ensures leaves { (plan : P) (batch faults now link : ℕ) (first left before : Option (List ℕ)) (all : List (List ℕ))
+    ensures leaves { (plan : P) (batch failed now link : ℕ) (first left before : Option (List ℕ)) (all : List (List ℕ))
         (batches : List (List (List ℕ))) (done : List ℕ) → J.done job.now plan batches done →
         AreBatches batch all batches → HasPut before (K.put sink.old) text.old.items done →
-        HaveEnded packet_limit link first left all ending → IsMet (Rose faults now) ending →
-        LoopLeavesAll batch (J.lines plan) (J.report plan) (Rose faults now) link first left before (K.put sink.new)
+        HaveEnded packet_limit link first left all ending → IsMet (EndsBy failed now) ending →
+        LoopLeavesAll batch (J.lines plan) (J.report plan) (EndsBy failed now) link first left before (K.put sink.new)
         result }
     ensures same { IfOk result (λ last. last ≡ ending) }
     ensures write_fault { OnNotPut result (Rose (K.faults sink.old) (K.faults sink.new)) }

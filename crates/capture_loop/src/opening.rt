@@ -4,16 +4,15 @@ ghost use Rattle.std.specs.Prelude.{◌≡◌, ◌≤◌, ◌<◌, ◌-◌, ◌^
 ghost use Rattle.edge_traits.specs.Edge.{Rose};
 ghost use Rattle.pcap_reader.specs.Reading.{Took};
 ghost use Rattle.pcapng_reader.specs.Reading.{GivesPacket, IsAtStart};
-ghost use Rattle.report_text.specs.Report.{IsEnding};
+ghost use Rattle.capture_faults.specs.Endings.{IsEnding};
 ghost use Rattle.capture_loop.specs.Endings.{ending_at, ending_of, HasFailed, OnEnds, OnLimit};
 ghost use Rattle.capture_loop.specs.Input.{StopsAt};
 ghost use Rattle.capture_loop.specs.Reading.{HaveCome, HaveEnded, MeetsEnd};
 
-use capture_faults::{AnyFault, CaptureFault};
+use capture_faults::{AnyFault, CaptureFault, Ending};
 use edge_traits::Source;
 use pcap_reader::Item;
 use pcapng_reader::{AnyReader, every_input, input_front};
-use report_text::Ending;
 use std::alloc::Global;
 
 /// Why an input could not be opened.

@@ -13,11 +13,11 @@ use Rattle.hash_bits.specs.Prefix.{NoBits}
 use Rattle.plain_map.specs.declared.keys.Key.{Key}
 use Rattle.plain_map.specs.declared.rules.Rules.{Rules}
 use Rattle.plain_map.specs.declared.calls.Call.{Call}
-use Rattle.plain_map.specs.declared.calls.Call.TheVariants.{Insert, Remove, Lookup, Tally}
+use Rattle.plain_map.specs.declared.calls.Call.TheVariants.{Insert, Remove, Lookup, Tally, Count, Put}
 use Rattle.plain_map.specs.declared.calls.Reply.{Reply}
 use Rattle.plain_map.specs.Calls.{key_in}
 use Rattle.plain_map.specs.Keys.{Session, key_cmp, hash_of_key}
-use Rattle.plain_map.specs.PlainObject.{IsInsertOfNew, Sessions, pairs_of, class_of, class_size, insert_reply, inserted, new_session, reply_of, map_after}
+use Rattle.plain_map.specs.PlainObject.{IsInsertOfNew, Sessions, pairs_of, class_of, class_size, count_reply, counted_session, grown, insert_reply, inserted, new_session, reply_of, revalued, revised, map_after}
 use Rattle.plain_map.specs.Locality.{AgreeIn, ChangesLocally, KeepsOtherKeys, RepliesLocally}
 use Rattle.plain_map.proofs.KeyLemmas.{exact_keys, hash_of_key-within, keys_total}
 use Rattle.plain_map.proofs.LocalityLemmas.{count_by-pairs}
@@ -80,6 +80,10 @@ same_reply none rules m (Insert key value) own =
 same_reply none rules m (Remove key) own = refl
 same_reply none rules m (Lookup key) own = refl
 same_reply none rules m (Tally key amount) own = refl
+same_reply none rules m (Count key value amount) own =
+    ap (λ (k : ℕ). count_reply amount (get m key) (nat_lt k rules.items)) (same_size none rules m key own)
+same_reply none rules m (Put key value) own =
+    ap (λ (k : ℕ). insert_reply (get m key) (nat_lt k rules.items)) (same_size none rules m key own)
 
 -- and the same change
 same_change : NoBits → (rules : Rules) (m : Sessions) (call : Call) → OwnKeys rules (class_of rules (key_in call)) m →
@@ -91,6 +95,12 @@ same_change none rules m (Insert key value) own =
 same_change none rules m (Remove key) own = refl
 same_change none rules m (Lookup key) own = refl
 same_change none rules m (Tally key amount) own = refl
+same_change none rules m (Count key value amount) own =
+    ap (λ (k : ℕ). revised m key (counted_session value amount) (λ held. grown held amount) (get m key)
+    (nat_lt k rules.items)) (same_size none rules m key own)
+same_change none rules m (Put key value) own =
+    ap (λ (k : ℕ). revised m key (new_session value) (λ held. revalued held value) (get m key)
+    (nat_lt k rules.items)) (same_size none rules m key own)
 
 -- All classes.
 
@@ -202,6 +212,9 @@ new_to_all rows rules sessions (Insert key value) class holds is low new = sym (
 new_to_all rows rules sessions (Remove key) class holds is low new = new
 new_to_all rows rules sessions (Lookup key) class holds is low new = new
 new_to_all rows rules sessions (Tally key amount) class holds is low new = new
+new_to_all rows rules sessions (Count key value amount) class holds is low new =
+    sym (holds.agree class low key is) ∙ new
+new_to_all rows rules sessions (Put key value) class holds is low new = sym (holds.agree class low key is) ∙ new
 
 -- where the class has no memory for the call, it is a new key's insert, and all sessions are as before
 pub refused : (rows : List Sessions) (rules : Rules) (sessions : Sessions) (call : Call) (class : ℕ)

@@ -3,7 +3,7 @@ use Rattle.std.proofs.Common.{◌≡◌, ◌≢◌, ℕ, ◌+◌, ◌<◌, ◌�
 use Rattle.std.specs.Option.{option_map_or}
 use Rattle.plain_map.specs.declared.keys.Key.{Key}
 use Rattle.plain_map.specs.declared.calls.Call.{Call}
-use Rattle.plain_map.specs.declared.calls.Call.TheVariants.{Insert, Remove, Lookup, Tally}
+use Rattle.plain_map.specs.declared.calls.Call.TheVariants.{Insert, Remove, Lookup, Tally, Count, Put}
 use Rattle.plain_map.specs.declared.calls.Reply.TheVariants.{Absent}
 use Rattle.plain_map.specs.declared.records.Record.{Record}
 use Rattle.plain_map.specs.Calls.{key_in, is_update}
@@ -129,6 +129,8 @@ module _ (setup : Setup) (closing : Closing) (k : Book) (w : Written setup closi
   look_reply prefix depth (Remove key) s sessions u e h = absurd (true≢false u)
   look_reply prefix depth (Lookup key) s sessions u e h = ap (λ o. option_map_or found_in o Absent) (h.same key e)
   look_reply prefix depth (Tally key amount) s sessions u e h = absurd (true≢false u)
+  look_reply prefix depth (Count key value amount) s sessions u e h = absurd (true≢false u)
+  look_reply prefix depth (Put key value) s sessions u e h = absurd (true≢false u)
 
   -- and a lookup changes nothing
   look_nothing : (call : Call) (sessions : Sessions) → is_update call ≡ false →
@@ -138,6 +140,8 @@ module _ (setup : Setup) (closing : Closing) (k : Book) (w : Written setup closi
   look_nothing (Remove key) sessions u = absurd (true≢false u)
   look_nothing (Lookup key) sessions u = refl
   look_nothing (Tally key amount) sessions u = absurd (true≢false u)
+  look_nothing (Count key value amount) sessions u = absurd (true≢false u)
+  look_nothing (Put key value) sessions u = absurd (true≢false u)
 
   -- so the steps give what the rows mean
   pub meaning : Meaning setup closing k w l first pre

@@ -62,12 +62,16 @@ fn was_applied<W: Words>(starts: &Starts, words: &W, rows: &[u64], pending: &Pen
     false
 }
 
-// Whether the call is an insert, a remove or a tally.
+// Whether the call is any but a lookup.
 fn is_update(call: &Call) -> bool
     ensures { result ≡ is_update call.now }
 {
     match call {
-        Call::Insert(_, _) | Call::Remove(_) | Call::Tally(_, _) => true,
+        Call::Insert(_, _)
+        | Call::Remove(_)
+        | Call::Tally(_, _)
+        | Call::Count(_, _, _)
+        | Call::Put(_, _) => true,
         Call::Lookup(_) => false,
     }
 }

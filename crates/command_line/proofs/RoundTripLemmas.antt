@@ -17,14 +17,16 @@ use Rattle.trace_share.specs.declared.deals.Share.TheVariants.{Round, Block, Flo
 use Rattle.packet_heads.specs.declared.framing.Link.{Link}
 use Rattle.packet_heads.specs.declared.framing.Link.TheVariants as link
 use Rattle.packet_heads.specs.Heads.{plain_framing}
+use Rattle.key_texts.specs.declared.rules.CallRule.{CallRule}
+use Rattle.key_texts.specs.declared.rules.CallRule.TheVariants.{Sessions, Flows}
 use Rattle.command_line.specs.Command.{Number, batch, capture_number, depth, extensions, items, packets, seats, seed, start}
 use Rattle.command_line.specs.Command.{tags}
-use Rattle.command_line.specs.CommandLines.{IsAskable, as_used, asked, asked_framing, default_plan, given_of, hash_text, is_in}
+use Rattle.command_line.specs.CommandLines.{IsAskable, as_used, asked, asked_framing, calls_text, default_plan, given_of, hash_text, is_in}
 use Rattle.command_line.specs.CommandLines.{line_of}
 use Rattle.command_line.specs.CommandLines.{link_text, lists_of, rows_text, seed_of, share_text, tests}
 use Rattle.command_line.specs.Texts.{AreRowsInRange}
 use Rattle.line_fields.specs.Reading.{◌>>=◌}
-use Rattle.command_line.specs.Words.{asked_rows, asked_schedule, asked_stops, decimal, hashing_of, reads, share_of}
+use Rattle.command_line.specs.Words.{asked_rows, asked_schedule, asked_stops, calls_of, decimal, hashing_of, reads, share_of}
 use Rattle.command_line.specs.Words.{link_of, start_below}
 use Rattle.command_line.specs.declared.plan.Mode.{Mode}
 use Rattle.command_line.specs.declared.plan.Mode.TheVariants.{Serve, Play, Make, Trial, Totals, Check}
@@ -74,6 +76,10 @@ link_back link.Ipv4 = refl
 link_back link.Ipv6 = refl
 link_back link.LinuxSll2 = refl
 
+calls_back : (c : CallRule) → calls_of (calls_text c) ≡ Some c
+calls_back Sessions = refl
+calls_back Flows = refl
+
 tags_back : (given : Option ℕ) → IfSome given (λ most. most ≤ tags.most) →
     option_map decimal (option_map written given) ≡ given
 tags_back None h = refl
@@ -121,8 +127,9 @@ serve_back p h =
     let rs = rows_back p.rows h.range.rows in
     let fr = framing_back p h in
     let bt = read_back p.batch (omega (arith, h.range.batch.1)) in
+    let cs = calls_back p.calls in
     λ i. (rs i) >>= (λ rows. (s i) >>= (λ start. (hs i) >>= (λ hashing. (sh i) >>= (λ share. (fr i) >>= (λ framing.
-    Some (record {
+    (cs i) >>= (λ calls. Some (record {
       mode = Serve;
       seats = n i;
       items = b i;
@@ -137,7 +144,8 @@ serve_back p h =
       packets = 1000;
       batch = bt i;
       framing = framing;
-    }))))))
+      calls = calls;
+    })))))))
 
 play_back : (p : Plan) → IsAskable p → asked Play (given_of p) (lists_of p) ≡ Some (as_used p Play)
 play_back p h =
@@ -154,8 +162,9 @@ play_back p h =
     ∙ schedule_back p.seats few p.schedule h.segments h.few in
     let st = ap (λ n. asked_stops n (lists_of p).stop) n ∙ stops_back p.seats few p.stops h.one_each h.stops in
     let fr = framing_back p h in
+    let cs = calls_back p.calls in
     λ i. (rs i) >>= (λ rows. (sc i) >>= (λ schedule. (st i) >>= (λ stops. (s i) >>= (λ start.
-    (hs i) >>= (λ hashing. (sh i) >>= (λ share. (fr i) >>= (λ framing. Some (record {
+    (hs i) >>= (λ hashing. (sh i) >>= (λ share. (fr i) >>= (λ framing. (cs i) >>= (λ calls. Some (record {
       mode = Play;
       seats = n i;
       items = b i;
@@ -170,7 +179,8 @@ play_back p h =
       packets = 1000;
       batch = 2048;
       framing = framing;
-    }))))))))
+      calls = calls;
+    })))))))))
 
 make_back : (p : Plan) → IsAskable p → asked Make (given_of p) (lists_of p) ≡ Some (as_used p Make)
 make_back p h =
@@ -204,6 +214,7 @@ trial_back p h =
       packets = k i;
       batch = bt i;
       framing = plain_framing;
+      calls = Sessions;
     }))
 
 totals_back : (p : Plan) → IsAskable p → asked Totals (given_of p) (lists_of p) ≡ Some (as_used p Totals)

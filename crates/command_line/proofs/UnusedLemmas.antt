@@ -7,7 +7,7 @@ use Rattle.step_counts.specs.declared.rows.SeatRows.{SeatRows}
 use Rattle.command_line.specs.Command.{flowdir_app}
 use Rattle.command_line.specs.CommandLines.{as_used}
 use Rattle.line_fields.specs.Reading.{◌>>=◌}
-use Rattle.command_line.specs.Words.{Values, framing_in, hashing_in, mode_of, plan_of, plan_with, reads, rows_for, schedule_for}
+use Rattle.command_line.specs.Words.{Values, calls_in, framing_in, hashing_in, mode_of, plan_of, plan_with, reads, rows_for, schedule_for}
 use Rattle.command_line.specs.Words.{seats_in}
 use Rattle.command_line.specs.Words.{share_in, start_in, stops_in, text_in}
 use Rattle.command_line.specs.declared.plays.Segment.{Segment}
@@ -31,15 +31,15 @@ serve_used : (given : Values) (rows : Option SeatRows)
     → IfSome (plan_with Serve rows [] (replicate (seats_in Serve given) None) given) IsAsUsed
 serve_used given rows =
     bound IsAsUsed (start_in Serve given) _ (λ start. bound IsAsUsed (hashing_in Serve given) _
-    (λ hashing. bound IsAsUsed (share_in Serve given) _ (λ share. bound IsAsUsed (framing_in Serve given) _ (λ
-    framing. refl))))
+    (λ hashing. bound IsAsUsed (share_in Serve given) _ (λ share. bound IsAsUsed (framing_in Serve given) _
+    (λ framing. bound IsAsUsed (calls_in Serve given) _ (λ calls. refl)))))
 
 play_used : (given : Values) (rows : Option SeatRows) (schedule : List Segment) (stops : List (Option ℕ))
     → IfSome (plan_with Play rows schedule stops given) IsAsUsed
 play_used given rows schedule stops =
     bound IsAsUsed (start_in Play given) _ (λ start. bound IsAsUsed (hashing_in Play given) _
-    (λ hashing. bound IsAsUsed (share_in Play given) _ (λ share. bound IsAsUsed (framing_in Play given) _ (λ framing.
-    refl))))
+    (λ hashing. bound IsAsUsed (share_in Play given) _ (λ share. bound IsAsUsed (framing_in Play given) _
+    (λ framing. bound IsAsUsed (calls_in Play given) _ (λ calls. refl)))))
 
 trial_used : (given : Values)
     → IfSome (plan_with Trial None [] (replicate (seats_in Trial given) None) given) IsAsUsed

@@ -101,7 +101,8 @@ abbrev pub numbers : List Number
 numbers = seats ∷ items ∷ depth ∷ start ∷ seed ∷ capture_number ∷ packets ∷ tags ∷ extensions ∷ batch ∷ []
 
 abbrev pub texts : List Text
-texts = codes "hash" ∷ codes "share" ∷ codes "rows" ∷ codes "schedule" ∷ codes "stop" ∷ codes "link" ∷ []
+texts = codes "hash" ∷ codes "share" ∷ codes "rows" ∷ codes "schedule" ∷ codes "stop" ∷ codes "link"
+    ∷ codes "calls" ∷ []
 
 -- the command of the program
 unfoldable pub flowdir_app : App

@@ -15,12 +15,14 @@ use Rattle.packet_heads.specs.declared.framing.Framing.{Framing}
 use Rattle.packet_heads.specs.declared.framing.Link.{Link}
 use Rattle.packet_heads.specs.declared.framing.Link.TheVariants as link
 use Rattle.packet_heads.specs.Heads.{plain_framing}
+use Rattle.key_texts.specs.declared.rules.CallRule.{CallRule}
+use Rattle.key_texts.specs.declared.rules.CallRule.TheVariants.{Sessions, Flows}
 use Rattle.command_line.specs.Command.{Number, batch, capture_number, depth, extensions, flowdir_app, items, packets, seats}
 use Rattle.command_line.specs.Command.{seed, start, tags}
 use Rattle.command_line.specs.Plays.{colon, most_segments, most_slots, most_steps, star}
 use Rattle.command_line.specs.Texts.{comma}
 use Rattle.line_fields.specs.Reading.{◌>>=◌}
-use Rattle.command_line.specs.Words.{IsInRange, asked_rows, asked_schedule, asked_stops, decimal, hashing_of}
+use Rattle.command_line.specs.Words.{IsInRange, asked_rows, asked_schedule, asked_stops, calls_of, decimal, hashing_of}
 use Rattle.command_line.specs.Words.{link_of, share_of, start_below}
 use Rattle.command_line.specs.declared.plan.Mode.{Mode}
 use Rattle.command_line.specs.declared.plan.Mode.TheVariants.{Serve, Play, Make, Trial, Totals, Check}
@@ -47,6 +49,7 @@ default_plan = record {
   packets = 1000;
   batch = 2048;
   framing = plain_framing;
+  calls = Sessions;
 }
 
 -- what the command finds wrong in the words
@@ -68,6 +71,7 @@ pub record Given : Type 0 where
   pub link : Text
   pub extensions : Text
   pub batch : Text
+  pub calls : Text
 
 abbrev pub mode_text : Mode → Text
 mode_text Serve = codes "serve"
@@ -82,7 +86,8 @@ line_with mode g more = mode_text mode ∷ (codes "--seats=" ++ g.seats) ∷ (co
     ∷ (codes "--depth=" ++ g.depth) ∷ (codes "--start=" ++ g.start) ∷ (codes "--hash=" ++ g.hash)
     ∷ (codes "--seed=" ++ g.seed) ∷ (codes "--share=" ++ g.share) ∷ (codes "--number=" ++ g.number)
     ∷ (codes "--packets=" ++ g.packets) ∷ (codes "--link=" ++ g.link)
-    ∷ (codes "--extensions=" ++ g.extensions) ∷ (codes "--batch=" ++ g.batch) ∷ more
+    ∷ (codes "--extensions=" ++ g.extensions) ∷ (codes "--batch=" ++ g.batch)
+    ∷ (codes "--calls=" ++ g.calls) ∷ more
 
 -- the texts that have no default
 pub record Lists : Type 0 where
@@ -125,6 +130,7 @@ asked Serve g lists = do
   hashing ← hashing_of g.hash (decimal g.seed)
   share ← share_of g.share
   framing ← asked_framing g lists
+  calls ← calls_of g.calls
   Some (record {
     mode = Serve;
     seats = decimal g.seats;
@@ -140,6 +146,7 @@ asked Serve g lists = do
     packets = 1000;
     batch = decimal g.batch;
     framing = framing;
+    calls = calls;
   })
 asked Play g lists = do
   rows ← asked_rows lists.rows
@@ -149,6 +156,7 @@ asked Play g lists = do
   hashing ← hashing_of g.hash (decimal g.seed)
   share ← share_of g.share
   framing ← asked_framing g lists
+  calls ← calls_of g.calls
   Some (record {
     mode = Play;
     seats = decimal g.seats;
@@ -164,6 +172,7 @@ asked Play g lists = do
     packets = 1000;
     batch = 2048;
     framing = framing;
+    calls = calls;
   })
 asked Make g lists = Some (record default_plan {
   mode = Make;
@@ -187,6 +196,7 @@ asked Trial g lists = do
     packets = decimal g.packets;
     batch = decimal g.batch;
     framing = plain_framing;
+    calls = Sessions;
   })
 asked Totals g lists = do
   framing ← asked_framing g lists
@@ -227,6 +237,10 @@ link_text link.Ipv4 = codes "228"
 link_text link.Ipv6 = codes "229"
 link_text link.LinuxSll2 = codes "276"
 
+abbrev pub calls_text : CallRule → Text
+calls_text Sessions = codes "sessions"
+calls_text Flows = codes "flows"
+
 abbrev pub given_of : Plan → Given
 given_of p = record {
   seats = written p.seats;
@@ -241,6 +255,7 @@ given_of p = record {
   link = link_text p.framing.link;
   extensions = written p.framing.extensions;
   batch = written p.batch;
+  calls = calls_text p.calls;
 }
 
 -- four numbers with commas between
@@ -316,6 +331,7 @@ as_used p Serve = record {
   packets = 1000;
   batch = p.batch;
   framing = p.framing;
+  calls = p.calls;
 }
 as_used p Play = record {
   mode = Play;
@@ -332,6 +348,7 @@ as_used p Play = record {
   packets = 1000;
   batch = 2048;
   framing = p.framing;
+  calls = p.calls;
 }
 as_used p Make = record default_plan { mode = Make; number = p.number; packets = p.packets }
 as_used p Trial = record {
@@ -349,6 +366,7 @@ as_used p Trial = record {
   packets = p.packets;
   batch = p.batch;
   framing = plain_framing;
+  calls = Sessions;
 }
 as_used p Totals = record default_plan {
   mode = Totals;

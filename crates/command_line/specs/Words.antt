@@ -19,6 +19,8 @@ use Rattle.step_counts.specs.declared.rows.SeatRows.{SeatRows}
 use Rattle.trace_share.specs.declared.deals.Share.{Share}
 use Rattle.trace_share.specs.declared.deals.Share.TheVariants.{Round, Block, Flow}
 use Rattle.packet_heads.specs.declared.framing.Framing.{Framing}
+use Rattle.key_texts.specs.declared.rules.CallRule.{CallRule}
+use Rattle.key_texts.specs.declared.rules.CallRule.TheVariants.{Sessions, Flows}
 use Rattle.packet_heads.specs.declared.framing.Link.{Link}
 use Rattle.packet_heads.specs.declared.framing.Link.TheVariants as link
 use Rattle.command_line.specs.Command.{Number, batch, capture_number, depth, extensions, flowdir_app, items, packets}
@@ -177,6 +179,20 @@ framing_in mode given = do
     extensions = number_if (reads_capture mode) given extensions;
   })
 
+-- the rule of a word
+abbrev pub calls_of : Text → Option CallRule
+calls_of text = if bytes_eq text (codes "sessions") then Some Sessions
+    else (if bytes_eq text (codes "flows") then Some Flows else None)
+
+-- which call a packet makes
+abbrev pub calls_in : Mode → Values → Option CallRule
+calls_in mode.Serve given = calls_of (text_in given (codes "calls") (codes "sessions"))
+calls_in mode.Play given = calls_of (text_in given (codes "calls") (codes "sessions"))
+calls_in mode.Make given = Some Sessions
+calls_in mode.Trial given = Some Sessions
+calls_in mode.Totals given = Some Sessions
+calls_in mode.Check given = Some Sessions
+
 -- the rows of a text, automatic where there is no text
 abbrev pub asked_rows : Option Text → Option (Option SeatRows)
 asked_rows None = Some None
@@ -226,6 +242,7 @@ plan_with mode rows schedule stops given = do
   hashing ← hashing_in mode given
   share ← share_in mode given
   framing ← framing_in mode given
+  calls ← calls_in mode given
   Some (record {
     mode = mode;
     seats = seats_in mode given;
@@ -241,6 +258,7 @@ plan_with mode rows schedule stops given = do
     packets = number_if (makes_capture mode) given packets;
     batch = number_if (has_batches mode) given batch;
     framing = framing;
+    calls = calls;
   })
 
 -- the plan of what the words give, where each text that the mode uses is one of the words for it

@@ -2,6 +2,7 @@
 
 use crate::plays::{Schedule, Stops};
 use hash_bits::Hashing;
+use key_texts::CallRule;
 use packet_heads::Framing;
 use step_counts::SeatRows;
 use trace_share::Share;
@@ -53,4 +54,6 @@ pub struct Plan {
     pub batch: u32,
     /// The link type of the capture that is read, and what is looked through in its packets.
     pub framing: Framing,
+    /// Which call a packet of the capture makes.
+    pub calls: CallRule,
 }

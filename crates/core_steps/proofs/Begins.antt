@@ -20,7 +20,7 @@ module _ (shape : Shape) (words : List ℕ) (setup : Setup) (events : List Event
   -- where a call begins
   abbrev pub begun_at : (stand : Stand) (begin : ℕ × Call) (p q : Program) →
       seat_in (world_after setup events) seat ≡ record { account = account; stand = stand } →
-      p ≡ program_at setup seat account stand → FitsStand account stand (Some begin) →
+      p ≡ program_at setup seat account stand → FitsStand setup account stand (Some begin) →
       refusal_of setup seat account begin.1 ≡ None → q ≡ begins p begin → AtStep shape words q
   begun_at Idle begin p q at program given room q_is = record {
     setup = setup;
@@ -43,7 +43,7 @@ module _ (shape : Shape) (words : List ℕ) (setup : Setup) (events : List Event
   pub begun_happens : (stand : Stand) (begin : ℕ × Call) (p q : Program) (now : List ℕ) (after : Program)
       (stepped : Stepped) →
       seat_in (world_after setup events) seat ≡ record { account = account; stand = stand } →
-      p ≡ program_at setup seat account stand → FitsStand account stand (Some begin) →
+      p ≡ program_at setup seat account stand → FitsStand setup account stand (Some begin) →
       refusal_of setup seat account begin.1 ≡ None → q ≡ begins p begin →
       ((s : AtStep shape words q) → Advanced s now after stepped) →
       Happened setup (world_after setup events) seat account (record { seat = seat; begin = Some begin }) now after
@@ -56,7 +56,7 @@ module _ (shape : Shape) (words : List ℕ) (setup : Setup) (events : List Event
   -- where its call goes on
   abbrev pub flown_at : (stand : Stand) (p : Program) →
       seat_in (world_after setup events) seat ≡ record { account = account; stand = stand } →
-      p ≡ program_at setup seat account stand → FitsStand account stand None → AtStep shape words p
+      p ≡ program_at setup seat account stand → FitsStand setup account stand None → AtStep shape words p
   flown_at Idle p at program given = absurd (false≢true given.0)
   flown_at (InFlight flight phase) p at program given = record {
     setup = setup;
@@ -76,7 +76,7 @@ module _ (shape : Shape) (words : List ℕ) (setup : Setup) (events : List Event
   -- its next step is the event
   pub flown_happens : (stand : Stand) (p : Program) (now : List ℕ) (after : Program) (stepped : Stepped) →
       seat_in (world_after setup events) seat ≡ record { account = account; stand = stand } →
-      p ≡ program_at setup seat account stand → FitsStand account stand None →
+      p ≡ program_at setup seat account stand → FitsStand setup account stand None →
       ((s : AtStep shape words p) → Advanced s now after stepped) →
       Happened setup (world_after setup events) seat account (record { seat = seat; begin = None }) now after stepped
   flown_happens Idle p now after stepped at program given advanced = absurd (false≢true given.0)

@@ -64,7 +64,7 @@ pub record AtEvent (shape : Shape) (words : List ℕ) (p : Program) (begin : Opt
   pub words_are : words ≡ (world_after setup events).words
   pub shape_is : setup.shape ≡ shape
   pub program : p ≡ program_at setup seat account stand
-  pub given : FitsStand account stand begin
+  pub given : FitsStand setup account stand begin
 
 -- after the event
 abbrev pub HasHappened : {shape : Shape} {words : List ℕ} {p : Program} {begin : Option (ℕ × Call)} →

@@ -7,7 +7,7 @@ use Rattle.plain_map.specs.declared.calls.Call.{Call}
 use Rattle.plain_map.specs.declared.full.Full.{Full}
 use Rattle.plain_map.specs.declared.keys.Pair.{Pair}
 use Rattle.plain_map.specs.declared.records.Record.{Record}
-use Rattle.word_rows.specs.Shape.{Shape}
+use Rattle.word_rows.specs.Shape.{Shape, record_limit}
 use Rattle.table_model.specs.declared.events.Event.{Event}
 use Rattle.table_model.specs.Setup.{Setup}
 use Rattle.table_model.specs.SeatStates.{Account, Stand, Idle, InFlight}
@@ -22,7 +22,7 @@ setup_at shape hashing first = record { shape = shape; hashing = hashing; first 
 -- a table of these settings, with these ranges, hashing and first pairs
 abbrev pub setup_of : Settings → Hashing → List SeatRows → List Pair → Setup
 setup_of settings hashing ranges first = record {
-  shape = record { settings = settings; ranges = ranges };
+  shape = record { settings = settings; ranges = ranges; limit = record_limit };
   hashing = hashing;
   first = first;
 }

@@ -14,7 +14,7 @@ use step_counts::SeatRows;
 
 // The key of TCP packets from 10.0.0.1, with this port, to 10.0.0.2, port 80. Its hash by ports begins with the port's
 // 16 bits: ports 1, 2 and 3 begin with 000, port 8192 with 001, port 16384 with 010, and port 32768 with 100.
-fn key(port: u16) -> Key {
+pub(crate) fn key(port: u16) -> Key {
     Key {
         k0: 0,
         k1: 0x0a00_0001,
@@ -25,7 +25,7 @@ fn key(port: u16) -> Key {
 }
 
 // That key with a value and bytes.
-fn pair(port: u16, value: u64, bytes: u64) -> Pair {
+pub(crate) fn pair(port: u16, value: u64, bytes: u64) -> Pair {
     Pair {
         key: key(port),
         value,

@@ -1,16 +1,19 @@
 //! The words of a small table, one by one, under a seat's first call.
 
-ghost use Rattle.std.specs.Prelude.{◌≡◌, ◌^◌, ◌<◌, All, IfOk};
+ghost use Rattle.std.specs.Prelude.{◌≡◌, ◌≢◌, ℕ, ◌^◌, ◌<◌, All, IfOk};
 ghost use Rattle.bucket_states.specs.Parts.{HasDistinctKeys};
-ghost use Rattle.word_rows.specs.Shape.{AreBelow};
+ghost use Rattle.word_rows.specs.Shape.{AreBelow, record_limit};
 ghost use Rattle.table_model.specs.Setup.{IsPair, seats_of};
 ghost use Rattle.table_model.specs.Schedules.{IsPlayable};
+ghost use Rattle.table_model.specs.SeatStates.{fresh_seat};
+ghost use Rattle.table_model.specs.Worlds.{seat_in};
 ghost use Rattle.core_steps.specs.Values.{opened};
 
 use crate::{CoreEnd, CoreWorld, Stepped};
 use hash_bits::Hashing;
 use plain_map::{Call, Full, FullKind, Key, Pair, Record, Reply, Seen};
 use std::alloc::{AllocError, Global};
+use std::process::Abort;
 use std::test::Fail;
 use step_counts::{SeatRows, Settings};
 use table_model::Event;
@@ -67,37 +70,38 @@ fn open(alloc: Global, rows: SeatRows, first: &[Pair]) -> Result<CoreWorld, Fail
     requires distinct { HasDistinctKeys first.now }
     ensures opened { IfOk result (λ core. core ≡ opened core.setup) }
     ensures seat { IfOk result (λ core. 0 < seats_of core.setup) }
+    ensures limit { IfOk result (λ core. core.setup.shape.limit ≡ record_limit) }
 {
     let settings = Settings::new(1, 2, 1, 1)?;
     let core = CoreWorld::new(alloc, &settings, Hashing::Ports(0), &[rows], first)?;
     Ok(core)
 }
 
-// The first step of the first call of seat 0.
-fn begin(core: &mut CoreWorld, call: Call) -> Result<Stepped, AllocError>
-    requires opened { core.old ≡ opened core.old.setup }
-    requires seat { 0 < seats_of core.old.setup }
+// The first step of the seat's first call, which changes no other seat.
+fn begin(core: &mut CoreWorld, seat: u32, call: Call) -> Result<Stepped, AllocError>
+    requires fresh { seat_in core.old.world seat ≡ fresh_seat }
+    requires seat { seat < seats_of core.old.setup }
+    requires limit { core.old.setup.shape.limit ≡ record_limit }
     requires call { IsPlayable (1, call) }
-    ensures { IfOk result (λ _. core.new.setup ≡ core.old.setup) }
+    ensures setup { IfOk result (λ _. core.new.setup ≡ core.old.setup) }
+    ensures others { IfOk result (λ _. (other : ℕ) → other ≢ seat →
+        seat_in core.new.world other ≡ seat_in core.old.world other) }
 {
     core.step(&Event {
-        seat: 0,
+        seat,
         begin: Some((1, call)),
     })
 }
 
-// The next step of seat 0, where it is in a call.
-fn go_on(core: &mut CoreWorld) -> Result<Option<Stepped>, AllocError>
-    requires { 0 < seats_of core.old.setup }
+// The next step of the seat, where it is in a call.
+fn go_on(core: &mut CoreWorld, seat: u32) -> Result<Option<Stepped>, AllocError>
+    requires { seat < seats_of core.old.setup }
     ensures { IfOk result (λ _. core.new.setup ≡ core.old.setup) }
 {
-    if core.idle(0) {
+    if core.idle(seat) {
         return Ok(None);
     }
-    let stepped = core.step(&Event {
-        seat: 0,
-        begin: None,
-    })?;
+    let stepped = core.step(&Event { seat, begin: None })?;
     Ok(Some(stepped))
 }
 
@@ -110,14 +114,15 @@ fn run(
 ) -> Result<(Option<Stepped>, CoreEnd), AllocError>
     requires opened { core ≡ opened core.setup }
     requires seat { 0 < seats_of core.setup }
+    requires limit { core.setup.shape.limit ≡ record_limit }
     requires call { IsPlayable (1, call) }
 {
     let mut core = core;
     let mut last = None;
     if steps > 0 {
-        last = Some(begin(&mut core, call)?);
+        last = Some(begin(&mut core, 0, call)?);
         for _ in 1..steps {
-            last = go_on(&mut core)?;
+            last = go_on(&mut core, 0)?;
         }
     }
     match core.finish(alloc) {
@@ -179,13 +184,14 @@ fn an_insert_word_by_word(rt: HostRuntime) -> Result<(), Fail> {
     Ok(())
 }
 
-// A seat without an op row is refused an insert, and no word changes. There is no op row, so that the bucket rows begin
+// A seat without an op row is refused an update, and no word changes. There is no op row, so that the bucket rows begin
 // at word 7 and the directory at word 133.
-#[test]
-fn a_refused_insert(rt: HostRuntime) -> Result<(), Fail> {
+fn is_refused(rt: &impl Abort, alloc: Global, call: Call) -> Result<(), Fail>
+    requires { IsPlayable (1, call) }
+{
     let rows = SeatRows { op_rows: 0, ..ROWS };
-    let core = open(rt.alloc(), rows, &[])?;
-    let (last, left) = run(rt.alloc(), core, Call::Insert(KEY, 1), 1)?;
+    let core = open(alloc, rows, &[])?;
+    let (last, left) = run(alloc, core, call, 1)?;
     let full = Full {
         what: FullKind::OpRows,
         left: 0,
@@ -196,6 +202,13 @@ fn a_refused_insert(rt: HostRuntime) -> Result<(), Fail> {
     assert_eq!(rt; left.rows.words.get(..7), opening.get(..7));
     assert_eq!(rt; left.rows.words.get(7..), opening.get(15..));
     Ok(())
+}
+
+#[test]
+fn refused_updates(rt: HostRuntime) -> Result<(), Fail> {
+    is_refused(&rt, rt.alloc(), Call::Insert(KEY, 1))?;
+    is_refused(&rt, rt.alloc(), Call::Count(KEY, 1, 70))?;
+    is_refused(&rt, rt.alloc(), Call::Put(KEY, 1))
 }
 
 // A lookup of a pair that was there at the opening finds it in the bucket's first row, and stores the done word alone.

@@ -4,19 +4,20 @@ use Rattle.std.specs.List.{insert}
 use Rattle.std.proofs.lemmas.Bool.{ltb-true}
 use Rattle.std.proofs.lemmas.List.{length-append}
 use Rattle.std.proofs.lemmas.List.Elements.{All-append, All-cons, All-drop, All-take}
+use Rattle.plain_map.specs.declared.keys.Key.{Key}
 use Rattle.plain_map.specs.declared.keys.Pair.{Pair}
 use Rattle.plain_map.specs.declared.rules.Rules.{Rules}
 use Rattle.plain_map.specs.declared.calls.Call.{Call}
-use Rattle.plain_map.specs.declared.calls.Call.TheVariants.{Insert, Remove, Lookup, Tally}
+use Rattle.plain_map.specs.declared.calls.Call.TheVariants.{Insert, Remove, Lookup, Tally, Count, Put}
 use Rattle.plain_map.specs.Keys.{Session, pair_of}
-use Rattle.plain_map.specs.PlainObject.{new_session}
+use Rattle.plain_map.specs.PlainObject.{counted_session, grown, new_session, revalued}
 use Rattle.bucket_states.specs.declared.bucket.Bucket.{Bucket}
 use Rattle.bucket_states.specs.declared.ops.Op.{Op}
-use Rattle.bucket_states.specs.Items.{value_at, appended, has_place, items_after}
+use Rattle.bucket_states.specs.Items.{value_at, appended, has_place, revised_in, items_after}
 use Rattle.bucket_states.specs.Halves.{half}
 use Rattle.bucket_states.specs.States.{BucketState, state_of, HasRoom, KeepsRoom, KeepsShape}
 use Rattle.bucket_states.specs.Change.{answered}
-use Rattle.bucket_states.proofs.ItemLemmas.{length-tallied, length-without}
+use Rattle.bucket_states.proofs.ItemLemmas.{length-changed, length-without}
 use Rattle.dir_states.specs.declared.leaves.Table.{Table}
 use Rattle.dir_states.specs.declared.values.NewLeaf.{NewLeaf}
 use Rattle.dir_states.specs.Fit.{CanSplit, IsFit}
@@ -35,6 +36,15 @@ appended-few rules items pair None true n few more =
     refl = cc
 appended-few rules items pair None false n few more = few
 
+revised-few : (rules : Rules) (items : List Pair) (key : Key) (new : Session) (change : Session → Session)
+    (held : Option Session) (place : Bool) (n : ℕ) → length items ≤ n → (place ≡ true → length items < n) →
+    length (revised_in items key new change held place) ≤ n
+revised-few rules items key new change (Some held) place n few more =
+    omega (arith, length-changed key change items, few)
+revised-few rules items key new change None true n few more =
+    appended-few rules items (pair_of (key, new)) None true n few more
+revised-few rules items key new change None false n few more = few
+
 -- no more than there is room for
 pub items_after-few : (rules : Rules) (items : List Pair) (call : Call) (n : ℕ) → length items ≤ n →
     rules.items ≤ n → length (items_after rules items call) ≤ n
@@ -44,7 +54,14 @@ items_after-few rules items (Insert key value) n few room =
     (λ e. omega (arith, ltb-true (length items) rules.items e, room))
 items_after-few rules items (Remove key) n few room = omega (arith, length-without key items, few)
 items_after-few rules items (Lookup key) n few room = few
-items_after-few rules items (Tally key amount) n few room = omega (arith, length-tallied key amount items, few)
+items_after-few rules items (Tally key amount) n few room =
+    omega (arith, length-changed key (λ held. grown held amount) items, few)
+items_after-few rules items (Count key value amount) n few room =
+    revised-few rules items key (counted_session value amount) (λ held. grown held amount) (value_at key items)
+    (has_place rules items) n few (λ e. omega (arith, ltb-true (length items) rules.items e, room))
+items_after-few rules items (Put key value) n few room =
+    revised-few rules items key (new_session value) (λ held. revalued held value) (value_at key items)
+    (has_place rules items) n few (λ e. omega (arith, ltb-true (length items) rules.items e, room))
 
 -- ---- a leaf that was made
 

@@ -7,7 +7,7 @@ use Rattle.line_fields.specs.Reading.{HasNoDigit, text_at}
 use Rattle.line_fields.proofs.NumberLaws.{number_again}
 use Rattle.line_fields.proofs.TextLemmas.{text_takes}
 use Rattle.line_fields.proofs.BindLemmas.{bind_some, number_then, text_then}
-use Rattle.flow_keys.specs.FlowText.{ipv4_text, ipv6_text, groups_text, address_text, endpoint_text}
+use Rattle.key_texts.specs.FlowText.{ipv4_text, ipv6_text, groups_text, address_text, endpoint_text}
 use Rattle.flow_reading.specs.declared.ends.Host.{Host}
 use Rattle.flow_reading.specs.declared.ends.End.{End}
 use Rattle.flow_reading.specs.Flows.{address_at, address_by, end_at, ipv4_at, ipv6_at}

@@ -5,8 +5,8 @@ use Rattle.std.specs.Fmt.{digit_glyph}
 use Rattle.line_fields.specs.Reading.{◌>>=◌, hex_digit}
 use Rattle.line_fields.proofs.HexLaws.{IsGlyph, glyph_again, glyph_takes}
 use Rattle.line_fields.proofs.BindLemmas.{bind_some, text_then}
-use Rattle.flow_keys.specs.FlowText.{group_text, groups_text}
-use Rattle.flow_keys.proofs.HexLemmas.{one_digit, two_digits, three_digits, four_digits}
+use Rattle.key_texts.specs.FlowText.{group_text, groups_text}
+use Rattle.key_texts.proofs.HexLemmas.{one_digit, two_digits, three_digits, four_digits}
 use Rattle.flow_reading.specs.Groups.{digit_at, more_at, rest_at, group_at, groups_at}
 
 -- no hexadecimal digit stands at the front

@@ -5,7 +5,7 @@ use Rattle.std.proofs.lemmas.Option.{some_pair_parts, cond_some}
 use Rattle.plain_map.specs.declared.keys.Key.{Key}
 use Rattle.line_fields.specs.Reading.{HasNoDigit, text_at}
 use Rattle.line_fields.proofs.TextLemmas.{text_takes}
-use Rattle.flow_keys.specs.FlowText.{endpoint_text, protocol_text, flow_text, low_port, high_port, protocol_in, is_ipv6}
+use Rattle.key_texts.specs.FlowText.{endpoint_text, protocol_text, flow_text, low_port, high_port, protocol_in, is_ipv6}
 use Rattle.flow_reading.specs.declared.ends.End.{End}
 use Rattle.flow_reading.specs.Flows.{end_at, protocol_at, other_at, flow_at, IsFlow, in_order, key_of_ends}
 use Rattle.line_fields.proofs.BindLemmas.{bind_some, text_then}

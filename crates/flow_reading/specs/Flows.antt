@@ -3,7 +3,7 @@ use Rattle.std.specs.Prelude.{◌≡◌, ◌⊎◌, ℕ, ◌+◌, ◌*◌, ◌<�
 use Rattle.plain_map.specs.declared.keys.Key.{Key}
 use Rattle.plain_map.specs.Keys.{IsKey}
 use Rattle.line_fields.specs.Reading.{◌>>=◌, number_at, text_at}
-use Rattle.flow_keys.specs.FlowText.{HasText, low_address, high_address, low_port, high_port}
+use Rattle.key_texts.specs.FlowText.{HasText, low_address, high_address, low_port, high_port}
 use Rattle.flow_reading.specs.declared.ends.Host.{Host}
 use Rattle.flow_reading.specs.declared.ends.End.{End}
 use Rattle.flow_reading.specs.Groups.{groups_at}

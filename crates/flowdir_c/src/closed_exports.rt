@@ -39,7 +39,7 @@ pub extern "C" fn flowdir_close(alloc: Global, table: &mut TableHandle) -> u32
 
 /// Lists the pairs of a closed table, and tells how many there are.
 #[unsafe(no_mangle)]
-pub extern "C" fn flowdir_count(alloc: Global, table: &mut TableHandle, out: &mut usize) -> u32
+pub extern "C" fn flowdir_list(alloc: Global, table: &mut TableHandle, out: &mut usize) -> u32
     requires { (v : ShelfValue) × (table.old.holders ≡ v ∷ []) }
     ensures counted { result ≡ 0 → IsCounted table.old.holders table.new.holders out.new }
     ensures uncounted { result ≢ 0 → out.new ≡ out.old }

@@ -1,7 +1,7 @@
 //! The calls by a seat.
 
 ghost use Rattle.std.specs.Prelude.{◌≡◌, ◌∷◌, []};
-ghost use Rattle.plain_map.specs.declared.calls.Call.TheVariants.{Insert, Lookup, Remove, Tally};
+ghost use Rattle.plain_map.specs.declared.calls.Call.TheVariants.{Count, Insert, Lookup, Put, Remove, Tally};
 ghost use Rattle.flowdir_c.specs.declared.holder.Holder.{Holder};
 ghost use Rattle.flowdir_c.specs.Exports.{Called};
 ghost use Rattle.flowdir_c.specs.Told.{key_of, status_of, written};
@@ -84,6 +84,47 @@ pub extern "C" fn flowdir_tally(
         .into_loose(alloc)
         .into_box();
     let told = holder.tally(key.to_key(), bytes);
+    *seat = SeatHandle::of_loose(Loose::of(holder));
+    tell(told, out)
+}
+
+/// Adds so many bytes to the key's, and inserts the key with this value and these bytes where it is not there.
+#[unsafe(no_mangle)]
+pub extern "C" fn flowdir_count(
+    alloc: Global,
+    seat: &mut SeatHandle,
+    key: &FlowKey,
+    value: u64,
+    bytes: u64,
+    out: &mut Answer,
+) -> u32
+    requires { (v : Holder) × (seat.old.holders ≡ v ∷ []) }
+    ensures { Called (Count (key_of key.now) value bytes) seat.old.holders seat.new.holders out.old out.new result }
+{
+    let mut holder = mem::replace(seat, SeatHandle::blank())
+        .into_loose(alloc)
+        .into_box();
+    let told = holder.count(key.to_key(), value, bytes);
+    *seat = SeatHandle::of_loose(Loose::of(holder));
+    tell(told, out)
+}
+
+/// Gives the key this value, whether it is there or not.
+#[unsafe(no_mangle)]
+pub extern "C" fn flowdir_put(
+    alloc: Global,
+    seat: &mut SeatHandle,
+    key: &FlowKey,
+    value: u64,
+    out: &mut Answer,
+) -> u32
+    requires { (v : Holder) × (seat.old.holders ≡ v ∷ []) }
+    ensures { Called (Put (key_of key.now) value) seat.old.holders seat.new.holders out.old out.new result }
+{
+    let mut holder = mem::replace(seat, SeatHandle::blank())
+        .into_loose(alloc)
+        .into_box();
+    let told = holder.put(key.to_key(), value);
     *seat = SeatHandle::of_loose(Loose::of(holder));
     tell(told, out)
 }

@@ -143,7 +143,11 @@ pub(crate) fn is_lookup(answered: &Record) -> bool
     ensures { result ≡ not (is_update answered.now.call) }
 {
     match answered.call {
-        Call::Insert(_, _) | Call::Remove(_) | Call::Tally(_, _) => false,
+        Call::Insert(_, _)
+        | Call::Remove(_)
+        | Call::Tally(_, _)
+        | Call::Count(_, _, _)
+        | Call::Put(_, _) => false,
         Call::Lookup(_) => true,
     }
 }

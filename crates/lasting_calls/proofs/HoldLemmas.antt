@@ -123,7 +123,7 @@ module _ (f : Going) (h : Holder) (stand : f.now.stand ≡ wants h) where
         ∙ (λ i. Exchange (hold_is at at_is i) (sym old_is i) (sym new_is i))
 
 -- a row of a table can be told in 32 bits
-product_few : (a b row : ℕ) → a ≤ 8 → b ≤ 2 ^ 20 → row < a * b → row < 2 ^ 32
+product_few : (a b row : ℕ) → a ≤ 8 → b ≤ 2 ^ 14 → row < a * b → row < 2 ^ 32
 product_few a b row few_a few_b inside = omega (arith, inside, mul-le-mul_left a few_b, few_a)
 
 -- the row that is held
@@ -134,7 +134,7 @@ held_few f d h desk row is here on_word = by h (subst (λ (g : Going). IsOn g.pl
     few_seats : f.plan.settings.seats ≤ 8
     few_seats = f.plan.settings.seats_in_range.1
 
-    few_rows : f.plan.rows ≤ 2 ^ 20
+    few_rows : f.plan.rows ≤ 2 ^ 14
     few_rows = omega (arith, is.rows, desk.few)
 
     by : (h : Holder) → IsOn f.plan (deed (on (asked_again f) (holds_row h row))) → row < 2 ^ 32

@@ -4,3 +4,12 @@ mod LookLemmas
 mod FindLemmas
 mod HoldLemmas
 mod EndLemmas
+mod StoreLemmas
+mod RowLemmas
+mod StoreRowLemmas
+mod GoesLemmas
+mod OpsLemmas
+mod HandLemmas
+mod TryLemmas
+mod ChangeLemmas
+mod UpdateLemmas

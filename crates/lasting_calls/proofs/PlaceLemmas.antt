@@ -6,8 +6,8 @@ use Rattle.plain_map.specs.declared.keys.Key.{Key}
 use Rattle.plain_map.specs.PlainObject.{class_of}
 use Rattle.table_model.specs.Setup.{rules_of, seats_of, settings_of}
 use Rattle.lasting_model.specs.Plans.{Plan, ample, bucket_for, buckets_of}
-use Rattle.lasting_model.specs.Codes.{count_place, items_start}
-use Rattle.lasting_model.specs.Words.{Bucket, Hold, RowWord, Want, most_words, place}
+use Rattle.lasting_model.specs.Codes.{SLOT_WORDS, count_place, items_start}
+use Rattle.lasting_model.specs.Words.{Bucket, Hold, OpWord, RowWord, Want, most_words, place}
 use Rattle.lasting_calls.specs.Desks.{IsOf}
 use Rattle.lasting_calls.specs.Going.{Going}
 use Rattle.lasting_calls.specs.declared.desk.Desk.{Desk}
@@ -79,3 +79,10 @@ module _ (g : Going) (desk : Desk) (is : IsOf g desk) where
 
   pub hold_at : (seat : ℕ) → place g.plan (Hold seat) ≡ 2 * desk.settings.seats + seat
   hold_at seat = omega (arith, seats_are)
+
+  pub op_at : (seat i : ℕ) → place g.plan (OpWord seat i) ≡ desk.ops + SLOT_WORDS * seat + i
+  op_at seat i = omega (arith, seats_are, desk.starts.ops_are)
+
+  pub op_starts : (seat start : ℕ) → g.seat ≡ seat → start ≡ desk.ops + SLOT_WORDS * seat →
+      start ≡ place g.plan (OpWord g.seat 0)
+  op_starts seat start same is = omega (arith, op_at g.seat 0, same, is)

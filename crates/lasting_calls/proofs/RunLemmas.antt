@@ -1,6 +1,6 @@
 -- Words that are found one after the other.
-use Rattle.std.proofs.Common.{◌≡◌, ℕ, zero, suc, ◌+◌, ◌<◌, ◌≤◌, List, [], ◌∷◌, ◌++◌, length, take, set, refl, sym, ap, ◌∙◌, arith, append_assoc}
-use Rattle.std.proofs.lemmas.List.{append-nil, length-append}
+use Rattle.std.proofs.Common.{◌≡◌, ℕ, zero, suc, ◌+◌, ◌<◌, ◌≤◌, List, [], ◌∷◌, ◌++◌, length, take, set, replicate, refl, sym, ap, ◌∙◌, arith, append_assoc}
+use Rattle.std.proofs.lemmas.List.{append-nil, length-append, replicate-append-replicate}
 use Rattle.lasting_calls.specs.Going.{Going, Reads, goes, goes_by, task}
 use Rattle.lasting_calls.specs.Going.Task.{Load}
 
@@ -64,3 +64,25 @@ module _ (family : List ℕ → Going) (was : List ℕ) (start n : ℕ) (l : Lea
   pub leads_reads : (first : Going) → first ≡ family was → Reads first start n
   leads_reads first at words h =
       ap (λ (g : Going). task (goes_by g words)) at ∙ ap task (leads_all words (omega (arith, h))) ∙ l.asked words h
+
+-- ---- words that are stored
+
+-- one word more is stored
+pub stored_more : (first : Going) {now next : Going} (i : ℕ) → now ≡ goes_by first (replicate i 0) →
+    next ≡ goes now 0 → next ≡ goes_by first (replicate (i + 1) 0)
+stored_more first i was step =
+    step ∙ ap (λ (g : Going). goes g 0) was ∙ sym (goes_by-more first (replicate i 0) 0)
+    ∙ ap (goes_by first) (replicate-append-replicate i 1 0)
+
+-- a family of states by how many words are stored
+module _ (family : ℕ → Going) (n : ℕ) (next : (k : ℕ) → k < n → goes (family k) 0 ≡ family (k + 1)) where
+  -- so it goes
+  pub stores_go : (k : ℕ) → k ≤ n → goes_by (family 0) (replicate k 0) ≡ family k
+  stores_go zero h = refl
+  stores_go (suc k) h =
+      let one : suc k ≡ k + 1 = omega arith in
+      ap (λ (m : ℕ). goes_by (family 0) (replicate m 0)) one
+      ∙ ap (goes_by (family 0)) (sym (replicate-append-replicate k 1 0))
+      ∙ goes_by-more (family 0) (replicate k 0) 0
+      ∙ ap (λ (g : Going). goes g 0) (stores_go k (omega (arith, h))) ∙ next k (omega (arith, h))
+      ∙ ap family (sym one)

@@ -1,5 +1,5 @@
 -- A seat or a reader, and where each step leads it: the steps of `lasting_model`, without their number.
-use Rattle.std.specs.Prelude.{◌≡◌, ℕ, ◌+◌, ◌-◌, ◌<◌, ◌≤◌, ◌^◌, Bool, true, false, if◌then◌else◌, List, length, fold, Option, Some, None}
+use Rattle.std.specs.Prelude.{◌≡◌, ℕ, ◌+◌, ◌-◌, ◌<◌, ◌≤◌, Bool, true, false, if◌then◌else◌, List, length, fold, Option, Some, None}
 use Rattle.plain_map.specs.declared.calls.Call.{Call}
 use Rattle.bucket_states.specs.Laws.{IsGood}
 use Rattle.bucket_states.specs.Values.{IsSmall}
@@ -11,6 +11,7 @@ use Rattle.lasting_model.specs.Steps as S
 use Rattle.lasting_model.specs.Steps.{SeatNow, Stand, Idle, Goes, Glances, Update, Step, Stuck, CheckRow, LoadAnnounced, Aim, OfKey, OfBucket, Glance, GlanceWord, Deed, Nothing, Swap, deed_of, glance_deed, bucket_of_update}
 use Rattle.lasting_model.specs.Goes.{Fate, On, Ends, Refuses, fate, own_after, first_fate, sweep_begins, GlanceFate, Looks, Shows, Disturbed, glance_fate, Told, Replied, Again, Refused, told_by_items}
 use Rattle.lasting_model.specs.Worlds.{LOOK_TRIES, look_after, seat_after, next_update, stand_at}
+use Rattle.plain_map.specs.Updates.{number_limit}
 
 -- who calls: a seat, which has a hold word, or a reader, which has none. A reader's own state is that of a seat that
 -- only looks
@@ -148,7 +149,7 @@ abbrev pub Finds : Going → Stand → (word : ℕ) → Type 0
 Finds g Idle word = Unit {0}
 Finds g (Goes u (CheckRow turn old words)) word =
     word ≡ generation_in old → IsBucketRow (ample g.plan) (bucket_of_update (ample g.plan) u) words
-Finds g (Goes u (LoadAnnounced attempt found)) word = update_in word < 2 ^ 32
+Finds g (Goes u (LoadAnnounced attempt found)) word = update_in word < number_limit
 Finds g (Goes u step) word = Unit {0}
 Finds g (Glances aim glance) word = Unit {0}
 

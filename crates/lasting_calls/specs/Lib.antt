@@ -2,3 +2,5 @@ pub mod Going
 pub mod Starts
 pub mod Desks
 pub mod Items
+pub mod Updates
+pub mod Writes

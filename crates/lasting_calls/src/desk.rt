@@ -4,20 +4,23 @@
 
 ghost use Rattle.std.specs.Prelude.{◌≡◌, ◌<◌, ◌≤◌, ◌^◌};
 ghost use Rattle.lasting_calls.specs.Starts.{HasStarts};
-ghost use Rattle.lasting_calls.specs.declared.desk.TheConstants.{MOST_ROWS};
+ghost use Rattle.lasting_calls.specs.declared.desk.TheConstants.{MOST_ROWS, SLOT_WORDS};
 
 use hash_bits::Hashing;
 use plain_map::{Key, Rules};
-use step_counts::{ITEM_WORDS, OP_WORDS, SEAT_WORDS, Settings};
+use step_counts::{BUCKET_HEAD_WORDS, ITEM_WORDS, OP_WORDS, SEAT_WORDS, Settings};
 
 /// How many rows a bucket word can tell.
-pub const ROW_LIMIT: u64 = 1 << 24;
+pub const ROW_LIMIT: u64 = 1 << 17;
 
-// The words of an op: its number is in the announcement.
-const SLOT_WORDS: usize = OP_WORDS - 1;
+/// How many classes an announcement can tell.
+pub const CLASSES: u64 = 1 << 15;
+
+/// The words of an op: its number is in the announcement.
+pub const SLOT_WORDS: usize = OP_WORDS - 1;
 
 /// The most rows of a seat.
-pub const MOST_ROWS: u32 = 1 << 20;
+pub const MOST_ROWS: u32 = 1 << 14;
 
 /// Where the words lie, the hashing, and which seat it is.
 #[derive(Clone, Copy)]
@@ -46,7 +49,9 @@ pub struct Desk {
 
 impl Desk {
     ghost use Rattle.std.specs.Prelude.{◌+◌, ◌*◌};
+    ghost use Rattle.step_counts.specs.StepCounts.{bucket_row_words};
     ghost use Rattle.plain_map.specs.PlainObject.{class_of};
+    ghost use Rattle.lasting_calls.specs.declared.room.TheConstants.{MOST_WORDS};
 
     /// The desk of a seat at a table of these settings, with so many rows for each seat.
     pub fn new(settings: Settings, hashing: Hashing, rows: u32, seat: u32) -> Desk
@@ -96,6 +101,23 @@ impl Desk {
         self.first_row + row * self.row_words
     }
 
+    /// The announcement of a seat, and the first word of its op.
+    #[inline(always)]
+    pub(crate) fn announced(&self, seat: u32) -> u64
+        ensures { result ≡ seat }
+    {
+        seat as u64
+    }
+
+    #[inline(always)]
+    pub(crate) fn op(&self, seat: u32) -> u64
+        requires { seat < self.now.settings.seats }
+        ensures value { result ≡ self.now.ops + SLOT_WORDS * seat }
+        ensures few { result < 2 ^ 63 }
+    {
+        self.ops + SLOT_WORDS as u64 * seat as u64
+    }
+
     /// The word that a seat wants, and its hold word.
     #[inline(always)]
     pub(crate) fn want(&self, seat: u32) -> u64
@@ -117,6 +139,17 @@ impl Desk {
         ensures { result ≡ self.now.count }
     {
         self.count
+    }
+
+    /// How many words of a row stand at hand.
+    #[inline(always)]
+    pub(crate) fn hand_words(&self) -> usize
+        ensures value { result ≡ bucket_row_words self.now.settings }
+        ensures few { result ≤ MOST_WORDS }
+    {
+        BUCKET_HEAD_WORDS
+            + ITEM_WORDS * self.settings.items as usize
+            + SEAT_WORDS * self.settings.seats as usize
     }
 
     /// The bucket of a key.

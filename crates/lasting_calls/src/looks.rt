@@ -40,9 +40,9 @@ impl Source {
     }
 }
 
-// A count as it is used: one that was disturbed is cut to the room of a bucket.
+/// A count as it is used: one that was disturbed is cut to the room of a bucket.
 #[inline(always)]
-fn cut(desk: &Desk, count: u64) -> u64
+pub(crate) fn cut(desk: &Desk, count: u64) -> u64
     ensures { result ≡ min count desk.now.settings.items }
 {
     count.min(desk.settings.items as u64)

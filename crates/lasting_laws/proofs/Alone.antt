@@ -69,7 +69,7 @@ module _ (setup : Setup) (p : ℕ) (events : List Event) (run : IsRun setup even
     goes_on = run_on setup events (step_event p ∷ []) run (
       record {
         seat = h;
-        begin = subst (λ (s : SeatState). FitsStand s.account s.stand None) (sym mine) refl;
+        begin = subst (λ (s : SeatState). FitsStand setup s.account s.stand None) (sym mine) refl;
       },
       tt,
     );

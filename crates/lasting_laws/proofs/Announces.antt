@@ -82,7 +82,7 @@ module _ (setup : Setup) (p : ℕ) (events : List Event) (run : IsRun setup even
     (f : Follows setup (world_after setup events) c locals) (h : p < seats_of setup) (account : Account) (call : Call)
     (update : is_update call ≡ true)
     (mine : seat_in (world_after setup events) p ≡ record { account = account; stand = Idle })
-    (can : CanBegin account (0, call)) (free : refusal_of setup p account call ≡ None) where
+    (can : CanBegin setup account (0, call)) (free : refusal_of setup p account call ≡ None) where
   abbrev w : World
   w = world_after setup events
 
@@ -119,7 +119,7 @@ module _ (setup : Setup) (p : ℕ) (events : List Event) (run : IsRun setup even
       run = run_on setup events (begin ∷ []) run (
         record {
           seat = h;
-          begin = subst (λ (s : SeatState). FitsStand s.account s.stand (Some (0, call))) (sym mine) (refl, can);
+          begin = subst (λ (s : SeatState). FitsStand setup s.account s.stand (Some (0, call))) (sym mine) (refl, can);
         },
         tt,
       );
@@ -441,7 +441,7 @@ module _ (setup : Setup) (p : ℕ) (events : List Event) (run : IsRun setup even
     (f : Follows setup (world_after setup events) c locals) (h : p < seats_of setup) (account : Account) (call : Call)
     (update : is_update call ≡ true)
     (mine : seat_in (world_after setup events) p ≡ record { account = account; stand = Idle })
-    (can : CanBegin account (0, call)) (free : refusal_of setup p account call ≡ None) where
+    (can : CanBegin setup account (0, call)) (free : refusal_of setup p account call ≡ None) where
   abbrev number : ℕ
   number = length account.records + 1
 

@@ -4,7 +4,7 @@ use Rattle.std.specs.Prelude.{◌==◌, All, fold}
 use Rattle.std.proofs.lemmas.Bool.{cases_eq}
 use Rattle.std.proofs.lemmas.List.Elements.{All-nil, All-cons, All-append}
 use Rattle.plain_map.specs.declared.calls.Call.{Call}
-use Rattle.plain_map.specs.declared.calls.Call.TheVariants.{Insert, Remove, Lookup, Tally}
+use Rattle.plain_map.specs.declared.calls.Call.TheVariants.{Insert, Remove, Lookup, Tally, Count, Put}
 use Rattle.bucket_states.specs.declared.ops.Op.{Op}
 use Rattle.lasting_model.specs.Plans.{Plan, IsPlan, PIECE, ample}
 use Rattle.lasting_model.specs.Bounds.{update_bound, look_bound}
@@ -48,6 +48,8 @@ module _ (plan : Plan) where
   change_bound (Remove key) is = refl
   change_bound (Lookup key) is = absurd is
   change_bound (Tally key amount) is = refl
+  change_bound (Count key value amount) is = refl
+  change_bound (Put key value) is = refl
 
   aim_bound : (aim : Aim) → call_bound plan.settings (asked_by_aim aim) ≡ looks_bound
   aim_bound (OfKey key) = refl
@@ -410,6 +412,8 @@ module _ (plan : Plan) where
       call_first (Insert key value) stood k = update_first (Insert key value) tt stood k
       call_first (Remove key) stood k = update_first (Remove key) tt stood k
       call_first (Tally key amount) stood k = update_first (Tally key amount) tt stood k
+      call_first (Count key value amount) stood k = update_first (Count key value amount) tt stood k
+      call_first (Put key value) stood k = update_first (Put key value) tt stood k
 
       seat_goes : (stand : Stand) → now.stand ≡ stand → IsFlying stand → Pools plan
           (ticked (goes_on plan x p now stand)) →

@@ -2,7 +2,7 @@
 use Rattle.std.proofs.Common.{◌≡◌, ℕ, ◌+◌, ◌*◌, ◌<◌, ◌≤◌, true, List, [], ◌∷◌, length, Some, refl, sym, ap, ◌∙◌, subst, arith}
 use Rattle.std.proofs.lemmas.List.{length-append}
 use Rattle.plain_map.specs.declared.calls.Call.{Call}
-use Rattle.plain_map.specs.declared.calls.Call.TheVariants.{Insert, Remove, Lookup, Tally}
+use Rattle.plain_map.specs.declared.calls.Call.TheVariants.{Insert, Remove, Lookup, Tally, Count, Put}
 use Rattle.plain_map.specs.Calls.{key_in, is_update}
 use Rattle.plain_map.specs.Updates.{IsUpdate}
 use Rattle.plain_map.specs.declared.records.Record.{Record}
@@ -26,6 +26,8 @@ update_tested (Insert key value) u = refl
 update_tested (Remove key) u = refl
 update_tested (Lookup key) u = absurd u
 update_tested (Tally key amount) u = refl
+update_tested (Count key value amount) u = refl
+update_tested (Put key value) u = refl
 
 module _ (plan : Plan) (is_plan : IsPlan plan) (y : Lasting) (m : Moment (ample plan))
     (word_at : (bucket at : ℕ) → ℕ) (cut : (clock : ℕ) → List Event) (tied : Tied plan y) (marks : Marks plan y) where

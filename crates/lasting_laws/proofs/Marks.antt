@@ -102,12 +102,12 @@ module _ (plan : Plan) (is_plan : IsPlan plan) (x : Lasting) (h : Pools plan x) 
       ]
 
   -- a bucket word can tell it
-  pub own_small : (row : ℕ) → owner_in plan row < plan.settings.seats → row < 2 ^ 24
+  pub own_small : (row : ℕ) → owner_in plan row < plan.settings.seats → row < 2 ^ 17
   own_small row less =
       let some : 0 < plan.rows = omega (arith, enough plan is_plan, less) in
       let below : row < plan.settings.seats * plan.rows =
       (div-lt_iff_lt-mul {k = plan.rows} {x = row} {y = plan.settings.seats} some).0 less in
-      let most : plan.settings.seats * plan.rows ≤ 8 * 2 ^ 20 = mul-le-mul plan.settings.seats_in_range.1 is_plan.few in
+      let most : plan.settings.seats * plan.rows ≤ 8 * 2 ^ 14 = mul-le-mul plan.settings.seats_in_range.1 is_plan.few in
       omega (arith, below, most)
 
   -- a seat that writes has a free row, which is its own

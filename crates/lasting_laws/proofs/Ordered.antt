@@ -5,7 +5,7 @@ use Rattle.std.proofs.lemmas.Bool.{cases_lt}
 use Rattle.std.proofs.lemmas.List.{take_at, length-append, get_or_past}
 use Rattle.plain_map.specs.declared.keys.Key.{Key}
 use Rattle.plain_map.specs.declared.keys.Pair.{Pair}
-use Rattle.plain_map.specs.declared.calls.Call.TheVariants.{Insert, Remove, Lookup, Tally}
+use Rattle.plain_map.specs.declared.calls.Call.TheVariants.{Insert, Remove, Lookup, Tally, Count, Put}
 use Rattle.bucket_states.specs.Items.{reply_in}
 use Rattle.bucket_states.specs.States.{BucketState}
 use Rattle.table_model.specs.declared.events.Event.{Event}
@@ -303,9 +303,13 @@ module _ (plan : Plan) (events : List L.Event) (run : L.IsRun plan events) where
   looked_at a (BySeat seat) (Called (Insert key value)) l k = tt
   looked_at a (BySeat seat) (Called (Remove key)) l k = tt
   looked_at a (BySeat seat) (Called (Tally key amount)) l k = tt
+  looked_at a (BySeat seat) (Called (Count key value amount)) l k = tt
+  looked_at a (BySeat seat) (Called (Put key value)) l k = tt
   looked_at a (ByReader reader) (Called (Insert key value)) l k = tt
   looked_at a (ByReader reader) (Called (Remove key)) l k = tt
   looked_at a (ByReader reader) (Called (Tally key amount)) l k = tt
+  looked_at a (ByReader reader) (Called (Count key value amount)) l k = tt
+  looked_at a (ByReader reader) (Called (Put key value)) l k = tt
 
   -- each answer is right, and was given by now
   right_at : (i : ℕ) (d : Answer) → i < length (L.world_after plan events).answers →
@@ -326,6 +330,8 @@ module _ (plan : Plan) (events : List L.Event) (run : L.IsRun plan events) where
   has_record first last seat (Remove key) reply u k = k
   has_record first last seat (Lookup key) reply u k = absurd u
   has_record first last seat (Tally key amount) reply u k = k
+  has_record first last seat (Count key value amount) reply u k = k
+  has_record first last seat (Put key value) reply u k = k
 
   -- what was answered grows
   grow : (i n : ℕ) (k : ℕ) → i ≤ n → n ≤ length events →

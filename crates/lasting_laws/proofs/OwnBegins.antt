@@ -2,7 +2,7 @@
 use Rattle.std.proofs.Common.{◌≡◌, ℕ, ◌+◌, ◌-◌, ◌<◌, ◌≤◌, Bool, true, false, cond, List, [], ◌∷◌, length, Option, Some, None, refl, sym, ap, ◌∙◌, subst, arith}
 use Rattle.std.specs.Prelude.{All, ◌==◌}
 use Rattle.plain_map.specs.declared.calls.Call.{Call}
-use Rattle.plain_map.specs.declared.calls.Call.TheVariants.{Insert, Remove, Lookup, Tally}
+use Rattle.plain_map.specs.declared.calls.Call.TheVariants.{Insert, Remove, Lookup, Tally, Count, Put}
 use Rattle.plain_map.specs.declared.records.Record.{Record}
 use Rattle.plain_map.specs.Calls.{key_in}
 use Rattle.plain_map.specs.Keys.{IsKey}
@@ -277,6 +277,8 @@ module _ (plan : Plan) (is_plan : IsPlan plan) (x : Lasting) (shown : IsShown pl
     call_first (Insert key value) can = update_first (Insert key value) can.0 can.1 can.2
     call_first (Remove key) can = update_first (Remove key) can.0 can.1 can.2
     call_first (Tally key amount) can = update_first (Tally key amount) can.0 can.1 can.2
+    call_first (Count key value amount) can = update_first (Count key value amount) can.0 can.1 can.2
+    call_first (Put key value) can = update_first (Put key value) can.0 can.1 can.2
 
   -- ---- all of it
 

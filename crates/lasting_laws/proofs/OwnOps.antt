@@ -5,7 +5,7 @@ use Rattle.std.proofs.Math.Pow.{pow_mono}
 use Rattle.std.proofs.lemmas.Bool.{cases_lt, eqb-true, ltb-true, ltb-false}
 use Rattle.std.proofs.lemmas.List.{length-append, take_all}
 use Rattle.plain_map.specs.declared.calls.Call.{Call}
-use Rattle.plain_map.specs.declared.calls.Call.TheVariants.{Insert, Remove, Lookup, Tally}
+use Rattle.plain_map.specs.declared.calls.Call.TheVariants.{Insert, Remove, Lookup, Tally, Count, Put}
 use Rattle.plain_map.specs.declared.keys.Key.{Key}
 use Rattle.plain_map.specs.Calls.{key_in}
 use Rattle.plain_map.specs.Updates.{IsUpdate}
@@ -48,9 +48,11 @@ call_long (Insert key value) u = refl
 call_long (Remove key) u = refl
 call_long (Lookup key) u = absurd u
 call_long (Tally key amount) u = refl
+call_long (Count key value amount) u = refl
+call_long (Put key value) u = refl
 
 -- a class fits into an announcement
-class_fits : (plan : Plan) (key : Key) → bucket_for (ample plan) key < 2 ^ 16
+class_fits : (plan : Plan) (key : Key) → bucket_for (ample plan) key < 2 ^ 15
 class_fits plan key =
     let small = bucket_small plan key in
     let places : 2 ^ plan.settings.depth ≤ 2 ^ 12 = pow_mono plan.settings.depth_in_range.1 in

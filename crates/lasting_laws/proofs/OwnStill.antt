@@ -2,7 +2,7 @@
 use Rattle.std.proofs.Common.{◌≡◌, ℕ, ◌+◌, ◌<◌, ◌≤◌, inl, inr, true, false, List, [], ◌∷◌, length, Option, refl, sym, ap, ◌∙◌, subst, arith}
 use Rattle.std.proofs.lemmas.List.{length-append}
 use Rattle.plain_map.specs.declared.calls.Call.{Call}
-use Rattle.plain_map.specs.declared.calls.Call.TheVariants.{Insert, Remove, Lookup, Tally}
+use Rattle.plain_map.specs.declared.calls.Call.TheVariants.{Insert, Remove, Lookup, Tally, Count, Put}
 use Rattle.plain_map.specs.declared.calls.Reply.{Reply}
 use Rattle.plain_map.specs.declared.records.Record.{Record}
 use Rattle.plain_map.specs.Updates.{IsUpdate}
@@ -38,6 +38,8 @@ updated_is setup first last p (Insert key value) reply u r = r
 updated_is setup first last p (Remove key) reply u r = r
 updated_is setup first last p (Lookup key) reply u r = absurd u
 updated_is setup first last p (Tally key amount) reply u r = r
+updated_is setup first last p (Count key value amount) reply u r = r
+updated_is setup first last p (Put key value) reply u r = r
 
 pub refused_is : (setup : Setup) (first last : List Event) (p : ℕ) (call : Call) →
     IsUpdated setup first last (BySeat p) (Called call) Refused
@@ -45,6 +47,8 @@ refused_is setup first last p (Insert key value) = tt
 refused_is setup first last p (Remove key) = tt
 refused_is setup first last p (Lookup key) = tt
 refused_is setup first last p (Tally key amount) = tt
+refused_is setup first last p (Count key value amount) = tt
+refused_is setup first last p (Put key value) = tt
 
 module _ (plan : Plan) (is_plan : IsPlan plan) (x : Lasting) (shown : IsShown plan x) (p : ℕ)
     (inside : p < plan.settings.seats) where

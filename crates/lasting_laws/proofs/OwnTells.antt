@@ -4,7 +4,7 @@ use Rattle.std.proofs.lemmas.Bool.{cases_eq, cases_lt}
 use Rattle.std.proofs.lemmas.List.Sums.{count_by-le-length}
 use Rattle.step_counts.specs.declared.rows.SeatRows.{SeatRows}
 use Rattle.plain_map.specs.declared.calls.Call.{Call}
-use Rattle.plain_map.specs.declared.calls.Call.TheVariants.{Insert, Remove, Lookup, Tally}
+use Rattle.plain_map.specs.declared.calls.Call.TheVariants.{Insert, Remove, Lookup, Tally, Count, Put}
 use Rattle.plain_map.specs.declared.records.Record.{Record}
 use Rattle.plain_map.specs.Calls.{key_in, is_update}
 use Rattle.plain_map.specs.Serving.{IsAskable}
@@ -29,7 +29,7 @@ use Rattle.lasting_model.specs.Steps.{SeatNow, Update, Step, bucket_of_update}
 use Rattle.lasting_model.specs.Goes.{On}
 use Rattle.lasting_model.specs.Worlds.{Lasting, Answer, goes, seat_after, stepped, ticked, with_seat}
 use Rattle.lasting_model.specs.Worlds as L
-use Rattle.lasting_laws.proofs.Ample.{never_refused}
+use Rattle.lasting_laws.proofs.Ample.{never_refused, ample_limit}
 use Rattle.lasting_laws.proofs.Announces.{announces_at_once, with_op, first_round}
 use Rattle.lasting_laws.proofs.Won.{Comes}
 use Rattle.lasting_laws.proofs.FixedDepth.{lead_is_class}
@@ -45,6 +45,8 @@ askable (Insert key value) u = u
 askable (Remove key) u = tt
 askable (Lookup key) u = tt
 askable (Tally key amount) u = u
+askable (Count key value amount) u = u
+askable (Put key value) u = u
 
 module _ (plan : Plan) (is_plan : IsPlan plan) (x : Lasting) (shown : IsShown plan x) (p : ℕ)
     (inside : p < plan.settings.seats) (u : Update) (stood : (L.seat_in x p).stand ≡ S.Goes u S.Announce)
@@ -91,12 +93,12 @@ module _ (plan : Plan) (is_plan : IsPlan plan) (x : Lasting) (shown : IsShown pl
   update : is_update u.call ≡ true
   update = update_tested u.call made.update
 
-  can : CanBegin account (0, u.call)
+  can : CanBegin setup account (0, u.call)
   can = record {
     packet = omega arith;
     key = made.key;
     value = askable u.call made.update;
-    count = (let less = few in omega (arith, less));
+    count = (let less = few in omega (arith, less, ample_limit plan));
   }
 
   free : refusal_of setup p account u.call ≡ None

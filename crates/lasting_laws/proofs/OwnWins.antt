@@ -105,7 +105,7 @@ module _ (plan : Plan) (is_plan : IsPlan plan) (x : Lasting) (shown : IsShown pl
   own : owner_in plan row ≡ p
   own = writer_owns plan is_plan x shown.pools p inside u (S.Exchange t found) stood (omega arith)
 
-  small : row < 2 ^ 24
+  small : row < 2 ^ 17
   small = own_small plan is_plan x shown.pools row (let e = own in omega (arith, e, inside))
 
   abbrev account : Account

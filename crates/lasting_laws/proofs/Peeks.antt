@@ -5,7 +5,7 @@ use Rattle.std.proofs.lemmas.Bool.{eqb-true, lt-ltb}
 use Rattle.std.proofs.lemmas.List.{length-append, append-nil}
 use Rattle.std.proofs.lemmas.List.Elements.{All-nil, All-cons, All-append, All-weaker}
 use Rattle.step_counts.specs.declared.TheConstants.{ITEM_WORDS}
-use Rattle.plain_map.specs.declared.calls.Call.TheVariants.{Insert, Remove, Lookup, Tally}
+use Rattle.plain_map.specs.declared.calls.Call.TheVariants.{Insert, Remove, Lookup, Tally, Count, Put}
 use Rattle.plain_map.specs.declared.keys.Pair.{Pair}
 use Rattle.lasting_model.specs.Plans.{Plan, IsPlan, ample, buckets_of}
 use Rattle.lasting_model.specs.Codes.{row_in, generation_in, count_in, count_place, item_place, pair_in, pairs_of_row}
@@ -187,6 +187,8 @@ module _ (plan : Plan) where
     peek_still a (ByReader reader) (Called (Insert key value)) k = absurd k
     peek_still a (ByReader reader) (Called (Remove key)) k = absurd k
     peek_still a (ByReader reader) (Called (Tally key amount)) k = absurd k
+    peek_still a (ByReader reader) (Called (Count key value amount)) k = absurd k
+    peek_still a (ByReader reader) (Called (Put key value)) k = absurd k
     peek_still a (ByReader reader) (Copied bucket) k =
         elim k [ inl again ↦ inl again | inr o ↦ inr (moment_still a (OfBucket bucket) o) ]
 

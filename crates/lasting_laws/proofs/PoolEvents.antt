@@ -8,7 +8,7 @@ use Rattle.std.proofs.Math.Nat.{div-lt_iff_lt-mul, mul-le-mul}
 use Rattle.list_laws.proofs.Lists.{In, in_left, in_right}
 use Rattle.list_laws.proofs.Totals.{one_if}
 use Rattle.plain_map.specs.declared.calls.Call.{Call}
-use Rattle.plain_map.specs.declared.calls.Call.TheVariants.{Insert, Remove, Lookup, Tally}
+use Rattle.plain_map.specs.declared.calls.Call.TheVariants.{Insert, Remove, Lookup, Tally, Count, Put}
 use Rattle.plain_map.specs.declared.keys.Pair.{Pair}
 use Rattle.word_rows.proofs.MemoryLemmas.{put_same, put_other}
 use Rattle.bucket_states.specs.declared.ops.Op.{Op}
@@ -145,12 +145,12 @@ module _ (plan : Plan) (is_plan : IsPlan plan) (x : Lasting) (h : Pools plan x) 
     own : owner_in plan row ≡ p
     own = owned plan word p (row ∷ rest) now.named (todo_of now.sweep) (gone_of now.sweep) lists row counted
 
-    row_small : row < 2 ^ 24
+    row_small : row < 2 ^ 17
     row_small =
         let some : 0 < plan.rows = omega (arith, enough plan is_plan, inside) in
         let below : row < plan.settings.seats * plan.rows =
         (div-lt_iff_lt-mul {k = plan.rows} {x = row} {y = plan.settings.seats} some).0 (omega (arith, own, inside)) in
-        let most : plan.settings.seats * plan.rows ≤ 8 * 2 ^ 20 =
+        let most : plan.settings.seats * plan.rows ≤ 8 * 2 ^ 14 =
         mul-le-mul plan.settings.seats_in_range.1 is_plan.few in
         omega (arith, below, most)
 
@@ -599,6 +599,8 @@ module _ (plan : Plan) (is_plan : IsPlan plan) (x : Lasting) (h : Pools plan x) 
     call_first (Insert key value) stood = update_first (Insert key value) stood
     call_first (Remove key) stood = update_first (Remove key) stood
     call_first (Tally key amount) stood = update_first (Tally key amount) stood
+    call_first (Count key value amount) stood = update_first (Count key value amount) stood
+    call_first (Put key value) stood = update_first (Put key value) stood
 
     seat_goes : (stand : Stand) → me.stand ≡ stand → IsFlying stand → Pools plan (ticked (goes_on plan x p me stand))
     seat_goes S.Idle e flies = absurd flies

@@ -280,19 +280,19 @@ module _ (plan : Plan) (is : IsPlan plan) where
     row_owner : owner_in plan (opening_row plan b) ≡ p
     row_owner = own p p_inside (opening_row plan b) (omega arith) (omega (arith, j_counted, fits p p_inside))
 
-    pub row_small : opening_row plan b < 2 ^ 24
+    pub row_small : opening_row plan b < 2 ^ 17
     row_small =
         let some : 0 < plan.rows = omega (arith, is.rows, some_seats) in
         let below : opening_row plan b < n * plan.rows =
         (div-lt_iff_lt-mul {k = plan.rows} {x = opening_row plan b} {y = n} some).0
         (omega (arith, row_owner, p_inside)) in
-        let most : n * plan.rows ≤ 8 * 2 ^ 20 = mul-le-mul plan.settings.seats_in_range.1 is.few in
+        let most : n * plan.rows ≤ 8 * 2 ^ 14 = mul-le-mul plan.settings.seats_in_range.1 is.few in
         omega (arith, below, most)
 
     pub word_is : word_in x b ≡ opening_row plan b
     unfolding opening_store
     word_is =
-        ap (λ (c : Bool). row_in (cond c (0 * 2 ^ 24 + opening_row plan b) 0)) (lt-ltb b buckets less)
+        ap (λ (c : Bool). row_in (cond c (0 * 2 ^ 17 + opening_row plan b) 0)) (lt-ltb b buckets less)
         ∙ row_of_tag 0 (opening_row plan b) row_small
 
     pub placed_first : Placed plan x b

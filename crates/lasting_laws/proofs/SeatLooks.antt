@@ -6,7 +6,7 @@ use Rattle.std.proofs.lemmas.Bool.{cases_eq}
 use Rattle.std.proofs.lemmas.List.{length-append}
 use Rattle.std.proofs.lemmas.List.Elements.{All-nil, All-cons, All-append, All-weaker}
 use Rattle.plain_map.specs.declared.calls.Call.{Call}
-use Rattle.plain_map.specs.declared.calls.Call.TheVariants.{Insert, Remove, Lookup, Tally}
+use Rattle.plain_map.specs.declared.calls.Call.TheVariants.{Insert, Remove, Lookup, Tally, Count, Put}
 use Rattle.plain_map.specs.declared.keys.Pair.{Pair}
 use Rattle.plain_map.specs.Updates.{IsUpdate}
 use Rattle.word_rows.proofs.MemoryLemmas.{put_same, put_other}
@@ -198,6 +198,8 @@ module _ (plan : Plan) where
   look_lifts es x turn event a (BySeat seat) (Called (Insert key value)) k = tt
   look_lifts es x turn event a (BySeat seat) (Called (Remove key)) k = tt
   look_lifts es x turn event a (BySeat seat) (Called (Tally key amount)) k = tt
+  look_lifts es x turn event a (BySeat seat) (Called (Count key value amount)) k = tt
+  look_lifts es x turn event a (BySeat seat) (Called (Put key value)) k = tt
   look_lifts es x turn event a (BySeat seat) (Copied bucket) k = moment_still plan es x x event turn a
       (OfBucket bucket) k
 
@@ -210,6 +212,8 @@ module _ (plan : Plan) where
   update_told es p a (Remove key) u = tt
   update_told es p a (Lookup key) u = absurd u
   update_told es p a (Tally key amount) u = tt
+  update_told es p a (Count key value amount) u = tt
+  update_told es p a (Put key value) u = tt
 
   module _ (is_plan : IsPlan plan) (es : List Event) (x : Lasting) (s : SeatSeen es x) (p : ℕ)
       (inside : p < plan.settings.seats) (event : Event) where
@@ -618,6 +622,8 @@ module _ (plan : Plan) where
     call_first (Insert key value) can = update_first (Insert key value) can.0
     call_first (Remove key) can = update_first (Remove key) can.0
     call_first (Tally key amount) can = update_first (Tally key amount) can.0
+    call_first (Count key value amount) can = update_first (Count key value amount) can.0
+    call_first (Put key value) can = update_first (Put key value) can.0
 
     looking_at : (stand : Stand) → now.stand ≡ stand → Looking es x s.tied.since p now.course.began stand
     looking_at stand e = subst (Looking es x s.tied.since p now.course.began) e (s.looks p inside)

@@ -6,12 +6,12 @@ use Rattle.std.proofs.lemmas.Bool.{cases_eq, cases_lt, lt-ltb, ltb-true, eqb-tru
 use Rattle.std.proofs.lemmas.List.{length-append}
 use Rattle.step_counts.specs.declared.TheConstants.{SEAT_WORDS, ITEM_WORDS}
 use Rattle.plain_map.specs.declared.calls.Call.{Call}
-use Rattle.plain_map.specs.declared.calls.Call.TheVariants.{Insert, Remove, Lookup, Tally}
+use Rattle.plain_map.specs.declared.calls.Call.TheVariants.{Insert, Remove, Lookup, Tally, Count, Put}
 use Rattle.plain_map.specs.declared.calls.Reply.{Reply}
 use Rattle.plain_map.specs.declared.keys.Pair.{Pair}
 use Rattle.plain_map.specs.declared.rules.Rules.{Rules}
 use Rattle.plain_map.specs.Keys.{Session, pair_of}
-use Rattle.plain_map.specs.PlainObject.{new_session}
+use Rattle.plain_map.specs.PlainObject.{new_session, counted_session, grown, revalued}
 use Rattle.word_rows.specs.ReplyWords.{reply_of_word}
 use Rattle.word_rows.specs.KeyWords.{pair_of_words}
 use Rattle.word_rows.specs.Blocks.{block}
@@ -19,10 +19,10 @@ use Rattle.word_rows.specs.BucketWords.{seat_words, item_words}
 use Rattle.word_rows.proofs.BucketLemmas.{length-item_words, length-seat_words}
 use Rattle.word_rows.proofs.PartLemmas.{length-first_values}
 use Rattle.bucket_states.specs.declared.ops.Op.{Op}
-use Rattle.bucket_states.specs.Items.{value_at, has_place, appended, items_after}
+use Rattle.bucket_states.specs.Items.{value_at, has_place, appended, revised_in, items_after}
 use Rattle.bucket_states.specs.States.{BucketState}
 use Rattle.bucket_states.specs.Change.{after_op, after_seats, change}
-use Rattle.bucket_states.proofs.ItemLemmas.{length-tallied, length-without}
+use Rattle.bucket_states.proofs.ItemLemmas.{length-changed, length-without}
 use Rattle.bucket_states.proofs.StepLemmas.{Outcome, stayed, skipped, froze, took, outcome}
 use Rattle.table_model.specs.Setup.{seats_of, rules_of}
 use Rattle.table_model.specs.Goes.{more}
@@ -34,6 +34,7 @@ use Rattle.lasting_model.specs.Goes.{SweepFate, SweepsOn, Swept, sweep_fate, swe
 use Rattle.lasting_laws.proofs.Sweeping.{seats_are}
 use Rattle.lasting_laws.proofs.PoolSteps.{IsOther}
 use Rattle.lasting_laws.proofs.PoolEvents.{settings_are}
+use Rattle.plain_map.specs.declared.keys.Key.{Key}
 
 -- ---- how many items there are
 
@@ -44,6 +45,14 @@ appended_few items pair None true n few room =
     (let long = length-append items (pair ∷ []) in omega (arith, long, room refl))
 appended_few items pair None false n few room = few
 
+revised_few : (items : List Pair) (key : Key) (new : Session) (change : Session → Session) (held : Option Session)
+    (place : Bool) (n : ℕ) → length items ≤ n → (place ≡ true → length items < n) →
+    length (revised_in items key new change held place) ≤ n
+revised_few items key new change (Some held) place n few room = omega (arith, length-changed key change items, few)
+revised_few items key new change None true n few room =
+    (let long = length-append items (pair_of (key, new) ∷ []) in omega (arith, long, room refl))
+revised_few items key new change None false n few room = few
+
 -- no more than there is room for, after a call
 after_few : (rules : Rules) (items : List Pair) (call : Call) → length items ≤ rules.items →
     length (items_after rules items call) ≤ rules.items
@@ -53,7 +62,14 @@ after_few rules items (Insert key value) few =
     (λ e. ltb-true (length items) rules.items e)
 after_few rules items (Remove key) few = omega (arith, length-without key items, few)
 after_few rules items (Lookup key) few = few
-after_few rules items (Tally key amount) few = omega (arith, length-tallied key amount items, few)
+after_few rules items (Tally key amount) few =
+    omega (arith, length-changed key (λ held. grown held amount) items, few)
+after_few rules items (Count key value amount) few =
+    revised_few items key (counted_session value amount) (λ held. grown held amount) (value_at key items)
+    (has_place rules items) rules.items few (λ e. ltb-true (length items) rules.items e)
+after_few rules items (Put key value) few =
+    revised_few items key (new_session value) (λ held. revalued held value) (value_at key items)
+    (has_place rules items) rules.items few (λ e. ltb-true (length items) rules.items e)
 
 -- after an op, and after those of some seats
 op_few : (rules : Rules) (seat : ℕ) (op : Op) (bucket : BucketState) → length bucket.items ≤ rules.items →

@@ -220,7 +220,7 @@ module _ (plan : Plan) (is_plan : IsPlan plan) (x : Lasting) (pools : Pools plan
           HasFree (S.Goes v k) = rows_at k ≤ length now.free
           HasFree (S.Glances aim glance) = Unit {0}
 
-      small : row < 2 ^ 24
+      small : row < 2 ^ 17
       small = own_small plan is_plan x pools row (subst (λ q. q < n)
           (sym (writer_owns plan is_plan x pools p inside u (S.Exchange t found) stood (omega arith))) inside)
 

@@ -6,7 +6,7 @@ use Rattle.std.proofs.lemmas.Bool.{eqb-true, eqb-false}
 use Rattle.list_laws.proofs.Lists.{In}
 use Rattle.step_counts.specs.declared.TheConstants.{ITEM_WORDS}
 use Rattle.plain_map.specs.declared.calls.Call.{Call}
-use Rattle.plain_map.specs.declared.calls.Call.TheVariants.{Insert, Remove, Lookup, Tally}
+use Rattle.plain_map.specs.declared.calls.Call.TheVariants.{Insert, Remove, Lookup, Tally, Count, Put}
 use Rattle.plain_map.specs.declared.calls.Reply.{Reply}
 use Rattle.plain_map.specs.declared.keys.Pair.{Pair}
 use Rattle.plain_map.specs.Calls.{key_in}
@@ -419,6 +419,8 @@ module _ (plan : Plan) (is_plan : IsPlan plan) (x : Lasting) (pools : Pools plan
   call_first (Insert key value) fits = update_first (Insert key value) fits.0
   call_first (Remove key) fits = update_first (Remove key) fits.0
   call_first (Tally key amount) fits = update_first (Tally key amount) fits.0
+  call_first (Count key value amount) fits = update_first (Count key value amount) fits.0
+  call_first (Put key value) fits = update_first (Put key value) fits.0
 
   seat_goes : (stand : Stand) → now.stand ≡ stand → IsFlying stand → Ties plan x tied (ticked
       (goes_on plan x p now stand))

@@ -5,7 +5,7 @@ use Rattle.std.proofs.lemmas.Bool.{cases_eq}
 use Rattle.std.proofs.lemmas.List.Elements.{All-nil, All-cons, All-append}
 use Rattle.list_laws.proofs.Lists.{In}
 use Rattle.plain_map.specs.declared.calls.Call.{Call}
-use Rattle.plain_map.specs.declared.calls.Call.TheVariants.{Insert, Remove, Lookup, Tally}
+use Rattle.plain_map.specs.declared.calls.Call.TheVariants.{Insert, Remove, Lookup, Tally, Count, Put}
 use Rattle.plain_map.specs.declared.calls.Reply.{Reply}
 use Rattle.word_rows.specs.Memory.{put, put_at}
 use Rattle.word_rows.proofs.MemoryLemmas.{put_same, put_other, put_at_same, put_at_row, put_at_place}
@@ -227,7 +227,7 @@ module _ (plan : Plan) (is_plan : IsPlan plan) (x : Lasting) (h : Pools plan x) 
       own : owner_in plan row ≡ p
       own = writer_owns plan is_plan x h p inside u (S.Exchange t found) stood (omega arith)
 
-      small : row < 2 ^ 24
+      small : row < 2 ^ 17
       small = own_small plan is_plan x h row (omega (arith, own, inside))
 
       wrote : x.store.row row 0 ≡ next_generation now
@@ -377,6 +377,8 @@ module _ (plan : Plan) (is_plan : IsPlan plan) (x : Lasting) (h : Pools plan x) 
   call_first (Insert key value) = update_first (Insert key value)
   call_first (Remove key) = update_first (Remove key)
   call_first (Tally key amount) = update_first (Tally key amount)
+  call_first (Count key value amount) = update_first (Count key value amount)
+  call_first (Put key value) = update_first (Put key value)
 
   seat_goes : (stand : Stand) → now.stand ≡ stand → IsFlying stand → Leaves plan x (ticked (goes_on plan x p now stand))
   seat_goes S.Idle e flies = absurd flies

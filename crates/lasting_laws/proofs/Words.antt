@@ -1,28 +1,28 @@
 -- What the words of a lasting table say is what was spelled.
-use Rattle.std.proofs.Common.{◌≡◌, ◌≢◌, ℕ, ◌%◌, ◌^◌, ◌<◌, ◌≤◌, false, true, refl, ap, arith}
+use Rattle.std.proofs.Common.{◌≡◌, ◌≢◌, ℕ, ◌+◌, ◌*◌, ◌/◌, ◌%◌, ◌^◌, ◌<◌, ◌≤◌, false, true, refl, ap, ◌∙◌, arith}
 use Rattle.std.specs.Prelude.{◌==◌}
 use Rattle.std.proofs.lemmas.Nat.{div-mul-add, mod-mul-add}
 use Rattle.plain_map.specs.declared.calls.Call.{Call}
-use Rattle.plain_map.specs.declared.calls.Call.TheVariants.{Insert, Remove, Lookup, Tally}
+use Rattle.plain_map.specs.declared.calls.Call.TheVariants.{Insert, Remove, Lookup, Tally, Count, Put}
 use Rattle.plain_map.specs.Updates.{IsUpdate, value_limit}
-use Rattle.word_rows.specs.OpWords.{words_of_call}
+use Rattle.word_rows.specs.OpWords.{words_of_call, call_of_kind}
 use Rattle.lasting_model.specs.Codes.{tag, generation_in, row_in, announcing, update_in, class_in, call_in, asking, holding, is_asking, time_in, held_row}
 
 -- a bucket word tells its generation
-pub generation_of_tag : (generation row : ℕ) → row < 2 ^ 24 → generation_in (tag generation row) ≡ generation
-generation_of_tag generation row small = div-mul-add generation (2 ^ 24) row small
+pub generation_of_tag : (generation row : ℕ) → row < 2 ^ 17 → generation_in (tag generation row) ≡ generation
+generation_of_tag generation row small = div-mul-add generation (2 ^ 17) row small
 
 -- and its row
-pub row_of_tag : (generation row : ℕ) → row < 2 ^ 24 → row_in (tag generation row) ≡ row
-row_of_tag generation row small = mod-mul-add generation (2 ^ 24) row small
+pub row_of_tag : (generation row : ℕ) → row < 2 ^ 17 → row_in (tag generation row) ≡ row
+row_of_tag generation row small = mod-mul-add generation (2 ^ 17) row small
 
 -- an announcement tells its update
-pub update_of : (number class : ℕ) → class < 2 ^ 16 → update_in (announcing number class) ≡ number
-update_of number class small = div-mul-add number (2 ^ 16) class small
+pub update_of : (number class : ℕ) → class < 2 ^ 15 → update_in (announcing number class) ≡ number
+update_of number class small = div-mul-add number (2 ^ 15) class small
 
 -- and its class
-pub class_of : (number class : ℕ) → class < 2 ^ 16 → class_in (announcing number class) ≡ class
-class_of number class small = mod-mul-add number (2 ^ 16) class small
+pub class_of : (number class : ℕ) → class < 2 ^ 15 → class_in (announcing number class) ≡ class
+class_of number class small = mod-mul-add number (2 ^ 15) class small
 
 -- where there is an update, there is a word
 pub announcing_some : (number class : ℕ) → 1 ≤ number → announcing number class ≢ 0
@@ -38,6 +38,13 @@ call_of_slot (Insert key value) small = ap (λ v. Insert key v) (uncut value sma
 call_of_slot (Remove key) small = refl
 call_of_slot (Lookup key) small = absurd small
 call_of_slot (Tally key amount) small = ap (λ v. Tally key v) (uncut amount small)
+call_of_slot (Count key value amount) small =
+    let kind : (4 + 8 * amount) % 8 ≡ 4 = omega arith in
+    let more : (4 + 8 * amount) / 8 ≡ amount = omega arith in
+    ap (λ (k : ℕ). call_of_kind k ((4 + 8 * amount) / 8) key (value % value_limit)) kind
+    ∙ ap (λ (a : ℕ). Count key (value % value_limit) a) more
+    ∙ ap (λ (v : ℕ). Count key v amount) (uncut value small.0)
+call_of_slot (Put key value) small = ap (λ v. Put key v) (uncut value small)
 
 -- an asking is one
 pub asking_asks : (time : ℕ) → is_asking (asking time) ≡ true

@@ -9,8 +9,8 @@ use Rattle.hash_bits.specs.Spread.{spread}
 use Rattle.hash_bits.specs.Prefix.{first_bits}
 use Rattle.hash_bits.specs.declared.hashing.Hashing.TheVariants.{Ports}
 use Rattle.plain_map.specs.PlainObject.{class_of}
-use Rattle.plain_map.specs.declared.calls.Call.TheVariants.{Insert, Remove, Lookup, Tally}
-use Rattle.plain_map.specs.declared.calls.Reply.TheVariants.{New, NoRoom, Gone, Found, Absent, Sum}
+use Rattle.plain_map.specs.declared.calls.Call.TheVariants.{Insert, Remove, Lookup, Tally, Count, Put}
+use Rattle.plain_map.specs.declared.calls.Reply.TheVariants.{New, Old, NoRoom, Gone, Found, Absent, Sum}
 use Rattle.word_rows.specs.Shape.{number_after}
 use Rattle.word_rows.specs.Blocks.{blocks}
 use Rattle.word_rows.specs.Memory.{put, put_at}
@@ -56,6 +56,19 @@ one_seat_calls :
 unfolding class_of opening_store ample number_after blocks half split apply opening_leaves prefix_of reply_in
     items_after overflows after_op change first_bits hash_of spread put put_at
 one_seat_calls = refl
+
+-- a count brings its value and its bytes, and another one adds bytes; a put changes the value alone, or brings it. Each
+-- has the steps of an insert or of a tally, by the items of its row
+counts_and_puts :
+    map told (played one_seat_plan
+    (Call_ 0 (Count (key 1) 7 5) ∷ Go 0 40 ∷ Call_ 0 (Count (key 1) 9 4) ∷ Go 0 40 ∷ Call_ 0 (Put (key 1) 8) ∷ Go 0 40
+    ∷ Call_ 0 (Put (key 2) 6) ∷ Go 0 60 ∷ Call_ 0 (Lookup (key 1)) ∷ Go 0 20 ∷ Copy_ 0 0 ∷ Go 0 20 ∷ [])).answers
+    ≡ (BySeat 0, Replied New, 27) ∷ (BySeat 0, Replied (Sum 9), 35) ∷ (BySeat 0, Replied (Old 7), 35)
+    ∷ (BySeat 0, Replied New, 42) ∷ (BySeat 0, Replied (Found 8), 10)
+    ∷ (BySeat 0, Pairs (pair 1 8 9 ∷ pair 2 6 0 ∷ []), 17) ∷ []
+unfolding class_of opening_store ample number_after blocks half split apply opening_leaves prefix_of reply_in
+    items_after overflows after_op change first_bits hash_of spread put put_at
+counts_and_puts = refl
 
 -- a bucket is full, and copied
 third_of_a_class :

@@ -16,29 +16,29 @@ use Rattle.table_model.specs.Setup.{Setup, settings_of, seats_of}
 -- a bucket word: the generation of its row, and where the row stands. A row's generation rises each time that it is
 -- published, so no bucket word has one value twice
 abbrev pub tag : (generation row : ℕ) → ℕ
-tag generation row = generation * 2 ^ 24 + row
+tag generation row = generation * 2 ^ 17 + row
 
 -- the generation in a bucket word
 abbrev pub generation_in : (word : ℕ) → ℕ
-generation_in word = word / 2 ^ 24
+generation_in word = word / 2 ^ 17
 
 -- and the row
 abbrev pub row_in : (word : ℕ) → ℕ
-row_in word = word % 2 ^ 24
+row_in word = word % 2 ^ 17
 
 -- ---- announcements
 
 -- an announcement: the number of the update, and the class of its key. 0 for none: numbers begin with 1
 abbrev pub announcing : (number class : ℕ) → ℕ
-announcing number class = number * 2 ^ 16 + class
+announcing number class = number * 2 ^ 15 + class
 
 -- the number in an announcement
 abbrev pub update_in : (word : ℕ) → ℕ
-update_in word = word / 2 ^ 16
+update_in word = word / 2 ^ 15
 
 -- and the class
 abbrev pub class_in : (word : ℕ) → ℕ
-class_in word = word % 2 ^ 16
+class_in word = word % 2 ^ 15
 
 -- ---- ops
 

@@ -1,6 +1,6 @@
 -- What is promised of every run of a lasting table by its steps alone. What its answers mean is told by the run of its
 -- ghost.
-use Rattle.std.specs.Prelude.{◌≡◌, ◌⊎◌, ℕ, ◌^◌, ◌<◌, ◌≤◌, ◌==◌, false, List, ◌++◌, length, All}
+use Rattle.std.specs.Prelude.{◌≡◌, ◌⊎◌, ℕ, ◌+◌, ◌*◌, ◌^◌, ◌<◌, ◌≤◌, ◌==◌, false, List, ◌++◌, length, All}
 use Rattle.std.specs.List.{list_any}
 use Rattle.step_counts.specs.declared.settings.Settings.{Settings}
 use Rattle.plain_map.specs.declared.calls.Call.TheVariants.{Lookup}
@@ -116,15 +116,15 @@ HeldRowsAreKept =
     other < plan.settings.seats → ReadsHeld (seat_in (world_after plan events) seat).stand row →
     list_any (λ free. free == row) (seat_in (world_after plan events) other).free ≡ false
 
--- what is counted in a run is small: no row was published more often than its seat has answered updates, of which there
--- are not more than there may be; and no seat has asked more often than there were events
+-- what is counted in a run is small: a row is published at every third update of its seat at most, of which there are
+-- not more than there may be; and no seat has asked more often than there were events
 pub record CountsAreSmall (plan : Plan) (world : Lasting) : Type 0 where
   pub answered : (seat : ℕ) → seat < plan.settings.seats → (seat_in world seat).answered ≤ MOST_UPDATES
   pub generations : (seat row : ℕ) → seat < plan.settings.seats →
-      (seat_in world seat).generation row ≤ (seat_in world seat).answered
+      3 * (seat_in world seat).generation row ≤ (seat_in world seat).answered + 2
   pub times : (seat : ℕ) → seat < plan.settings.seats → (seat_in world seat).time ≤ world.clock
-  -- so a bucket word has no more than 55 bits
-  pub words : (bucket : ℕ) → bucket < buckets_of plan.settings → world.store.bucket bucket < 2 ^ 55
+  -- so a bucket word has 64 bits
+  pub words : (bucket : ℕ) → bucket < buckets_of plan.settings → world.store.bucket bucket < 2 ^ 64
 
 -- in each run
 abbrev pub AllCountsAreSmall : Type 0

@@ -144,10 +144,11 @@ pub data Deed : Type 0 where
   Store : (to : At) (word : ℕ) → Deed
   Swap : (at : At) (old new : ℕ) → Deed
 
--- the row that is stored next, the first free one, and the generation that it gets
+-- the row that is stored next: the first free one
 abbrev pub next_row : SeatNow → ℕ
 next_row now = slice_index now.free 0
 
+-- the generation that it gets
 abbrev pub next_generation : SeatNow → ℕ
 next_generation now = now.generation (next_row now) + 1
 

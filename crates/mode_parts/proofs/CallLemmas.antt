@@ -2,9 +2,9 @@
 use Rattle.std.proofs.Common.{◌≡◌, ◌<◌, ◌≤◌, ℕ, suc, ◌+◌, List, [], ◌∷◌, ◌++◌, length, Option, Some, None, IfSome, sym, ◌∙◌, ap, subst, refl, append_assoc, append-nil, length-append, arith}
 use Rattle.std.specs.List.{All}
 use Rattle.std.proofs.lemmas.List.Elements.{All-append, All-cons, All-head, All-nil, All-tail, All-weaker}
-use Rattle.packet_heads.specs.declared.framing.Framing.{Framing}
+use Rattle.mode_parts.specs.declared.calling.Calling.{Calling}
 use Rattle.plain_map.specs.Keys.{IsKey}
-use Rattle.flow_keys.specs.FlowText.{HasText}
+use Rattle.key_texts.specs.FlowText.{HasText}
 use Rattle.plain_map.specs.Calls.{key_in}
 use Rattle.plain_map.specs.Serving.{IsAskable}
 use Rattle.plain_map.specs.declared.calls.Call.{Call}
@@ -13,24 +13,24 @@ use Rattle.mode_parts.specs.Reading.{Ascending, AreBetween, IsBetween}
 
 -- a further packet's call stands behind the others
 pub MakeCalls-more :
-    (framing : Framing) (n : ℕ) (packets : List (List ℕ)) (calls : List (ℕ × Call)) (packet : List ℕ) (k : ℕ)
+    (calling : Calling) (n : ℕ) (packets : List (List ℕ)) (calls : List (ℕ × Call)) (packet : List ℕ) (k : ℕ)
     (made : Option Call) →
-    k ≡ n + length packets → MakesCall framing k packet made → MakeCalls framing n packets calls →
-    MakeCalls framing n (packets ++ packet ∷ []) (calls ++ numbered k made)
-MakeCalls-more framing n [] calls packet k made place makes none =
+    k ≡ n + length packets → MakesCall calling k packet made → MakeCalls calling n packets calls →
+    MakeCalls calling n (packets ++ packet ∷ []) (calls ++ numbered k made)
+MakeCalls-more calling n [] calls packet k made place makes none =
     let same : k ≡ n = omega arith in (
       made,
       [],
-      subst (λ (j : ℕ). MakesCall framing j packet made) same makes,
+      subst (λ (j : ℕ). MakesCall calling j packet made) same makes,
       refl,
       ap (λ (others : List (ℕ × Call)). others ++ numbered k made) none
           ∙ ap (λ (j : ℕ). numbered j made) same ∙ sym (append-nil (numbered n made)),
     )
-MakeCalls-more framing n (first ∷ packets) calls packet k made place makes calls_made = (
+MakeCalls-more calling n (first ∷ packets) calls packet k made place makes calls_made = (
   calls_made.0,
   calls_made.1 ++ numbered k made,
   calls_made.2,
-  MakeCalls-more framing (suc n) packets calls_made.1 packet k made (omega arith) makes calls_made.3,
+  MakeCalls-more calling (suc n) packets calls_made.1 packet k made (omega arith) makes calls_made.3,
   ap (λ (others : List (ℕ × Call)). others ++ numbered k made) calls_made.4
       ∙ append_assoc (numbered n calls_made.0) calls_made.1 (numbered k made),
 )

@@ -1,6 +1,6 @@
 -- The calls that packets make rise by packet, and are no more than the packets.
 use Rattle.std.proofs.Common.{◌≡◌, ◌≤◌, ℕ, suc, List, [], ◌∷◌, ◌++◌, map, length, Option, Some, None, sym, ap, subst, arith, inl, inr, refl}
-use Rattle.packet_heads.specs.declared.framing.Framing.{Framing}
+use Rattle.mode_parts.specs.declared.calling.Calling.{Calling}
 use Rattle.plain_map.specs.declared.calls.Call.{Call}
 use Rattle.mode_parts.specs.PacketCalls.{MakeCalls, numbered}
 use Rattle.report_told.specs.Rules.{Rise, part_of}
@@ -30,14 +30,14 @@ abbrev packets_of : List (ℕ × Call) → List ℕ
 packets_of calls = map (λ (call : ℕ × Call). call.0) calls
 
 -- those of the calls that packets make rise, from the first packet's number on
-risen_from : (framing : Framing) (number : ℕ) (packets : List (List ℕ)) (calls : List (ℕ × Call)) →
-    MakeCalls framing number packets calls →
+risen_from : (calling : Calling) (number : ℕ) (packets : List (List ℕ)) (calls : List (ℕ × Call)) →
+    MakeCalls calling number packets calls →
     RiseFrom number (packets_of calls)
-risen_from framing number [] calls made = subst (λ (cs : List (ℕ × Call)). RiseFrom number (packets_of cs)) (sym made)
+risen_from calling number [] calls made = subst (λ (cs : List (ℕ × Call)). RiseFrom number (packets_of cs)) (sym made)
     tt
-risen_from framing number (packet ∷ packets) calls made =
+risen_from calling number (packet ∷ packets) calls made =
     subst (λ (cs : List (ℕ × Call)). RiseFrom number (packets_of cs)) (sym made.4)
-    (go made.0 (risen_from framing (suc number) packets made.1 made.3))
+    (go made.0 (risen_from calling (suc number) packets made.1 made.3))
   where
     go : (call : Option Call) → RiseFrom (suc number) (packets_of made.1) →
         RiseFrom number (packets_of (numbered number call ++ made.1))
@@ -45,19 +45,19 @@ risen_from framing number (packet ∷ packets) calls made =
     go None rest = rise_below (suc number) number (packets_of made.1) (omega arith) rest
 
 -- so they rise
-pub calls_rise : (framing : Framing) (number : ℕ) (packets : List (List ℕ)) (calls : List (ℕ × Call)) →
-    MakeCalls framing number packets calls →
+pub calls_rise : (calling : Calling) (number : ℕ) (packets : List (List ℕ)) (calls : List (ℕ × Call)) →
+    MakeCalls calling number packets calls →
     Rise (map (λ (call : ℕ × Call). call.0) calls)
-calls_rise framing number packets calls made = rise_of number (packets_of calls)
-    (risen_from framing number packets calls made)
+calls_rise calling number packets calls made = rise_of number (packets_of calls)
+    (risen_from calling number packets calls made)
 
 -- there are no more of them than packets
-pub calls_few : (framing : Framing) (number : ℕ) (packets : List (List ℕ)) (calls : List (ℕ × Call)) →
-    MakeCalls framing number packets calls →
+pub calls_few : (calling : Calling) (number : ℕ) (packets : List (List ℕ)) (calls : List (ℕ × Call)) →
+    MakeCalls calling number packets calls →
     length calls ≤ length packets
-calls_few framing number [] calls made = omega (arith, ap length made)
-calls_few framing number (packet ∷ packets) calls made =
-    go made.0 made.4 (calls_few framing (suc number) packets made.1 made.3)
+calls_few calling number [] calls made = omega (arith, ap length made)
+calls_few calling number (packet ∷ packets) calls made =
+    go made.0 made.4 (calls_few calling (suc number) packets made.1 made.3)
   where
     go : (call : Option Call) → calls ≡ numbered number call ++ made.1 → length made.1 ≤ length packets →
         length calls ≤ suc (length packets)

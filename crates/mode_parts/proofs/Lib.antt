@@ -1,3 +1,4 @@
+pub mod CallingLemmas
 pub mod CallLemmas
 pub mod FittingCalls
 pub mod GoodCalls

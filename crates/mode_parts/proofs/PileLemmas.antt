@@ -3,7 +3,7 @@ use Rattle.std.proofs.Common.{◌≡◌, ◌≤◌, ℕ, ◌+◌, List, [], ◌�
 use Rattle.std.specs.Prelude.{false}
 use Rattle.std.specs.Option.{ForSome, is_some}
 use Rattle.std.specs.Result.{OnOk}
-use Rattle.packet_heads.specs.declared.framing.Framing.{Framing}
+use Rattle.mode_parts.specs.declared.calling.Calling.{Calling}
 use Rattle.batch_deals.specs.declared.dealing.Dealt.{Dealt}
 use Rattle.batch_deals.specs.Dealt.{IsDealt}
 use Rattle.mode_parts.specs.declared.pile.CallPile.{CallPile}
@@ -15,10 +15,10 @@ use Rattle.mode_parts.proofs.CallLemmas.{MakeCalls-more}
 -- the next packet was taken
 pub holds_more : (old new : CallPile) (before : ℕ) (packets : List (List ℕ)) (packet : List ℕ) (number : ℕ) →
     HoldsCalls old before packets → number ≡ before + length packets + 1 → length packets + 1 ≤ 65536 →
-    TakesCall old.framing number packet old.calls.items new.calls.items →
+    TakesCall old.calling number packet old.calls.items new.calls.items →
     ((first last : ℕ) → AreBetween first last old.calls.items → number ≡ last + 1 →
     AreBetween first number new.calls.items) →
-    new.packets ≡ old.packets + 1 → new.framing ≡ old.framing →
+    new.packets ≡ old.packets + 1 → new.calling ≡ old.calling →
     ForSome new.dealt (IsDealt new.service new.calls.items) →
     HoldsCalls new before (packets ++ packet ∷ [])
 holds_more old new before packets packet number holds at few takes between count framed none =
@@ -27,9 +27,9 @@ holds_more old new before packets packet number holds at few takes between count
     record {
       count = omega (arith, count, holds.count, size);
       few = omega (arith, few, size);
-      make = subst (λ (f : Framing). MakeCalls f (before + 1) (packets ++ packet ∷ []) new.calls.items) (sym framed)
-          (subst (MakeCalls old.framing (before + 1) (packets ++ packet ∷ [])) (sym takes.2)
-          (MakeCalls-more old.framing (before + 1) packets old.calls.items packet number takes.0 (omega (arith, at))
+      make = subst (λ (f : Calling). MakeCalls f (before + 1) (packets ++ packet ∷ []) new.calls.items) (sym framed)
+          (subst (MakeCalls old.calling (before + 1) (packets ++ packet ∷ [])) (sym takes.2)
+          (MakeCalls-more old.calling (before + 1) packets old.calls.items packet number takes.0 (omega (arith, at))
           takes.1 holds.make));
       between = subst (λ (n : ℕ). AreBetween before n new.calls.items) last
           (between before (before + length packets) holds.between at);
@@ -54,7 +54,7 @@ pub given_up : (pile : CallPile) (before : ℕ) (packets : List (List ℕ)) → 
     HoldsUndealt (record {
       alloc = pile.alloc;
       service = pile.service;
-      framing = pile.framing;
+      calling = pile.calling;
       packets = pile.packets;
       calls = pile.calls;
       dealt = None;

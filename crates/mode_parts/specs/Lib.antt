@@ -1,3 +1,4 @@
+pub mod Callings
 pub mod PacketCalls
 pub mod Reading
 pub mod Statuses

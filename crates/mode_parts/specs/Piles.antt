@@ -10,6 +10,6 @@ use Rattle.mode_parts.specs.Reading.{AreBetween}
 pub record HoldsCalls (pile : CallPile) (before : ℕ) (packets : List (List ℕ)) : Type 0 where
   pub count : pile.packets ≡ length packets
   pub few : length packets ≤ 65536
-  pub make : MakeCalls pile.framing (before + 1) packets pile.calls.items
+  pub make : MakeCalls pile.calling (before + 1) packets pile.calls.items
   pub between : AreBetween before (before + length packets) pile.calls.items
   pub dealt : ForSome pile.dealt (IsDealt pile.service pile.calls.items)

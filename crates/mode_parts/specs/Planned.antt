@@ -23,5 +23,6 @@ head_of play plan =
       start = plan.start;
       hashing = plan.hashing;
       share = plan.share;
+      calls = plan.calls;
       batch = if play then 2048 else plan.batch;
     }

@@ -1,5 +1,5 @@
 -- How a run ended, and what follows of its devices.
-use Rattle.std.specs.Prelude.{◌≡◌, ◌⊎◌, ℕ, List, [], ◌++◌, length, Some, None, codes, decimal, nat_lt, if◌then◌else◌, Option, Result, Ok, Err}
+use Rattle.std.specs.Prelude.{◌≡◌, ◌⊎◌, ◌<◌, ◌-◌, ◌^◌, ℕ, List, [], ◌++◌, length, Some, None, codes, decimal, nat_lt, if◌then◌else◌, Option, Result, Ok, Err}
 use Rattle.edge_traits.specs.Edge.{count_after}
 use Rattle.capture_faults.specs.declared.any_fault.AnyFault.{AnyFault}
 use Rattle.capture_faults.specs.declared.any_fault.AnyFault.TheVariants.{Capture}
@@ -7,8 +7,8 @@ use Rattle.capture_faults.specs.declared.fault.CaptureFault.TheVariants.{LinkTyp
 use Rattle.packet_heads.specs.declared.framing.Link.{Link}
 use Rattle.packet_heads.specs.Links.{number_in}
 use Rattle.pcap_reader.specs.Reading.{Took}
-use Rattle.report_text.specs.declared.parts.Ending.{Ending}
-use Rattle.report_text.specs.declared.parts.Ending.TheVariants.{Done, ReadFault, Limit, Fault}
+use Rattle.capture_faults.specs.declared.ending.Ending.{Ending}
+use Rattle.capture_faults.specs.declared.ending.Ending.TheVariants.{Done, ReadFault, Limit, Fault}
 use Rattle.mode_parts.specs.declared.status.Complaint.{Complaint}
 use Rattle.mode_parts.specs.declared.status.Status.{Status}
 use Rattle.mode_parts.specs.declared.status.Status.TheVariants as status
@@ -122,6 +122,10 @@ ReadsFailed status.ReadFault before after = after ≡ count_after before 1
 ReadsFailed status.WriteFault before after = (after ≡ before) ⊎ (after ≡ count_after before 1)
 ReadsFailed status.Memory before after = (after ≡ before) ⊎ (after ≡ count_after before 1)
 ReadsFailed answer before after = after ≡ before
+
+-- none failed of so many calls of a device, of which it counts fewer than the greatest number
+abbrev pub NoneFailed : (before after : ℕ) → Type 0
+NoneFailed before after = (after ≡ before) × (before < 2 ^ 64 - 1)
 
 -- how many writes have failed: one more, where that is told
 abbrev pub WritesFailed : Status → (before after : ℕ) → Type 0

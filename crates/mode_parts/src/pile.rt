@@ -2,13 +2,13 @@
 
 ghost use Rattle.std.specs.Prelude.{◌≡◌, ◌≤◌, ◌+◌, ◌++◌, ◌∷◌, [], ℕ, List, length, IfOk, OnOk};
 ghost use Rattle.std.specs.Option.{ForSome};
-ghost use Rattle.packet_heads.specs.Links.{way_of};
+ghost use Rattle.mode_parts.specs.Callings.{calling_way};
 ghost use Rattle.mode_parts.specs.Piles.{HoldsCalls};
 
+use crate::calling::Calling;
 use crate::steps::keep_call;
 use batch_deals::{Dealt, Service, deal_batch};
 use capture_loop::Pile;
-use packet_heads::Framing;
 use plain_map::Call;
 use std::alloc::{AllocError, Global};
 
@@ -18,8 +18,8 @@ pub struct CallPile {
     pub alloc: Global,
     /// How they are dealt.
     pub service: Service,
-    /// How packets are framed.
-    pub framing: Framing,
+    /// How packets are framed, and which calls they make.
+    pub calling: Calling,
     /// How many packets there are, those that make no call too.
     pub packets: u32,
     pub calls: Vec<(u32, Call)>,
@@ -27,20 +27,20 @@ pub struct CallPile {
 }
 
 impl CallPile {
-    /// An empty one of packets that are framed so, with room for so many calls.
+    /// An empty one of packets that are framed so and make calls so, with room for so many calls.
     pub fn with_room(
         alloc: Global,
         service: Service,
-        framing: Framing,
+        calling: Calling,
         calls: usize,
     ) -> Result<CallPile, AllocError>
         ensures holds { IfOk result (λ pile. HoldsCalls pile 0 []) }
-        ensures framing { IfOk result (λ pile. pile.framing ≡ framing) }
+        ensures calling { IfOk result (λ pile. pile.calling ≡ calling) }
     {
         Ok(CallPile {
             alloc,
             service,
-            framing,
+            calling,
             packets: 0,
             calls: Vec::with_capacity(alloc, calls)?,
             dealt: None,
@@ -51,14 +51,14 @@ impl CallPile {
 impl Pile for CallPile {
     ghost holds = { HoldsCalls };
 
-    ghost way = { λ pile. way_of pile.framing };
+    ghost way = { λ pile. calling_way pile.calling };
 
     fn take(&mut self, number: u32, packet: &[u8]) -> Result<(), AllocError> {
         // Most often there is none, and it costs to give one up.
         if self.dealt.is_some() {
             self.dealt = None;
         }
-        keep_call(&self.framing, packet, number, &mut self.calls)?;
+        keep_call(&self.calling, packet, number, &mut self.calls)?;
         self.packets += 1;
         Ok(())
     }

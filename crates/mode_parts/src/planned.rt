@@ -4,8 +4,10 @@ ghost use Rattle.std.specs.Prelude.{◌≡◌, ◌^◌};
 ghost use Rattle.std.specs.Option.{ForSome};
 ghost use Rattle.word_rows.specs.Shape.{AreBelow};
 ghost use Rattle.command_line.specs.Words.{IsInRange};
+ghost use Rattle.mode_parts.specs.Callings.{calling_of};
 ghost use Rattle.mode_parts.specs.Planned.{IsServiceOf, head_of};
 
+use crate::calling::Calling;
 use batch_deals::Service;
 use capture_loop::BATCH;
 use command_line::Plan;
@@ -29,6 +31,16 @@ pub fn service_of(plan: &Plan) -> Service
     }
 }
 
+/// How the plan's packets become calls.
+pub fn calling_of(plan: &Plan) -> Calling
+    ensures { result ≡ calling_of plan.now }
+{
+    Calling {
+        framing: plan.framing,
+        calls: plan.calls,
+    }
+}
+
 /// What the head line tells, of a play or of calls that are served.
 pub fn head_of(play: bool, plan: &Plan) -> Head
     ensures { result ≡ head_of play plan.now }
@@ -41,6 +53,7 @@ pub fn head_of(play: bool, plan: &Plan) -> Head
         start: plan.start,
         hashing: plan.hashing,
         share: plan.share,
+        calls: plan.calls,
         batch: if play { BATCH } else { plan.batch },
     }
 }

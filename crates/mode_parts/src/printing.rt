@@ -1,7 +1,7 @@
 //! The sessions of a report.
 
 ghost use Rattle.std.specs.Prelude.{◌≡◌, ◌++◌, flat_map, All, OnOk};
-ghost use Rattle.flow_keys.specs.FlowText.{HasText};
+ghost use Rattle.key_texts.specs.FlowText.{HasText};
 ghost use Rattle.report_text.specs.Report.{session_line};
 
 use plain_map::Pair;

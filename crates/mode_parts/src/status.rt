@@ -3,9 +3,8 @@
 ghost use Rattle.std.specs.Prelude.{◌≡◌};
 ghost use Rattle.mode_parts.specs.Statuses.{other_link};
 
-use capture_faults::{AnyFault, CaptureFault};
+use capture_faults::{AnyFault, CaptureFault, Ending};
 use packet_heads::Link;
-use report_text::Ending;
 
 /// How a run ended, and so the program's exit status.
 #[derive(Clone, Copy, PartialEq, Eq)]

@@ -1,28 +1,29 @@
 //! The call of a packet.
 
 ghost use Rattle.std.specs.Prelude.{◌≡◌, ◌≤◌, ◌<◌, ◌-◌, ◌+◌, ◌^◌, ℕ, List, [], false, Option, Some, IfSome, IfNone, OnOk};
-ghost use Rattle.flow_keys.specs.FlowText.{HasText};
+ghost use Rattle.key_texts.specs.FlowText.{HasText};
 ghost use Rattle.plain_map.specs.Calls.{key_in};
 ghost use Rattle.plain_map.specs.Serving.{IsAskable};
 ghost use Rattle.plain_map.specs.Keys.{IsKey};
 ghost use Rattle.mode_parts.specs.PacketCalls.{MakesCall};
 ghost use Rattle.mode_parts.specs.Reading.{AreBetween, TakesCall};
 
+use crate::calling::Calling;
 use flow_keys::call_of;
-use packet_heads::{Framing, heads};
+use packet_heads::heads;
 use plain_map::Call;
 use report_promises::call_laws;
 use std::alloc::AllocError;
 
-/// The call of the packet with this number, so framed, or `None` where it makes none.
-fn call_in(framing: &Framing, packet: &[u8], number: u32) -> Option<Call>
-    ensures made { MakesCall framing.now number packet.now result }
+/// The call of the packet with this number, so framed and by this rule, or `None` where it makes none.
+fn call_in(calling: &Calling, packet: &[u8], number: u32) -> Option<Call>
+    ensures made { MakesCall calling.now number packet.now result }
     ensures fits { IfSome result (λ call. IsAskable call × HasText (key_in call) × IsKey (key_in call)) }
 {
     call_laws();
-    match heads(framing, packet) {
+    match heads(&calling.framing, packet) {
         Some(heads) => {
-            let call = call_of(&heads, number);
+            let call = call_of(calling.calls, &heads, number);
             call.key().has_words();
             Some(call)
         }
@@ -30,18 +31,18 @@ fn call_in(framing: &Framing, packet: &[u8], number: u32) -> Option<Call>
     }
 }
 
-/// Keeps the call of the packet with this number, so framed, where it makes one.
+/// Keeps the call of the packet with this number, so framed and by this rule, where it makes one.
 pub(crate) fn keep_call(
-    framing: &Framing,
+    calling: &Calling,
     packet: &[u8],
     number: u32,
     calls: &mut Vec<(u32, Call)>,
 ) -> Result<(), AllocError>
-    ensures kept { OnOk result (TakesCall framing.now number packet.now calls.old.items calls.new.items) }
+    ensures kept { OnOk result (TakesCall calling.now number packet.now calls.old.items calls.new.items) }
     ensures between { OnOk result ((first last : ℕ) → AreBetween first last calls.old.items → number ≡ last + 1
         → AreBetween first number calls.new.items) }
 {
-    if let Some(call) = call_in(framing, packet, number) {
+    if let Some(call) = call_in(calling, packet, number) {
         calls.push((number, call))?;
     }
     Ok(())

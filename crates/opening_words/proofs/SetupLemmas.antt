@@ -95,7 +95,7 @@ module _ (shape : Shape) (settings : Settings) (hashing : Hashing) (first : List
     made_for = setup_at shape hashing first
 
     -- where the pairs find room, a table can be opened so
-    pub is_setup : IsShape shape → All (AreBelow (2 ^ 32)) shape.ranges → All IsPair first → HasDistinctKeys first →
+    pub is_setup : IsShape shape → All (AreBelow shape.limit) shape.ranges → All IsPair first → HasDistinctKeys first →
         HaveRoom (rules_for settings hashing) first → IsSetup made_for
     is_setup is small pairs distinct room = record {
       shape = is;

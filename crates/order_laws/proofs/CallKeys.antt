@@ -6,12 +6,12 @@ use Rattle.std.specs.FinMap.{get, insert}
 use Rattle.plain_map.specs.declared.keys.Key.{Key}
 use Rattle.plain_map.specs.declared.rules.Rules.{Rules}
 use Rattle.plain_map.specs.declared.calls.Call.{Call}
-use Rattle.plain_map.specs.declared.calls.Call.TheVariants.{Insert, Remove, Lookup, Tally}
+use Rattle.plain_map.specs.declared.calls.Call.TheVariants.{Insert, Remove, Lookup, Tally, Count, Put}
 use Rattle.plain_map.specs.declared.full.Full.{Full}
 use Rattle.plain_map.specs.declared.records.Record.{Record}
 use Rattle.plain_map.specs.declared.records.Pending.{Pending}
 use Rattle.plain_map.specs.Calls.{key_in}
-use Rattle.plain_map.specs.PlainObject.{Sessions, new_session, brought, grown, has_room, inserted, map_after, tallied}
+use Rattle.plain_map.specs.PlainObject.{Sessions, new_session, brought, grown, has_room, inserted, map_after, tallied, revised, counted_session, revalued}
 use Rattle.bucket_states.specs.Items.{same_key}
 use Rattle.bucket_states.proofs.KeyTests.{Decides-same_key}
 use Rattle.bucket_states.proofs.PartLemmas.{get-inserted, get-removed}
@@ -117,7 +117,7 @@ good_step setup w me account flight phase all good =
 
 -- after an event of a seat
 good_act : (setup : Setup) (w : World) (me : ℕ) (stand : Stand) (begin : Option (ℕ × Call)) → AreGood w.seats →
-    (seat_in w me).stand ≡ stand → FitsStand (seat_in w me).account stand begin →
+    (seat_in w me).stand ≡ stand → FitsStand setup (seat_in w me).account stand begin →
     AreGood (act setup w me (seat_in w me).account stand begin).seats
 good_act setup w me Idle None all is fits = all
 good_act setup w me Idle (Some begin) all is fits = go (refusal_of setup me (seat_in w me).account begin.1)
@@ -192,6 +192,14 @@ keys_brought rules sessions key new good is = go (get sessions key) (has_room ru
     go None true = keys_set sessions key new good is
     go None false = good
 
+-- after such a key's session has changed or come
+keys_revised : (rules : Rules) (sessions : Sessions) (key : Key) (new : Session) (change : Session → Session)
+    (held : Option Session) (room : Bool) → KeysAreGood sessions → IsKey key →
+    KeysAreGood (revised sessions key new change held room)
+keys_revised rules sessions key new change (Some held) room good is = keys_set sessions key (change held) good is
+keys_revised rules sessions key new change None true good is = keys_set sessions key new good is
+keys_revised rules sessions key new change None false good is = good
+
 -- after a call with such a key
 pub keys_after : (rules : Rules) (sessions : Sessions) (call : Call) → KeysAreGood sessions → IsKey (key_in call) →
     KeysAreGood (map_after rules sessions call)
@@ -208,3 +216,9 @@ keys_after rules sessions (Tally key amount) good is = go (get sessions key)
     go : (held : Option Session) → KeysAreGood (tallied sessions key amount held)
     go (Some held) = keys_set sessions key (grown held amount) good is
     go None = good
+keys_after rules sessions (Count key value amount) good is =
+    keys_revised rules sessions key (counted_session value amount) (λ held. grown held amount) (get sessions key)
+    (has_room rules sessions key) good is
+keys_after rules sessions (Put key value) good is =
+    keys_revised rules sessions key (new_session value) (λ held. revalued held value) (get sessions key)
+    (has_room rules sessions key) good is

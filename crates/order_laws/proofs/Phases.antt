@@ -4,7 +4,7 @@ use Rattle.std.proofs.Common.{◌≡◌, ℕ, ◌+◌, ◌-◌, ◌*◌, ◌<◌
 use Rattle.step_counts.specs.declared.TheConstants.{ITEM_WORDS}
 use Rattle.step_counts.specs.declared.rows.SeatRows.{SeatRows}
 use Rattle.plain_map.specs.declared.calls.Call.{Call}
-use Rattle.plain_map.specs.declared.calls.Call.TheVariants.{Insert, Remove, Lookup, Tally}
+use Rattle.plain_map.specs.declared.calls.Call.TheVariants.{Insert, Remove, Lookup, Tally, Count, Put}
 use Rattle.plain_map.specs.declared.calls.Reply.{Reply}
 use Rattle.plain_map.specs.Calls.{key_in, is_update}
 use Rattle.word_rows.specs.BucketWords.{items_of_words, words_of_bucket}
@@ -102,6 +102,8 @@ is_update_call (Insert key value) u = refl
 is_update_call (Remove key) u = refl
 is_update_call (Lookup key) u = elim u [ ]
 is_update_call (Tally key amount) u = refl
+is_update_call (Count key value amount) u = refl
+is_update_call (Put key value) u = refl
 
 module _ (setup : Setup) (me : ℕ) (c : Common) (flight : Flight) (h : me < seats_of setup) (s : Shared setup c)
     (t : Tale) (told : Told setup (past_of c) t) where

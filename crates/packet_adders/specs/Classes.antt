@@ -12,7 +12,7 @@ use Rattle.packet_adders.specs.declared.classes.Class.TheVariants as class
 -- the class of packets of a protocol
 abbrev pub class_in : Protocol → ℕ
 class_in (Tcp flags payload) = 0
-class_in Udp = 1
+class_in (Udp payload) = 1
 
 -- the class of those that have no heads
 abbrev pub PASSED : ℕ

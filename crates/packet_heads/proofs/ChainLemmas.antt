@@ -12,7 +12,7 @@ IsKnown number = (number ≡ 6) ⊎ (number ≡ 17)
 
 pub protocol_known : (protocol : Protocol) → IsKnown (number_of protocol)
 protocol_known (Tcp flags payload) = inl refl
-protocol_known Udp = inr refl
+protocol_known (Udp payload) = inr refl
 
 -- it is no extension head's
 options_other : (packet : List ℕ) (place number size : ℕ) → IsOptions packet place number size → IsKnown number → ⊥

@@ -21,9 +21,11 @@ one_protocol packet head number count (Tcp flags payload) (Tcp flags' payload') 
     let same_flags : flags ≡ flags' = sym a.fields.0 ∙ b.fields.0 in
     let same_payload : payload ≡ payload' = a.fields.1 ∙ sym b.fields.1 in
     cc
-one_protocol packet head number count (Tcp flags payload) Udp a b = absurd (omega (arith, a.is_number, b.is_number))
-one_protocol packet head number count Udp (Tcp flags payload) a b = absurd (omega (arith, a.is_number, b.is_number))
-one_protocol packet head number count Udp Udp a b = refl
+one_protocol packet head number count (Tcp flags payload) (Udp payload') a b =
+    absurd (omega (arith, a.is_number, b.is_number))
+one_protocol packet head number count (Udp payload) (Tcp flags payload') a b =
+    absurd (omega (arith, a.is_number, b.is_number))
+one_protocol packet head number count (Udp payload) (Udp payload') a b = ap Udp (a.fields ∙ sym b.fields)
 
 -- heads with equal parts are equal
 same_heads : (one other : Heads) → one.version ≡ other.version

@@ -2,10 +2,11 @@
 //!
 //! Source: RFC 9293, section 3.1; RFC 768.
 
-ghost use Rattle.packet_heads.specs.Transport.{HasProtocol, HasRoom, count_behind, payload_behind};
+ghost use Rattle.packet_heads.specs.Transport.{HasProtocol, HasRoom, count_behind, datagram_behind, length_field, payload_behind};
 ghost use Rattle.packet_heads.specs.declared.packet.Protocol.{Protocol};
-ghost use Rattle.std.specs.Prelude.{◌≡◌, ◌↔◌, IsTrue, IfSome, IsSome};
+ghost use Rattle.std.specs.Prelude.{◌≡◌, ◌≤◌, ◌↔◌, IsTrue, IfSome, IsSome, length};
 
+use crate::numbers::u16_at;
 use crate::packet::Protocol;
 
 /// How many bytes stand behind a network head, by its length field, which counts so many bytes of the head itself.
@@ -30,7 +31,7 @@ pub fn protocol_at(packet: &[u8], head: usize, number: u8, count: Option<u16>) -
 {
     match number {
         6 if has_room(packet, head, count, 14) => Some(tcp_at(packet, head, count)),
-        17 if has_room(packet, head, count, 4) => Some(Protocol::Udp),
+        17 if has_room(packet, head, count, 4) => Some(udp_at(packet, head, count)),
         _ => None,
     }
 }
@@ -67,4 +68,36 @@ fn payload_behind(units: u8, count: Option<u16>) -> u32
         return 0;
     }
     u32::from(count.unwrap_or(0)).saturating_sub(4 * u32::from(units))
+}
+
+/// UDP with its payload.
+fn udp_at(packet: &[u8], head: usize, count: Option<u16>) -> Protocol
+    requires { HasRoom packet.now head count 4 }
+    ensures { HasProtocol packet.now head 17 count result }
+{
+    Protocol::Udp {
+        payload: datagram_behind(length_field(packet, head), count),
+    }
+}
+
+/// The length field of a UDP head; 0 where it was not captured.
+fn length_field(packet: &[u8], head: usize) -> u16
+    requires { head ≤ length packet.now }
+    ensures { result ≡ length_field packet.now head }
+{
+    if packet.len() - head < 6 {
+        return 0;
+    }
+    u16_at(packet, head + 4)
+}
+
+/// How many bytes are told to stand behind a UDP head with this length field.
+fn datagram_behind(field: u16, count: Option<u16>) -> u32
+    ensures { result ≡ datagram_behind field count }
+{
+    u32::from(
+        field
+            .saturating_sub(8)
+            .min(count.unwrap_or(0).saturating_sub(8)),
+    )
 }

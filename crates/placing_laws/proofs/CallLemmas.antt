@@ -4,7 +4,7 @@ use Rattle.std.specs.Prelude.{is_some, ◌==◌}
 use Rattle.std.specs.List.{list_any}
 use Rattle.std.specs.Option.{option_map_or}
 use Rattle.std.specs.Ordering.{eq_by_cmp}
-use Rattle.std.specs.FinMap.{get, get-insert, get-remove, same_map}
+use Rattle.std.specs.FinMap.{get, get-insert, get-remove, insert, same_map}
 use Rattle.std.proofs.lemmas.Bool.{cases_Bool, eqb-true, lt-ltb, or_cases, or_left, or_right}
 use Rattle.std.proofs.lemmas.Map.Keys.{IsDistinct-cons}
 use Rattle.std.proofs.lemmas.Map.Made.{length-le_from_is_member}
@@ -12,12 +12,12 @@ use Rattle.std.specs.List.{AllByRecursion}
 use Rattle.plain_map.specs.declared.keys.Key.{Key}
 use Rattle.plain_map.specs.declared.rules.Rules.{Rules}
 use Rattle.plain_map.specs.declared.calls.Call.{Call}
-use Rattle.plain_map.specs.declared.calls.Call.TheVariants.{Insert, Remove, Lookup, Tally}
+use Rattle.plain_map.specs.declared.calls.Call.TheVariants.{Insert, Remove, Lookup, Tally, Count, Put}
 use Rattle.plain_map.specs.declared.calls.Reply.TheVariants.{Absent}
 use Rattle.plain_map.specs.declared.records.Record.{Record}
 use Rattle.plain_map.specs.Calls.{key_in}
 use Rattle.plain_map.specs.Keys.{Session, key_cmp}
-use Rattle.plain_map.specs.PlainObject.{Sessions, class_of, class_size, found_in, gone_from, grown, has_room, insert_reply, inserted, map_after, new_session, reply_of, sum_of, tallied}
+use Rattle.plain_map.specs.PlainObject.{Sessions, class_of, class_size, count_reply, counted_session, found_in, gone_from, grown, has_room, insert_reply, inserted, map_after, new_session, reply_of, revalued, revised, sum_of, tallied}
 use Rattle.plain_map.proofs.KeyLemmas.{keys_total, exact_keys}
 use Rattle.plain_map.proofs.LocalityLemmas.{map_after-other}
 use Rattle.bucket_states.specs.Items.{same_key}
@@ -33,30 +33,73 @@ one_key a b = elim (cases_Bool (same_key a b)) [
   | inr other ↦ inr (λ is. true≢false (sym ((Decides-same_key a b).1 is) ∙ other))
 ]
 
--- an insert of a new key finds room
+-- a call that brings a new key finds room
 abbrev pub FindsRoom : Rules → Sessions → Call → Type 0
 FindsRoom rules m (Insert key value) = get m key ≡ None → has_room rules m key ≡ true
 FindsRoom rules m (Remove key) = Unit {0}
 FindsRoom rules m (Lookup key) = Unit {0}
 FindsRoom rules m (Tally key amount) = Unit {0}
+FindsRoom rules m (Count key value amount) = get m key ≡ None → has_room rules m key ≡ true
+FindsRoom rules m (Put key value) = get m key ≡ None → has_room rules m key ≡ true
+
+-- a reply that depends on what is held at the key, and for a new one on room, is the same where there is room
+same_with_room : {A : Type 0} (rules : Rules) (m n : Sessions) (key : Key) (reply : Option Session → Bool → A) →
+    ((held : Session) (a b : Bool) → reply (Some held) a ≡ reply (Some held) b) →
+    (get m key ≡ None → has_room rules m key ≡ true) → (get n key ≡ None → has_room rules n key ≡ true) →
+    get m key ≡ get n key → reply (get m key) (has_room rules m key) ≡ reply (get n key) (has_room rules n key)
+same_with_room rules m n key reply alike room roomy same = go (get n key) refl
+  where
+    go : (o : Option Session) → get n key ≡ o →
+        reply (get m key) (has_room rules m key) ≡ reply (get n key) (has_room rules n key)
+    go (Some held) is =
+        ap (λ o. reply o (has_room rules m key)) (same ∙ is) ∙ alike held (has_room rules m key) (has_room rules n key)
+        ∙ sym (ap (λ o. reply o (has_room rules n key)) is)
+    go None is =
+        ap (λ o. reply o (has_room rules m key)) (same ∙ is) ∙ ap (reply None) (room (same ∙ is))
+        ∙ sym (ap (λ o. reply o (has_room rules n key)) is ∙ ap (reply None) (roomy is))
 
 -- a reply depends on what is held at the key alone
 pub reply_same : (rules : Rules) (m n : Sessions) (call : Call) → FindsRoom rules m call → FindsRoom rules n call →
     get m (key_in call) ≡ get n (key_in call) → reply_of rules m call ≡ reply_of rules n call
 unfolding reply_of
-reply_same rules m n (Insert key value) room roomy same = go (get n key) refl
-  where
-    go : (o : Option Session) → get n key ≡ o →
-        insert_reply (get m key) (has_room rules m key) ≡ insert_reply (get n key) (has_room rules n key)
-    go (Some held) is =
-        ap (λ o. insert_reply o (has_room rules m key)) (same ∙ is)
-        ∙ sym (ap (λ o. insert_reply o (has_room rules n key)) is)
-    go None is =
-        ap (λ o. insert_reply o (has_room rules m key)) (same ∙ is) ∙ ap (insert_reply None) (room (same ∙ is))
-        ∙ sym (ap (λ o. insert_reply o (has_room rules n key)) is ∙ ap (insert_reply None) (roomy is))
+reply_same rules m n (Insert key value) room roomy same =
+    same_with_room rules m n key insert_reply (λ held a b. refl) room roomy same
 reply_same rules m n (Remove key) room roomy same = ap (λ o. option_map_or gone_from o Absent) same
 reply_same rules m n (Lookup key) room roomy same = ap (λ o. option_map_or found_in o Absent) same
 reply_same rules m n (Tally key amount) room roomy same = ap (λ o. option_map_or (sum_of amount) o Absent) same
+reply_same rules m n (Count key value amount) room roomy same =
+    same_with_room rules m n key (count_reply amount) (λ held a b. refl) room roomy same
+reply_same rules m n (Put key value) room roomy same =
+    same_with_room rules m n key insert_reply (λ held a b. refl) room roomy same
+
+-- what is held at a key to which one session comes, in two maps that hold the same there
+insert_alike : (m n : Sessions) (key : Key) (new : Session) → get m key ≡ get n key →
+    get (insert m key new) key ≡ get (insert n key new) key
+insert_alike m n key new same =
+    get-insert keys_total m key new key ∙ ap (cond (eq_by_cmp key_cmp key key) (Some new)) same
+    ∙ sym (get-insert keys_total n key new key)
+
+-- what is held after a change or a new session
+revised_same : (rules : Rules) (m n : Sessions) (key : Key) (new : Session) (change : Session → Session) →
+    (get m key ≡ None → has_room rules m key ≡ true) → (get n key ≡ None → has_room rules n key ≡ true) →
+    get m key ≡ get n key →
+    get (revised m key new change (get m key) (has_room rules m key)) key
+    ≡ get (revised n key new change (get n key) (has_room rules n key)) key
+revised_same rules m n key new change room roomy same = go (get n key) refl
+  where
+    go : (o : Option Session) → get n key ≡ o →
+        get (revised m key new change (get m key) (has_room rules m key)) key
+        ≡ get (revised n key new change (get n key) (has_room rules n key)) key
+    go (Some held) is =
+        ap (λ o. get (revised m key new change o (has_room rules m key)) key) (same ∙ is)
+        ∙ insert_alike m n key (change held) same
+        ∙ sym (ap (λ o. get (revised n key new change o (has_room rules n key)) key) is)
+    go None is =
+        ap (λ o. get (revised m key new change o (has_room rules m key)) key) (same ∙ is)
+        ∙ ap (λ b. get (revised m key new change None b) key) (room (same ∙ is))
+        ∙ insert_alike m n key new same
+        ∙ sym (ap (λ o. get (revised n key new change o (has_room rules n key)) key) is
+        ∙ ap (λ b. get (revised n key new change None b) key) (roomy is))
 
 -- and so does what is held there then
 pub held_same : (rules : Rules) (m n : Sessions) (call : Call) → FindsRoom rules m call → FindsRoom rules n call →
@@ -99,6 +142,10 @@ held_same rules m n (Tally key amount) room roomy same = go (get n key) refl
         ∙ ap (cond (eq_by_cmp key_cmp key key) (Some (grown held amount))) same
         ∙ sym (get-insert keys_total n key (grown held amount) key)
         ∙ sym (ap (λ o. get (tallied n key amount o) key) is)
+held_same rules m n (Count key value amount) room roomy same =
+    revised_same rules m n key (counted_session value amount) (λ held. grown held amount) room roomy same
+held_same rules m n (Put key value) room roomy same =
+    revised_same rules m n key (new_session value) (λ held. revalued held value) room roomy same
 
 -- after another call that finds room as before, a call is answered as before
 pub reply_after : (rules : Rules) (m : Sessions) (first second : Call) → key_in second ≢ key_in first →
@@ -138,7 +185,7 @@ calls_commute rules m a b other room_a room_b roomy_b roomy_a = same_map keys_to
 abbrev pub Roomy : Rules → Sessions → List Record → Type 0
 Roomy rules m records = (class : ℕ) → HasRoomForAll rules m records class
 
--- a record that stands among some and inserts a key is one that does
+-- a record that stands among some and brings a key is one that does
 pub inserts_in : (key : Key) (r : Record) (records : List Record) → In r records → Inserts key r.call →
     SomeInserts key records
 inserts_in key r [] i ins = elim i [ ]
@@ -152,7 +199,7 @@ inserts_by key [] i = elim i [ ]
 inserts_by key (x ∷ records) (inl ins) = (x, inl refl, ins)
 inserts_by key (x ∷ records) (inr s) = let there = inserts_by key records s in (there.0, inr there.1, there.2)
 
--- what is held after a call was held before it, or the call inserts it
+-- what is held after a call was held before it, or the call brings it
 held_after : (rules : Rules) (m : Sessions) (call : Call) (key : Key) → get (map_after rules m call) key ≢ None →
     (get m key ≢ None) ⊎ Inserts key call
 unfolding map_after
@@ -172,6 +219,14 @@ held_after rules m (Lookup other) key held = inl held
 held_after rules m (Tally other amount) key held = elim (one_key key other) [
   | inl is ↦ inl (λ none. held (ap (λ o. get (tallied m other amount o) key) (ap (get m) (sym is) ∙ none) ∙ none))
   | inr not ↦ inl (λ none. held (map_after-other rules m (Tally other amount) key not ∙ none))
+]
+held_after rules m (Count other value amount) key held = elim (one_key key other) [
+  | inl is ↦ inr (sym is)
+  | inr not ↦ inl (λ none. held (map_after-other rules m (Count other value amount) key not ∙ none))
+]
+held_after rules m (Put other value) key held = elim (one_key key other) [
+  | inl is ↦ inr (sym is)
+  | inr not ↦ inl (λ none. held (map_after-other rules m (Put other value) key not ∙ none))
 ]
 
 -- some of the records have room after one of them
@@ -247,10 +302,13 @@ pub finds_room : (rules : Rules) (m : Sessions) (records : List Record) (r : Rec
     In r records → FindsRoom rules m r.call
 finds_room rules m records r roomy there = go r.call refl
   where
+    brings : (key : Key) → Inserts key r.call → get m key ≡ None → has_room rules m key ≡ true
+    brings key it = new_finds_room rules m records roomy key (inserts_in key r records there it)
+
     go : (call : Call) → r.call ≡ call → FindsRoom rules m call
-    go (Insert key value) is =
-        new_finds_room rules m records roomy key
-        (inserts_in key r records there (subst (λ (c : Call). Inserts key c) (sym is) refl))
+    go (Insert key value) is = brings key (subst (λ (c : Call). Inserts key c) (sym is) refl)
     go (Remove key) is = tt
     go (Lookup key) is = tt
     go (Tally key amount) is = tt
+    go (Count key value amount) is = brings key (subst (λ (c : Call). Inserts key c) (sym is) refl)
+    go (Put key value) is = brings key (subst (λ (c : Call). Inserts key c) (sym is) refl)

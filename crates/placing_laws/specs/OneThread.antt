@@ -7,7 +7,7 @@ use Rattle.std.specs.FinMap.{get}
 use Rattle.plain_map.specs.declared.keys.Key.{Key}
 use Rattle.plain_map.specs.declared.rules.Rules.{Rules}
 use Rattle.plain_map.specs.declared.calls.Call.{Call}
-use Rattle.plain_map.specs.declared.calls.Call.TheVariants.{Insert, Remove, Lookup, Tally}
+use Rattle.plain_map.specs.declared.calls.Call.TheVariants.{Insert, Remove, Lookup, Tally, Count, Put}
 use Rattle.plain_map.specs.declared.records.Record.{Record}
 use Rattle.plain_map.specs.Calls.{key_in}
 use Rattle.plain_map.specs.PlainObject.{Sessions, class_of}
@@ -27,19 +27,21 @@ pub record KeysHaveSeats (records : List Record) : Type 0 where
   pub one_seat : (a b : Record) → StandsBefore records a b → key_in a.call ≡ key_in b.call → a.seat ≡ b.seat
   pub from_one : All (λ r. 1 ≤ r.number) records
 
--- the call inserts this key
+-- the call brings this key where it is not there
 abbrev pub Inserts : Key → Call → Type 0
 Inserts key (Insert other value) = other ≡ key
 Inserts key (Remove other) = ⊥
 Inserts key (Lookup other) = ⊥
 Inserts key (Tally other amount) = ⊥
+Inserts key (Count other value amount) = other ≡ key
+Inserts key (Put other value) = other ≡ key
 
--- one of these calls inserts this key
+-- one of these calls brings this key
 abbrev pub SomeInserts : Key → List Record → Type 0
 SomeInserts key [] = ⊥
 SomeInserts key (r ∷ records) = Inserts key r.call ⊎ SomeInserts key records
 
--- the key is held before these calls, or one of them inserts it
+-- the key is held before these calls, or one of them brings it
 abbrev pub MayBeHeld : Sessions → List Record → Key → Type 0
 MayBeHeld sessions records key = (get sessions key ≢ None) ⊎ SomeInserts key records
 

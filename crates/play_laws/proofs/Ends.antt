@@ -25,14 +25,17 @@ are_playable (begin ∷ calls) all =
 module _ (setup : Setup) (calls : List (List (ℕ × Call))) (stops : List (Option ℕ)) (can : CanPlay setup calls) where
   -- the calls of a seat
   own_calls : (seat : ℕ) →
-      IsPlayableHand fresh_seat (record { calls = get_or calls seat []; may = get_or stops seat None })
+      IsPlayableHand setup fresh_seat (record { calls = get_or calls seat []; may = get_or stops seat None })
   own_calls seat = elim (cases_lt seat (length calls)) [
     | inl h ↦ record {
       calls = are_playable (get_or calls seat [])
           (All-get_or (λ (own : List (ℕ × Call)). All IsPlayable own) calls seat [] h can.playable);
-      few = omega (arith, All-get_or (λ (own : List (ℕ × Call)). length own ≤ 2 ^ 32 - 1) calls seat [] h can.few);
+      few = omega (
+        arith,
+        All-get_or (λ (own : List (ℕ × Call)). length own ≤ setup.shape.limit - 1) calls seat [] h can.few,
+      );
     }
-    | inr n ↦ subst (λ (own : List (ℕ × Call)). IsPlayableHand fresh_seat
+    | inr n ↦ subst (λ (own : List (ℕ × Call)). IsPlayableHand setup fresh_seat
         (record { calls = own; may = get_or stops seat None }))
         (sym (get_or_past calls seat [] n)) (record { calls = tt; few = omega arith })
   ]
@@ -46,9 +49,9 @@ module _ (setup : Setup) (calls : List (List (ℕ × Call))) (stops : List (Opti
     hands = length-map-range_with_len
         (λ (seat : ℕ). record { calls = get_or calls seat []; may = get_or stops seat None }) 0 (seats_of setup);
     dealt = λ seat h.
-        subst (λ (state : SeatState). IsPlayableHand state (hand_of (first_play setup calls stops) seat))
+        subst (λ (state : SeatState). IsPlayableHand setup state (hand_of (first_play setup calls stops) seat))
         (sym (get_or-replicate (seats_of setup) seat fresh_seat fresh_seat h))
-        (subst (IsPlayableHand fresh_seat)
+        (subst (IsPlayableHand setup fresh_seat)
         (sym (get_or-map-range_with_len
         (λ (q : ℕ). record { calls = get_or calls q []; may = get_or stops q None }) 0 (seats_of setup) seat seat
         empty_hand h (omega arith)))

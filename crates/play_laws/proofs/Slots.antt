@@ -56,7 +56,7 @@ module _ (setup : Setup) (seat : ℕ) (h : seat < seats_of setup) where
         length (fold (happens setup) from (map (λ begin. record { seat = seat; begin = Some begin }) tried)).seats
         ≡ length w.seats
     pub calls : ArePlayable untried
-    pub few : CanCountOn
+    pub few : CanCountOn setup
         (seat_in (fold (happens setup) from (map (λ begin. record { seat = seat; begin = Some begin }) tried)) seat)
         (length untried)
     pub nearer : left_at most (length untried)
@@ -89,11 +89,11 @@ module _ (setup : Setup) (seat : ℕ) (h : seat < seats_of setup) where
     steps begin None e = refl
 
     -- the event of a call that can be played
-    event_is : (begin : ℕ × Call) → IsPlayable begin → length account.records < 2 ^ 32 - 1 →
+    event_is : (begin : ℕ × Call) → IsPlayable begin → length account.records < setup.shape.limit - 1 →
         IsEvent setup w (record { seat = seat; begin = Some begin })
     event_is begin p few = record {
       seat = h;
-      begin = subst (λ (s : SeatState). FitsStand s.account s.stand (Some begin)) (sym is)
+      begin = subst (λ (s : SeatState). FitsStand setup s.account s.stand (Some begin)) (sym is)
           (refl, record { packet = p.packet; key = p.key; value = p.value; count = few });
     }
 
@@ -103,7 +103,8 @@ module _ (setup : Setup) (seat : ℕ) (h : seat < seats_of setup) where
         (untried_of (is_refused setup seat account) calls) (length calls * most - 1)
 
     -- the calls that an idle seat tries
-    pub idle_goes : (calls : List (ℕ × Call)) → ArePlayable calls → length account.records + length calls ≤ 2 ^ 32 - 1 →
+    pub idle_goes : (calls : List (ℕ × Call)) → ArePlayable calls →
+        length account.records + length calls ≤ setup.shape.limit - 1 →
         Rest w w (tried_of (is_refused setup seat account) calls) (untried_of (is_refused setup seat account) calls)
         (length calls * most - 1)
     idle_goes [] p few = record {
@@ -111,7 +112,7 @@ module _ (setup : Setup) (seat : ℕ) (h : seat < seats_of setup) where
       others = λ q n. refl;
       long = refl;
       calls = tt;
-      few = subst (λ (s : SeatState). CanCountOn s 0) (sym is) (omega (arith, few));
+      few = subst (λ (s : SeatState). CanCountOn setup s 0) (sym is) (omega (arith, few));
       nearer = subst (λ (s : SeatState). left_at most 0 s.stand ≤ 0 * most - 1) (sym is) (omega arith);
     }
     idle_goes (begin ∷ calls) p few =
@@ -154,7 +155,7 @@ module _ (setup : Setup) (seat : ℕ) (h : seat < seats_of setup) where
                   ∙ step_other setup w seat q account (begun account begin.0 begin.1) SeeDone n;
               long = ap (λ (x : World). length x.seats) goes ∙ length-set w.seats seat _;
               calls = p.1;
-              few = subst (λ (s : SeatState). CanCountOn s (length calls))
+              few = subst (λ (s : SeatState). CanCountOn setup s (length calls))
                   (sym (ap (λ (x : World). seat_in x seat) goes ∙ state))
                   (omega (arith, few));
               nearer = subst (λ (s : SeatState). left_at most (length calls) s.stand ≤ suc (length calls) * most - 1)
@@ -210,7 +211,7 @@ pub record Slotted (setup : Setup) (w : World) (seat : ℕ) (events : List Event
   pub follow : AreEvents setup w events
   pub others : (q : ℕ) → q ≢ seat → seat_in (fold (happens setup) w events) q ≡ seat_in w q
   pub long : length (fold (happens setup) w events).seats ≡ length w.seats
-  pub dealt : IsPlayableHand (seat_in (fold (happens setup) w events) seat) hand
+  pub dealt : IsPlayableHand setup (seat_in (fold (happens setup) w events) seat) hand
   pub nearer : left_at (call_steps (settings_of setup)) (length hand.calls)
       (seat_in (fold (happens setup) w events) seat).stand ≤ bound
 
@@ -224,7 +225,7 @@ module _ (setup : Setup) (seat : ℕ) (h : seat < seats_of setup) (w : World)
   -- one slot of a seat that is not stopped
   pub one_slot : (hand : Hand) (account : Account) (stand : Stand) →
       seat_in w seat ≡ record { account = account; stand = stand } →
-      IsPlayableHand (record { account = account; stand = stand }) hand → MayFly setup stand →
+      IsPlayableHand setup (record { account = account; stand = stand }) hand → MayFly setup stand →
       Slotted setup w seat (events_of_slot setup seat account hand stand)
       (hand_after_slot setup seat account hand stand)
       (left_at (call_steps (settings_of setup)) (length hand.calls) stand - 1)
@@ -266,7 +267,7 @@ module _ (setup : Setup) (seat : ℕ) (h : seat < seats_of setup) (w : World)
         follow = (
           record {
             seat = h;
-            begin = subst (λ (s : SeatState). FitsStand s.account s.stand None) (sym is) refl;
+            begin = subst (λ (s : SeatState). FitsStand setup s.account s.stand None) (sym is) refl;
           },
           tt,
         );
@@ -274,7 +275,7 @@ module _ (setup : Setup) (seat : ℕ) (h : seat < seats_of setup) (w : World)
         long = ap (λ (x : World). length x.seats) goes ∙ length-set w.seats seat _;
         dealt = record {
           calls = dealt.calls;
-          few = subst (λ (s : SeatState). CanCountOn s (length hand.calls)) (sym state)
+          few = subst (λ (s : SeatState). CanCountOn setup s (length hand.calls)) (sym state)
               (omega (arith, dealt.few, on.0));
         };
         nearer = subst (λ (s : SeatState). left_at (call_steps (settings_of setup)) (length hand.calls) s.stand
@@ -342,13 +343,13 @@ goes_on setup seat play events hand good h s = record {
     long = s.long ∙ good.long;
     hands = length-set play.hands seat hand ∙ good.hands;
     dealt = λ q k. elim (cases_eq q seat) [
-      | inl e ↦ subst (λ (r : ℕ). IsPlayableHand (seat_in (fold (happens setup) play.world events) r)
+      | inl e ↦ subst (λ (r : ℕ). IsPlayableHand setup (seat_in (fold (happens setup) play.world events) r)
           (get_or (set play.hands seat hand) r empty_hand)) (sym e)
-          (subst (IsPlayableHand (seat_in (fold (happens setup) play.world events) seat))
+          (subst (IsPlayableHand setup (seat_in (fold (happens setup) play.world events) seat))
           (sym (get_or-set_same play.hands seat hand empty_hand (omega (arith, good.hands, h)))) s.dealt)
-      | inr n ↦ subst (IsPlayableHand (seat_in (fold (happens setup) play.world events) q))
+      | inr n ↦ subst (IsPlayableHand setup (seat_in (fold (happens setup) play.world events) q))
           (sym (get_or-set_other play.hands seat q hand empty_hand n))
-          (subst (λ (x : SeatState). IsPlayableHand x (hand_of play q)) (sym (s.others q n)) (good.dealt q k))
+          (subst (λ (x : SeatState). IsPlayableHand setup x (hand_of play q)) (sym (s.others q n)) (good.dealt q k))
     ];
   };
   other_hands = λ q n. get_or-set_other play.hands seat q hand empty_hand n;

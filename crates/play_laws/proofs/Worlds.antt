@@ -26,7 +26,7 @@ module _ (setup : Setup) (seat : ℕ) (asked : ℕ × Call) where
 
   -- what it begins is what its stand lets it begin
   fits : (account : Account) (stand : Stand) → MayStep setup seat asked account stand →
-      FitsStand account stand (begin_of stand asked)
+      FitsStand setup account stand (begin_of stand asked)
   fits account Idle may = (refl, may.1)
   fits account (InFlight flight phase) may = refl
 

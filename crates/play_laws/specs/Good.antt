@@ -17,13 +17,13 @@ under_way Idle = 0
 under_way (InFlight flight phase) = 1
 
 -- so many calls can still be counted
-abbrev pub CanCountOn : SeatState → (calls : ℕ) → Type 0
-CanCountOn state calls = length state.account.records + under_way state.stand + calls ≤ 2 ^ 32 - 1
+abbrev pub CanCountOn : Setup → SeatState → (calls : ℕ) → Type 0
+CanCountOn setup state calls = length state.account.records + under_way state.stand + calls ≤ setup.shape.limit - 1
 
 -- what is dealt to a seat can be played on
-pub record IsPlayableHand (state : SeatState) (hand : Hand) : Type 0 where
+pub record IsPlayableHand (setup : Setup) (state : SeatState) (hand : Hand) : Type 0 where
   pub calls : ArePlayable hand.calls
-  pub few : CanCountOn state (length hand.calls)
+  pub few : CanCountOn setup state (length hand.calls)
 
 -- a play whose events are a run
 pub record IsGoodPlay (setup : Setup) (play : Play) : Type 0 where
@@ -31,4 +31,4 @@ pub record IsGoodPlay (setup : Setup) (play : Play) : Type 0 where
   pub world_is : play.world ≡ world_after setup play.events
   pub long : length play.world.seats ≡ seats_of setup
   pub hands : length play.hands ≡ seats_of setup
-  pub dealt : (seat : ℕ) → seat < seats_of setup → IsPlayableHand (seat_in play.world seat) (hand_of play seat)
+  pub dealt : (seat : ℕ) → seat < seats_of setup → IsPlayableHand setup (seat_in play.world seat) (hand_of play seat)

@@ -29,13 +29,14 @@ use Rattle.report_told.specs.Points.{IsShortEnough, rules_told}
 use Rattle.report_told.specs.Rules.{IsHead, IsSettingsOf, IsTail, Rise, times}
 use Rattle.plain_map.specs.Calls.{is_update}
 use Rattle.report_promises.specs.Good.{AreCountedBySeat, HasBegun, HasEnded, IsFitting, IsGood, answered_on, begun_in, calls_begun, calls_ended, ended_in, packets_in}
-use Rattle.report_text.specs.declared.parts.Ending.{Ending}
+use Rattle.capture_faults.specs.declared.ending.Ending.{Ending}
 use Rattle.command_line.specs.declared.plan.Plan.{Plan}
 use Rattle.batch_deals.specs.declared.service.Service.{Service}
 use Rattle.batch_deals.specs.Dealt.{shares_of}
 use Rattle.batch_deals.proofs.Deals.{dealt_hold}
 use Rattle.trace_share.proofs.OnceLemmas.{deals_each_once}
-use Rattle.packet_heads.specs.declared.framing.Framing.{Framing}
+use Rattle.mode_parts.specs.declared.calling.Calling.{Calling}
+use Rattle.mode_parts.specs.Callings.{calling_of}
 use Rattle.mode_parts.specs.Planned.{head_of}
 use Rattle.mode_parts.specs.PacketCalls.{MakeCalls}
 use Rattle.play_runner.specs.declared.values.Played.{Played}
@@ -119,36 +120,37 @@ module _ (setup : Setup) (shares : List (List (ℕ × Call))) (stops : List (Opt
     took_updates : (u : Pending) → took_effect setup.shape play.world.words u ≡ true → is_update u.call ≡ true
     took_updates u took = (and_parts (is_update u.call) _ took).0
 
-    module _ (fit : All (All IsFitting) shares) (calls : List (ℕ × Call))
-        (dealt : IsPermutation (flat_map (λ own. own) shares) calls) (framing : Framing) (packets : List (List ℕ))
-        (makes : MakeCalls framing 1 packets calls) (few : length packets ≤ 200) where
+    module _ (fit : All (All (IsFitting report.head.calls)) shares) (calls : List (ℕ × Call))
+        (dealt : IsPermutation (flat_map (λ own. own) shares) calls) (calling : Calling) (packets : List (List ℕ))
+        (makes : MakeCalls calling 1 packets calls) (few : length packets ≤ 200) where
       few_all : length lines ≤ 200
       few_all = omega (
         arith,
         few,
-        calls_few framing 1 packets calls makes,
+        calls_few calling 1 packets calls makes,
         few_lines setup shares stops schedule right.run right.comes calls dealt lines comes.outcomes
             played.pending.items comes.pending,
       )
 
       -- what was asked on each line can be told
-      good_asked : All IsFitting (calls_ended lines)
+      good_asked : All (IsFitting report.head.calls) (calls_ended lines)
       good_asked =
-          All-map IsFitting (λ (line : ℕ × Outcome). asked_in line.1) lines
-          (All-permutation (λ (line : ℕ × Outcome). IsFitting (asked_in line.1)) (outcomes_of setup play.events) lines
-          comes.outcomes (told-dealt IsFitting setup shares stops schedule fit).ended)
+          All-map (IsFitting report.head.calls) (λ (line : ℕ × Outcome). asked_in line.1) lines
+          (All-permutation (λ (line : ℕ × Outcome). IsFitting report.head.calls (asked_in line.1))
+          (outcomes_of setup play.events) lines
+          comes.outcomes (told-dealt (IsFitting report.head.calls) setup shares stops schedule fit).ended)
 
       -- also of calls under way
-      good_under_way : All IsFitting (calls_begun played.pending.items)
+      good_under_way : All (IsFitting report.head.calls) (calls_begun played.pending.items)
       good_under_way =
-          All-map IsFitting (λ (u : Pending). (u.packet, u.call)) played.pending.items
-          (subst (All (λ (u : Pending). IsFitting (u.packet, u.call))) (sym comes.pending)
-          (told-dealt IsFitting setup shares stops schedule fit).under_way)
+          All-map (IsFitting report.head.calls) (λ (u : Pending). (u.packet, u.call)) played.pending.items
+          (subst (All (λ (u : Pending). IsFitting report.head.calls (u.packet, u.call))) (sym comes.pending)
+          (told-dealt (IsFitting report.head.calls) setup shares stops schedule fit).under_way)
 
       -- the calls that ended rise by packet
       good_rise : IsNonDecreasingBy packet_in lines → Rise (map (λ asked. asked.0) (calls_ended lines))
       good_rise = lines_rise setup shares stops schedule right.run right.comes calls dealt lines comes.outcomes
-          played.pending.items comes.pending framing packets makes
+          played.pending.items comes.pending calling packets makes
 
       -- and none is of a packet of a call under way
       good_apart : (ended : List (ℕ × Outcome)) (begun : List Pending) → ended ≡ lines →
@@ -163,7 +165,7 @@ module _ (setup : Setup) (shares : List (List (ℕ × Call))) (stops : List (Opt
             begun_same,
             ap (λ (ls : List (ℕ × Outcome)). times packet (map (λ (asked : ℕ × Call). asked.0) (calls_ended ls))) one,
             lines_apart setup shares stops schedule right.run right.comes calls dealt lines comes.outcomes
-                played.pending.items comes.pending framing packets makes packet (omega (arith, some, begun_same)),
+                played.pending.items comes.pending calling packets makes packet (omega (arith, some, begun_same)),
           )
 
       -- each call of the lines that is in the order is there once
@@ -181,7 +183,8 @@ module _ (setup : Setup) (shares : List (List (ℕ × Call))) (stops : List (Opt
       good_play head tail = record {
         head = head;
         tail = tail;
-        asked = subst (λ (ls : List (ℕ × Outcome)). All IsFitting (calls_ended ls)) (sym tells.ended) good_asked;
+        asked = subst (λ (ls : List (ℕ × Outcome)). All (IsFitting report.head.calls) (calls_ended ls))
+            (sym tells.ended) good_asked;
         seats = subst (All (λ line. line.0 < report.head.seats)) (sym tells.ended)
             (lines_seats setup play.events right.run report.head tells.settings lines comes.outcomes);
         ended = subst (All (λ (line : ℕ × Outcome). HasEnded report.head line.1)) (sym tells.ended)
@@ -189,7 +192,8 @@ module _ (setup : Setup) (shares : List (List (ℕ × Call))) (stops : List (Opt
             head.settings.seats_in_range.1 (omega (arith, tail.update, tells.update))
             (omega (arith, tail.lookup, tells.lookup)));
         few = omega (arith, few_all, ap length tells.ended);
-        under_way = subst (λ (us : List Pending). All IsFitting (calls_begun us)) (sym tells.begun) good_under_way;
+        under_way = subst (λ (us : List Pending). All (IsFitting report.head.calls) (calls_begun us))
+            (sym tells.begun) good_under_way;
         begun = subst (All (HasBegun report))
             (ap begun_of (sym right.comes) ∙ sym comes.pending ∙ sym tells.begun)
             (lines_begun setup play.events right.run report.head tells.settings lines comes.outcomes report refl
@@ -211,9 +215,9 @@ module _ (setup : Setup) (shares : List (List (ℕ × Call))) (stops : List (Opt
 
 -- the report that `play` puts is good, by the play's one order
 pub play_is_good : (plan : Plan) (packets : List (List ℕ)) (calls : List (ℕ × Call)) (ending : Ending) (text : List ℕ)
-    (p : IsPlayOf plan (length packets) calls ending text) → MakeCalls plan.framing 1 packets calls →
+    (p : IsPlayOf plan (length packets) calls ending text) → MakeCalls (calling_of plan) 1 packets calls →
     length packets ≤ play_limit →
-    All IsFitting calls → IsHead (head_of true plan) →
+    All (IsFitting plan.calls) calls → IsHead (head_of true plan) →
     IsTail (head_of true plan) (play_tail p.service (length packets) (length calls) p.played ending) →
     IsGood (play_report plan p.service (length packets) (length calls) p.played ending)
     (order_of (play_setup p.service calls).shape (closing_of (play_in plan p.service calls).world))
@@ -235,5 +239,6 @@ play_is_good plan packets calls ending text p makes few fitting head tail =
     let seats : 0 < service.settings.seats =
     omega (arith, head.settings.seats_in_range.0, p.asks.settings.seats_are) in
     good_play (play_setup service calls) (shares_of service calls) plan.stops (schedule_in plan) p.played report p.right
-    p.comes_to p.lines tells refl (dealt_hold IsFitting service.share service.settings.seats calls fitting) calls
-    (deals_each_once service.share service.settings.seats calls seats) plan.framing packets makes few head tail
+    p.comes_to p.lines tells refl
+    (dealt_hold (IsFitting plan.calls) service.share service.settings.seats calls fitting) calls
+    (deals_each_once service.share service.settings.seats calls seats) (calling_of plan) packets makes few head tail

@@ -9,7 +9,7 @@ use Rattle.std.proofs.lemmas.List.Sorted.{All-permutation, length_permutation}
 use Rattle.step_counts.specs.declared.rows.SeatRows.{SeatRows}
 use Rattle.step_counts.specs.StepCounts.{need_of}
 use Rattle.plain_map.specs.declared.calls.Call.{Call}
-use Rattle.plain_map.specs.declared.calls.Call.TheVariants.{Insert, Remove, Lookup, Tally}
+use Rattle.plain_map.specs.declared.calls.Call.TheVariants.{Insert, Remove, Lookup, Tally, Count, Put}
 use Rattle.plain_map.specs.declared.full.Full.{Full}
 use Rattle.plain_map.specs.declared.records.Record.{Record}
 use Rattle.plain_map.specs.Room.{first_short, left_of, margins, refusal}
@@ -65,6 +65,8 @@ was_short left need call full is = go call is
     go (Remove key) found = one (Remove key) refl found
     go (Lookup key) found = absurd (cc)
     go (Tally key amount) found = one (Tally key amount) refl found
+    go (Count key value amount) found = one (Count key value amount) refl found
+    go (Put key value) found = one (Put key value) refl found
 
 -- ---- what a last step records, and what is refused
 

@@ -14,8 +14,8 @@ use Rattle.capture_faults.specs.declared.any_fault.AnyFault.{AnyFault}
 use Rattle.pcapng_reader.specs.Input.{Input}
 use Rattle.pcapng_reader.specs.Laws.{HasOneInput}
 use Rattle.pcap_reader.specs.Reading.{Took}
-use Rattle.report_text.specs.declared.parts.Ending.{Ending}
-use Rattle.report_text.specs.declared.parts.Ending.TheVariants.{Done, ReadFault, Limit, Fault}
+use Rattle.capture_faults.specs.declared.ending.Ending.{Ending}
+use Rattle.capture_faults.specs.declared.ending.Ending.TheVariants.{Done, ReadFault, Limit, Fault}
 use Rattle.step_counts.specs.declared.rows.SeatRows.{SeatRows}
 use Rattle.step_counts.specs.declared.settings.Settings.{Settings}
 use Rattle.step_counts.specs.StepCounts.{automatic_rows_of}
@@ -28,6 +28,7 @@ use Rattle.batch_deals.specs.declared.service.Service.{Service}
 use Rattle.batch_deals.specs.Dealt.{shares_of}
 use Rattle.batch_deals.proofs.Deals.{dealt_few, dealt_hold}
 use Rattle.command_line.specs.declared.plan.Plan.{Plan}
+use Rattle.mode_parts.specs.Callings.{calling_of}
 use Rattle.mode_parts.specs.declared.status.Status.{Status}
 use Rattle.mode_parts.specs.declared.status.Status.TheVariants as status
 use Rattle.mode_parts.specs.Reading.{AreBetween, EndsCalls, IsBetween}
@@ -47,7 +48,7 @@ use Rattle.mode_parts.proofs.ExactLemmas.{few_packets, many_packets, same_status
 -- what was played of a whole input is its report
 PlayReports-ended :
     (plan : Plan) (bytes : List ℕ) (first now left : Option (List ℕ)) (many : ℕ) (calls : List (ℕ × Call))
-    (ending : Ending) (text : List ℕ) (ended : EndsCalls plan.framing play_limit first now many calls ending) →
+    (ending : Ending) (text : List ℕ) (ended : EndsCalls (calling_of plan) play_limit first now many calls ending) →
     IsPlayOf plan many calls ending text →
     ServesUpTo (number_in plan.framing.link) play_limit bytes left ended.packets ending →
     PlayReports plan bytes left ending text
@@ -79,18 +80,18 @@ play_certified good plan bytes left ending text (packets, calls, serves, makes, 
     (order_of (play_setup is.service calls).shape (closing_of (play_in plan is.service calls).world))
     (play_is_good plan packets calls ending text is makes (few_played (number_in plan.framing.link) bytes left packets
     ending serves)
-    (calls_fit plan.framing 1 packets calls makes) is.head is.tail))
+    (calls_fit (calling_of plan) 1 packets calls makes) is.head is.tail))
 
 -- a report that was put whole leaves what its ending's status says
 LeavesPlay-whole :
-    GoodIsCertified → (plan : Plan) (read_failed : Type 0) (bytes : List ℕ) (left before after : Option (List ℕ))
+    GoodIsCertified → (plan : Plan) (can_end : Ending → Type 0) (bytes : List ℕ) (left before after : Option (List ℕ))
     (ending : Ending) (text : List ℕ) → PlayReports plan bytes left ending text → Appends before after text →
-    LeavesPlay plan read_failed bytes left before after (status_of ending)
-LeavesPlay-whole good plan read_failed bytes left before after ending text reports put =
+    LeavesPlay plan can_end bytes left before after (status_of ending)
+LeavesPlay-whole good plan can_end bytes left before after ending text reports put =
     by ending (text, reports, play_certified good plan bytes left ending text reports, put)
   where
     by : (e : Ending) → PutsPlay plan bytes left before after e →
-        LeavesPlay plan read_failed bytes left before after (status_of e)
+        LeavesPlay plan can_end bytes left before after (status_of e)
     by (Done rest) puts = (rest, puts)
     by ReadFault puts = puts
     by (Limit limit) puts = (limit, puts)
@@ -103,8 +104,9 @@ took_whole ReadFault first left P took = took
 took_whole (Limit limit) first left P took = took
 took_whole (Fault fault) first left P took = took
 
-module _ (plan : Plan) (read_failed : Type 0) (first left before after : Option (List ℕ)) (many : ℕ)
-    (calls : List (ℕ × Call)) (ending : Ending) (ended : EndsCalls plan.framing play_limit first left many calls ending)
+module _ (plan : Plan) (can_end : Ending → Type 0) (first left before after : Option (List ℕ)) (many : ℕ)
+    (calls : List (ℕ × Call)) (ending : Ending)
+    (ended : EndsCalls (calling_of plan) play_limit first left many calls ending)
     (text : List ℕ) (is : IsPlayOf plan many calls ending text) where
   -- by the bytes that the source told
   by_told : (bytes : List ℕ) → first ≡ Some bytes → PlayReports plan bytes left ending text
@@ -118,21 +120,21 @@ module _ (plan : Plan) (read_failed : Type 0) (first left before after : Option 
 
   -- the report was put whole
   pub LeavesPlayed-whole : GoodIsCertified → Appends before after text →
-      LeavesPlayed plan read_failed first left before after (status_of ending)
+      LeavesPlayed plan can_end first left before after (status_of ending)
   LeavesPlayed-whole good put =
       record {
         told = λ bytes told.
-            LeavesPlay-whole good plan read_failed bytes left before after ending text (by_told bytes told) put;
+            LeavesPlay-whole good plan can_end bytes left before after ending text (by_told bytes told) put;
         took = took_whole ending first left _ (
           ended.ended.took.0,
           ended.ended.took.1,
-          LeavesPlay-whole good plan read_failed ended.ended.took.0 (Some []) before after ending text by_taken put,
+          LeavesPlay-whole good plan can_end ended.ended.took.0 (Some []) before after ending text by_taken put,
         );
       }
 
   -- a write failed
-  pub LeavesPlayed-front : IsMet read_failed ending → AppendsFront before after text →
-      LeavesPlayed plan read_failed first left before after status.WriteFault
+  pub LeavesPlayed-front : IsMet can_end ending → AppendsFront before after text →
+      LeavesPlayed plan can_end first left before after status.WriteFault
   LeavesPlayed-front met put =
       record {
         told = λ bytes told. (ending, met, (text, by_told bytes told, put));
@@ -140,9 +142,9 @@ module _ (plan : Plan) (read_failed : Type 0) (first left before after : Option 
       }
 
 -- memory ran out, and nothing was put
-pub LeavesPlayed-nothing : (plan : Plan) (read_failed : Type 0) (first left before after : Option (List ℕ)) →
-    Keeps before after → LeavesPlayed plan read_failed first left before after status.Memory
-LeavesPlayed-nothing plan read_failed first left before after kept =
+pub LeavesPlayed-nothing : (plan : Plan) (can_end : Ending → Type 0) (first left before after : Option (List ℕ)) →
+    Keeps before after → LeavesPlayed plan can_end first left before after status.Memory
+LeavesPlayed-nothing plan can_end first left before after kept =
     record { told = λ bytes told. kept; took = (first, ([], Consumes-nil first, kept)) }
 
 -- calls of a capture can be played
@@ -237,37 +239,37 @@ long_ranges s None shares =
 
 -- where nothing fails, the input decides which answer it is, want of memory apart
 pub LeavesPlay-exact :
-    (plan : Plan) (read_failed : Type 0) (bytes : List ℕ) (left before after : Option (List ℕ)) (answer : Status)
+    (plan : Plan) (can_end : Ending → Type 0) (bytes : List ℕ) (left before after : Option (List ℕ)) (answer : Status)
     (packets : List (List ℕ))
     (ending : Result ℕ AnyFault) →
     HasOneInput (number_in plan.framing.link) bytes → Input (number_in plan.framing.link) bytes packets ending →
     (answer ≡ status.ReadFault → ⊥) →
-    (answer ≡ status.WriteFault → ⊥) → LeavesPlay plan read_failed bytes left before after answer →
+    (answer ≡ status.WriteFault → ⊥) → LeavesPlay plan can_end bytes left before after answer →
     (answer ≡ status_up_to play_limit packets ending) ⊎ (answer ≡ status.Memory)
-LeavesPlay-exact plan read_failed bytes left before after status.Done packets ending one input no_read no_write leaves =
+LeavesPlay-exact plan can_end bytes left before after status.Done packets ending one input no_read no_write leaves =
     let held = leaves.1.1.2.holds.0 in
     inl (few_packets play_limit leaves.1.1.0 (Ok leaves.0) held.1
     ∙ same_status (number_in plan.framing.link) play_limit bytes leaves.1.1.0 packets (Ok leaves.0) ending one held.0
     input)
-LeavesPlay-exact plan read_failed bytes left before after (status.BadCapture fault) packets ending one input no_read
+LeavesPlay-exact plan can_end bytes left before after (status.BadCapture fault) packets ending one input no_read
     no_write leaves =
     let held = leaves.1.2.holds in
     inl (few_packets play_limit leaves.1.0 (Err fault) held.1
     ∙ same_status (number_in plan.framing.link) play_limit bytes leaves.1.0 packets (Err fault) ending one held.0 input)
-LeavesPlay-exact plan read_failed bytes left before after status.Limit packets ending one input no_read
+LeavesPlay-exact plan can_end bytes left before after status.Limit packets ending one input no_read
     no_write leaves =
     let held = leaves.1.1.2.holds.0 in
     inl (many_packets play_limit held.0 held.1 held.3
     ∙ same_status (number_in plan.framing.link) play_limit bytes held.0 packets held.1 ending one held.2 input)
-LeavesPlay-exact plan read_failed bytes left before after status.ReadFault packets ending one input no_read
+LeavesPlay-exact plan can_end bytes left before after status.ReadFault packets ending one input no_read
     no_write leaves =
     absurd (no_read refl)
-LeavesPlay-exact plan read_failed bytes left before after status.WriteFault packets ending one input no_read
+LeavesPlay-exact plan can_end bytes left before after status.WriteFault packets ending one input no_read
     no_write leaves =
     absurd (no_write refl)
-LeavesPlay-exact plan read_failed bytes left before after status.Memory packets ending one input no_read
+LeavesPlay-exact plan can_end bytes left before after status.Memory packets ending one input no_read
     no_write leaves =
     inr refl
-LeavesPlay-exact plan read_failed bytes left before after status.Usage packets ending one input no_read
+LeavesPlay-exact plan can_end bytes left before after status.Usage packets ending one input no_read
     no_write leaves =
     absurd leaves

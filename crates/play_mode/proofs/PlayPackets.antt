@@ -19,7 +19,7 @@ use Rattle.report_told.specs.Rules.{Rise, times}
 use Rattle.report_told.proofs.TimesLemmas.{times-cons}
 use Rattle.report_promises.specs.Good.{calls_ended}
 use Rattle.report_promises.proofs.PacketLemmas.{rise_once, rises}
-use Rattle.packet_heads.specs.declared.framing.Framing.{Framing}
+use Rattle.mode_parts.specs.declared.calling.Calling.{Calling}
 use Rattle.mode_parts.specs.PacketCalls.{MakeCalls}
 use Rattle.play_runner.specs.Played.{outcomes_of, packet_in}
 use Rattle.play_runner.proofs.WeighedPlays.{of_outcome, play_weighs}
@@ -127,14 +127,14 @@ module _ (setup : Setup) (shares : List (List (ℕ × Call))) (stops : List (Opt
     pub few_lines : length lines ≤ length calls
     few_lines = omega (arith, lines_weigh (λ call. 1), sum_ones lines, sum_ones calls)
 
-    module _ (framing : Framing) (packets : List (List ℕ)) (makes : MakeCalls framing 1 packets calls) where
+    module _ (calling : Calling) (packets : List (List ℕ)) (makes : MakeCalls calling 1 packets calls) where
       -- each packet stands on one line at most
       packet_once : (packet : ℕ) →
           times packet (map (λ asked. asked.0) (calls_ended lines)) + times packet (map (λ u. u.packet) waiting) ≤ 1
       packet_once packet = omega (
         arith,
         lines_weigh (is_of packet),
-        rise_once (map (λ call. call.0) calls) packet (calls_rise framing 1 packets calls makes),
+        rise_once (map (λ call. call.0) calls) packet (calls_rise calling 1 packets calls makes),
         times_by (λ (call : ℕ × Call). call.0) packet calls,
         times_calls (λ (line : ℕ × Outcome). asked_in line.1) packet lines,
         times_by (λ (u : Pending). u.packet) packet waiting,

@@ -10,9 +10,9 @@ use Rattle.plain_map.specs.declared.keys.Pair.{Pair}
 use Rattle.plain_map.specs.declared.records.Pending.{Pending}
 use Rattle.plain_map.specs.Calls.{key_in}
 use Rattle.plain_map.specs.Asked.{SessionsAreAsked}
-use Rattle.flow_keys.specs.FlowText.{HasText}
+use Rattle.key_texts.specs.FlowText.{HasText}
 use Rattle.trace_share.specs.declared.outcome.Outcome.{Outcome}
-use Rattle.report_text.specs.declared.parts.Ending.{Ending}
+use Rattle.capture_faults.specs.declared.ending.Ending.{Ending}
 use Rattle.report_text.specs.Report.{batch_lines, call_in as call_of, head_line, order_lines, outcome_line, pending_line, report_of, session_line, tail_lines}
 use Rattle.report_told.specs.Rules.{IsHead, IsTail}
 use Rattle.table_model.specs.Setup.{Setup}

@@ -10,7 +10,7 @@ use Rattle.plain_map.specs.Calls.{key_in}
 use Rattle.plain_map.specs.PlainObject.{pairs_of}
 use Rattle.plain_map.specs.History.{Placed, answered, call_in, pending, sessions_after}
 use Rattle.plain_map.specs.Asked.{keys_asked, SessionsAreAsked}
-use Rattle.flow_keys.specs.FlowText.{HasText}
+use Rattle.key_texts.specs.FlowText.{HasText}
 use Rattle.trace_share.specs.declared.outcome.Outcome.{Outcome}
 use Rattle.trace_share.specs.declared.outcome.Outcome.TheVariants.{Answered, Refused}
 use Rattle.trace_share.specs.Outcomes.{asked_in}

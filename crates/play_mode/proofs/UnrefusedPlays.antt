@@ -8,7 +8,7 @@ use Rattle.std.proofs.lemmas.List.Elements.{All-append, All-cons, All-nil}
 use Rattle.std.proofs.lemmas.List.Sums.{sum_by-append, sum_by-cons}
 use Rattle.std.proofs.lemmas.Bool.{cases_eq, cases_lt, false≢true}
 use Rattle.plain_map.specs.declared.calls.Call.{Call}
-use Rattle.plain_map.specs.declared.calls.Call.TheVariants.{Insert, Remove, Lookup, Tally}
+use Rattle.plain_map.specs.declared.calls.Call.TheVariants.{Insert, Remove, Lookup, Tally, Count, Put}
 use Rattle.plain_map.specs.declared.full.Full.{Full}
 use Rattle.plain_map.specs.declared.records.Record.{Record}
 use Rattle.trace_share.specs.declared.outcome.Outcome.{Outcome}
@@ -140,6 +140,8 @@ module _ (setup : Setup) (seat : ℕ) (h : seat < seats_of setup) (room : ℕ) w
           go (Remove key) free = free refl
           go (Lookup key) free = refl
           go (Tally key amount) free = free refl
+          go (Count key value amount) free = free refl
+          go (Put key value) free = free refl
 
       idle_goes : (calls : List (ℕ × Call)) (may : Option ℕ) →
           updates_in_calls (map asked_of account.records) + updates_in_calls calls ≤ room →

@@ -9,8 +9,8 @@ use Rattle.plain_map.specs.declared.calls.Call.{Call}
 use Rattle.plain_map.specs.PlainObject.{pairs_of}
 use Rattle.plain_map.specs.History.{Legal, After, Whole, sessions_after}
 use Rattle.trace_share.specs.declared.outcome.Outcome.{Outcome}
-use Rattle.report_text.specs.declared.parts.Ending.{Ending}
-use Rattle.report_text.specs.declared.parts.Ending.TheVariants.{Done, ReadFault, Limit, Fault}
+use Rattle.capture_faults.specs.declared.ending.Ending.{Ending}
+use Rattle.capture_faults.specs.declared.ending.Ending.TheVariants.{Done, ReadFault, Limit, Fault}
 use Rattle.report_text.specs.declared.parts.Tail.{Tail}
 use Rattle.report_text.specs.Report.{Batch, Report, report_of}
 use Rattle.report_told.specs.Rules.{IsHead, IsTail}
@@ -31,6 +31,7 @@ use Rattle.batch_deals.specs.Dealt.{shares_of}
 use Rattle.trace_share.specs.Outcomes.{full_in}
 use Rattle.command_line.specs.declared.plan.Plan.{Plan}
 use Rattle.command_line.specs.declared.plays.Segment.{Segment}
+use Rattle.mode_parts.specs.Callings.{calling_of}
 use Rattle.mode_parts.specs.declared.status.Status.{Status}
 use Rattle.mode_parts.specs.declared.status.Status.TheVariants as status
 use Rattle.report_promises.specs.Good.{AreCountedBySeat, answered_on}
@@ -191,7 +192,7 @@ abbrev pub PlayReports : Plan → List ℕ → Option (List ℕ) → Ending → 
 PlayReports plan bytes left ending text =
     (packets : List (List ℕ)) × (calls : List (ℕ × Call)) × ServesUpTo (number_in plan.framing.link) play_limit bytes
     left packets ending
-    × MakeCalls plan.framing 1 packets calls × IsPlayOf plan (length packets) calls ending text
+    × MakeCalls (calling_of plan) 1 packets calls × IsPlayOf plan (length packets) calls ending text
 
 -- ---- what a run leaves
 
@@ -203,22 +204,23 @@ PutsPlay plan bytes left before after ending =
 -- What `play` leaves that ended so: of the input's bytes these are left, and the sink had taken `before` and has taken
 -- `after`. Where a write failed, a front of the report was put; that a
 -- read failed is told only where one did. Where memory ran out, nothing was.
-abbrev pub LeavesPlay : Plan → Type 0 → List ℕ → Option (List ℕ) → Option (List ℕ) → Option (List ℕ) → Status → Type 0
-LeavesPlay plan read_failed bytes left before after status.Done =
+abbrev pub LeavesPlay : Plan → (can_end : Ending → Type 0) → List ℕ → (left before after : Option (List ℕ)) → Status →
+    Type 0
+LeavesPlay plan can_end bytes left before after status.Done =
     (rest : ℕ) × PutsPlay plan bytes left before after (Done rest)
-LeavesPlay plan read_failed bytes left before after (status.BadCapture fault) =
+LeavesPlay plan can_end bytes left before after (status.BadCapture fault) =
     PutsPlay plan bytes left before after (Fault fault)
-LeavesPlay plan read_failed bytes left before after status.Limit =
+LeavesPlay plan can_end bytes left before after status.Limit =
     (limit : ℕ) × PutsPlay plan bytes left before after (Limit limit)
-LeavesPlay plan read_failed bytes left before after status.ReadFault = PutsPlay plan bytes left before after ReadFault
-LeavesPlay plan read_failed bytes left before after status.WriteFault =
-    (ending : Ending) × IsMet read_failed ending × PutsFront before after (PlayReports plan bytes left ending)
-LeavesPlay plan read_failed bytes left before after status.Memory = Keeps before after
-LeavesPlay plan read_failed bytes left before after status.Usage = ⊥
+LeavesPlay plan can_end bytes left before after status.ReadFault = PutsPlay plan bytes left before after ReadFault
+LeavesPlay plan can_end bytes left before after status.WriteFault =
+    (ending : Ending) × IsMet can_end ending × PutsFront before after (PlayReports plan bytes left ending)
+LeavesPlay plan can_end bytes left before after status.Memory = Keeps before after
+LeavesPlay plan can_end bytes left before after status.Usage = ⊥
 
 -- So it is for the bytes of a source, where they are told, and for those that were taken of it, as of a source that
 -- told just these.
-pub record LeavesPlayed (plan : Plan) (read_failed : Type 0) (first left before after : Option (List ℕ))
+pub record LeavesPlayed (plan : Plan) (can_end : Ending → Type 0) (first left before after : Option (List ℕ))
     (answer : Status) : Type 0 where
-  pub told : (bytes : List ℕ) → first ≡ Some bytes → LeavesPlay plan read_failed bytes left before after answer
-  pub took : TookFor answer first left (λ taken. LeavesPlay plan read_failed taken (Some []) before after answer)
+  pub told : (bytes : List ℕ) → first ≡ Some bytes → LeavesPlay plan can_end bytes left before after answer
+  pub took : TookFor answer first left (λ taken. LeavesPlay plan can_end taken (Some []) before after answer)

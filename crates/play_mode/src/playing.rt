@@ -3,10 +3,12 @@
 ghost use Rattle.std.specs.Prelude.{◌≡◌, ◌≤◌, ◌<◌, ◌^◌, [], ◌++◌, length, map, flat_map, vec_len, All, IfOk, OnErr, OnOk, Some};
 ghost use Rattle.std.specs.Option.{ForSome};
 ghost use Rattle.edge_traits.specs.Edge.{Rose};
-ghost use Rattle.flow_keys.specs.FlowText.{HasText};
+ghost use Rattle.capture_loop.specs.Leaves.{EndsBy};
+ghost use Rattle.key_texts.specs.FlowText.{HasText};
 ghost use Rattle.plain_map.specs.Calls.{key_in};
 ghost use Rattle.word_rows.specs.Shape.{AreBelow};
-ghost use Rattle.report_text.specs.Report.{IsEnding, batch_lines, call_in, outcome_line, pending_line};
+ghost use Rattle.report_text.specs.Report.{batch_lines, call_in, outcome_line, pending_line};
+ghost use Rattle.capture_faults.specs.Endings.{IsEnding};
 ghost use Rattle.table_model.specs.Schedules.{CanPlay, IsPlayable};
 ghost use Rattle.play_runner.specs.Played.{IsPlayed, as_segment};
 ghost use Rattle.batch_rows.specs.declared.rows.TheConstants.{CALL_LIMIT};
@@ -23,18 +25,16 @@ ghost use Rattle.play_mode.specs.Playing.{IsPlayOf, LeavesPlayed, play_in, play_
 use crate::laws::playing_laws;
 use batch_deals::Service;
 use batch_rows::updates_of;
+use capture_faults::Ending;
 use capture_loop::{BATCH, Unopened, mark, open, read_rest};
 use command_line::Plan;
 use core_steps::CoreWorld;
 use edge_traits::{Failed, Sink, Source, write_all};
-use mode_parts::{CallPile, Status, head_of, put_sessions, service_of};
-use packet_heads::Framing;
+use mode_parts::{CallPile, Calling, Status, calling_of, head_of, put_sessions, service_of};
 use plain_map::{Call, OpenFault, Pending, session_laws};
 use play_runner::{Played, Segment, most_steps};
 use report_promises::{head_fits, promise_laws, tail_fits};
-use report_text::{
-    Ending, Line, Tail, head_text, order_text, outcome_text, pending_text, tail_text,
-};
+use report_text::{Line, Tail, head_text, order_text, outcome_text, pending_text, tail_text};
 use std::alloc::{AllocError, Global};
 use step_counts::{SeatRows, Settings, automatic_rows, bound};
 use trace_share::{Outcome, deal};
@@ -52,7 +52,7 @@ pub fn play<S: Source, K: Sink>(
     beyond: &mut Option<u64>,
 ) -> Status
     requires { IsInRange plan.now }
-    ensures leaves { LeavesPlayed plan.now (Rose (S.faults source.old) (S.faults source.new)) (S.left source.old)
+    ensures leaves { LeavesPlayed plan.now (EndsBy (S.failed source.old) (S.failed source.new)) (S.left source.old)
         (S.left source.new) (K.put sink.old) (K.put sink.new) result }
     ensures read_fault { result ≡ Status.ReadFault → Rose (S.faults source.old) (S.faults source.new) }
     ensures write_fault { result ≡ Status.WriteFault → Rose (K.faults sink.old) (K.faults sink.new) }
@@ -65,7 +65,7 @@ pub fn play<S: Source, K: Sink>(
 {
     promise_laws();
     let service = service_of(plan);
-    let Ok(input) = read_input(alloc, service, plan.framing, source) else {
+    let Ok(input) = read_input(alloc, service, calling_of(plan), source) else {
         return Status::Memory;
     };
     match report_of(alloc, plan, &service, &input) {
@@ -92,19 +92,19 @@ struct Input {
     start: u64,
 }
 
-/// Reads an input whose packets are framed so, up to its end or to one packet more than are taken.
+/// Reads an input whose packets are framed so and make calls so, up to its end or to one packet more than are taken.
 fn read_input<S: Source>(
     alloc: Global,
     service: Service,
-    framing: Framing,
+    calling: Calling,
     source: &mut S,
 ) -> Result<Input, AllocError>
-    ensures ended { IfOk result (λ input. EndsCalls framing PLAY_LIMIT (S.left source.old) (S.left source.new)
+    ensures ended { IfOk result (λ input. EndsCalls calling PLAY_LIMIT (S.left source.old) (S.left source.new)
         input.packets input.calls.items input.ending) }
     ensures between { IfOk result (λ input. AreBetween 0 input.packets input.calls.items) }
     ensures few { IfOk result (λ input. input.packets ≤ PLAY_LIMIT) }
     ensures start { IfOk result (λ input. OnLimit input.ending
-        (StopsAt (number_in framing.link) PLAY_LIMIT (S.left source.old) (S.left source.new) input.start)) }
+        (StopsAt (number_in calling.framing.link) PLAY_LIMIT (S.left source.old) (S.left source.new) input.start)) }
     ensures ending { IfOk result (λ input. IsEnding input.ending) }
     ensures read_fault { IfOk result (λ input. input.ending ≡ Ending.ReadFault →
         Rose (S.faults source.old) (S.faults source.new)) }
@@ -112,9 +112,9 @@ fn read_input<S: Source>(
     ensures failed { IfOk result (λ input. HasFailed (Some input.ending) (S.failed source.old) (S.failed source.new)) }
     ensures none_failed { OnErr result (S.failed source.new ≡ S.failed source.old) }
 {
-    match open(alloc, framing.link.number(), source) {
+    match open(alloc, calling.framing.link.number(), source) {
         Ok(mut reader) => {
-            let mut pile = CallPile::with_room(alloc, service, framing, PLAY_LIMIT as usize)?;
+            let mut pile = CallPile::with_room(alloc, service, calling, PLAY_LIMIT as usize)?;
             let part = read_rest(&mut reader, source, BATCH, 0, 0, PLAY_LIMIT, &mut pile)?;
             match part.ending {
                 Some(ending) => Ok(Input {

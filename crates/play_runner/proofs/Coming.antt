@@ -4,6 +4,7 @@ use Rattle.std.specs.List.{range_with_len}
 use Rattle.std.proofs.lemmas.List.{drop_all, map-set}
 use Rattle.step_counts.specs.declared.settings.Settings.{Settings}
 use Rattle.plain_map.specs.declared.calls.Call.{Call}
+use Rattle.word_rows.specs.Shape.{record_limit}
 use Rattle.table_model.specs.Setup.{Setup, seats_of, settings_of}
 use Rattle.table_model.specs.SeatStates.{SeatState}
 use Rattle.table_model.specs.Worlds.{opening_world, seat_in}
@@ -38,6 +39,8 @@ slot_taken p q seat hand left stands is goes took hands told = record {
     good = subst (λ (setup : Setup). IsGoodPlay setup (play_in q))
         (sym (ap (λ (core : CoreValue). core.setup) took.after_is))
         (subst (IsGoodPlay p.core.setup) (sym play_is) (slot_keeps p.core.setup seat (play_in p) stands.good).good);
+    limited = subst (λ (setup : Setup). setup.shape.limit ≤ record_limit)
+        (sym (ap (λ (core : CoreValue). core.setup) took.after_is)) stands.limited;
     told = told;
   };
 }

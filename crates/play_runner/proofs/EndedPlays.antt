@@ -63,7 +63,7 @@ module _ (setup : Setup) (P : ℕ × Outcome → Type 0) (holds : HoldsOfEnds se
 
     -- and the act of a seat
     act_told : (account : Account) (stand : Stand) (begin : Option (ℕ × Call)) → event.begin ≡ begin →
-        FitsStand account stand begin →
+        FitsStand setup account stand begin →
         Told (refused_at setup event.seat account stand begin) account (act setup w event.seat account stand begin)
     act_told account Idle None same fits = absurd (false≢true fits.0)
     act_told account Idle (Some begin) same fits = go (refusal_of setup event.seat account begin.1) refl

@@ -1,5 +1,5 @@
 -- The calls that an idle seat tries in one slot.
-use Rattle.std.proofs.Common.{◌≡◌, ℕ, ◌+◌, ◌-◌, ◌^◌, ◌<◌, ◌≤◌, Bool, true, cond, not, ◌||◌, List, [], ◌∷◌, map, length, drop, get_or, suc, Option, Some, fold, sym, ap, ◌∙◌, subst, arith, append_assoc}
+use Rattle.std.proofs.Common.{◌≡◌, ℕ, ◌+◌, ◌-◌, ◌<◌, ◌≤◌, Bool, true, cond, not, ◌||◌, List, [], ◌∷◌, map, length, drop, get_or, suc, Option, Some, fold, sym, ap, ◌∙◌, subst, arith, append_assoc}
 use Rattle.plain_map.specs.declared.calls.Call.{Call}
 use Rattle.table_model.specs.declared.events.Event.{Event}
 use Rattle.table_model.specs.Setup.{Setup, seats_of}
@@ -38,7 +38,7 @@ pub record AreTrying (before now : CoreValue) (seat : ℕ) (hand : S.Hand) (left
   pub hand_is : hand_after before.setup seat (seat_in before.world seat).account hand.may left
       ≡ hand_after before.setup seat (seat_in before.world seat).account hand.may hand.calls
   pub playable : ArePlayable left
-  pub few : length (seat_in before.world seat).account.records + length left ≤ 2 ^ 32 - 1
+  pub few : length (seat_in before.world seat).account.records + length left ≤ before.setup.shape.limit - 1
 
 module _ (before : CoreValue) (seat : ℕ) (hand : S.Hand) (h : seat < seats_of before.setup)
     (long : length before.world.seats ≡ seats_of before.setup)

@@ -124,7 +124,7 @@ module _ (weight : ℕ × Call → ℕ) where
 
     -- the act of its seat
     act_flies : (account : Account) (stand : Stand) (begin : Option (ℕ × Call)) → event.begin ≡ begin →
-        seat_in w event.seat ≡ record { account = account; stand = stand } → FitsStand account stand begin →
+        seat_in w event.seat ≡ record { account = account; stand = stand } → FitsStand setup account stand begin →
         Weighs (refused_at setup event.seat account stand begin) account (act setup w event.seat account stand begin)
         (of_begin begin)
     act_flies account Idle None same is fits = absurd (false≢true fits.0)

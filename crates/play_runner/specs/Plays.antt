@@ -1,5 +1,6 @@
 -- How far a play is, as contracts see it.
-use Rattle.std.specs.Prelude.{◌≡◌, ℕ, ◌<◌, ◌++◌, List, length, fold, Bool, true, false}
+use Rattle.std.specs.Prelude.{◌≡◌, ℕ, ◌<◌, ◌≤◌, ◌++◌, List, length, fold, Bool, true, false}
+use Rattle.word_rows.specs.Shape.{record_limit}
 use Rattle.table_model.specs.declared.events.Event.{Event}
 use Rattle.table_model.specs.Setup.{seats_of}
 use Rattle.table_model.specs.SeatStates.{Idle}
@@ -32,7 +33,7 @@ with_all core events = record {
 pub record IsAtSlot (core : CoreValue) (seat : ℕ) (hand : S.Hand) : Type 0 where
   pub inside : seat < seats_of core.setup
   pub long : length core.world.seats ≡ seats_of core.setup
-  pub dealt : IsPlayableHand (seat_in core.world seat) hand
+  pub dealt : IsPlayableHand core.setup (seat_in core.world seat) hand
 
 -- the seat is between two calls
 abbrev pub IsIdleAt : CoreValue → (seat : ℕ) → Type 0
@@ -49,9 +50,10 @@ pub record TookSlot (before after : CoreValue) (seat : ℕ) (hand left : S.Hand)
 abbrev pub play_in : Playing → Play
 play_in p = play_with p.core (as_hands p.hands.items)
 
--- its events are a run, and the calls that ended are told
+-- its events are a run, a record has room for each number of a call, and the calls that ended are told
 pub record IsPlaying (p : Playing) : Type 0 where
   pub good : IsGoodPlay p.core.setup (play_in p)
+  pub limited : p.core.setup.shape.limit ≤ record_limit
   pub told : AreTold p.core p.outcomes.items
 
 -- the same table, whose play has come to this one

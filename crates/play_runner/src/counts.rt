@@ -7,12 +7,16 @@ ghost use Rattle.play_runner.specs.Played.{most_steps_in, steps_of};
 use plain_map::Call;
 use trace_share::Outcome;
 
-// Whether it is an insert, a remove or a tally.
+// Whether it is any call but a lookup.
 fn is_update(call: &Call) -> bool
     ensures { result ≡ is_update call.now }
 {
     match call {
-        Call::Insert(_, _) | Call::Remove(_) | Call::Tally(_, _) => true,
+        Call::Insert(_, _)
+        | Call::Remove(_)
+        | Call::Tally(_, _)
+        | Call::Count(_, _, _)
+        | Call::Put(_, _) => true,
         Call::Lookup(_) => false,
     }
 }

@@ -1,7 +1,8 @@
 //! Seats in turn.
 
-ghost use Rattle.std.specs.Prelude.{◌≡◌, ◌<◌, IfOk, OnOk, map, true};
+ghost use Rattle.std.specs.Prelude.{◌≡◌, ◌<◌, ◌≤◌, IfOk, OnOk, map, true};
 ghost use Rattle.std.specs.Option.{option_map_or};
+ghost use Rattle.word_rows.specs.Shape.{record_limit};
 ghost use Rattle.table_model.specs.Setup.{seats_of, settings_of};
 ghost use Rattle.table_model.specs.Schedules.{CanPlay, first_play, hand_of, most_slots, run_round, run_rounds, run_segment, slot, slots};
 ghost use Rattle.core_steps.specs.Values.{opened};
@@ -37,6 +38,7 @@ impl<'a> Playing<'a> {
         stops: &[Option<u32>],
     ) -> Result<Playing<'a>, AllocError>
         requires opened { core ≡ opened core.setup }
+        requires limit { core.setup.shape.limit ≤ record_limit }
         requires playable { CanPlay core.setup (map (λ own. own.items) calls.now) }
         ensures setup { IfOk result (λ p. p.core.setup ≡ core.setup) }
         ensures play { IfOk result (λ p.

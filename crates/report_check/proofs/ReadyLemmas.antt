@@ -4,7 +4,20 @@ use Rattle.std.proofs.lemmas.Bool.{cases_eq, eq-eqb, ne_eqb}
 use Rattle.plain_map.specs.declared.records.TheConstants.{MOST_SEATS}
 use Rattle.plain_map.specs.History.{Placed, seat_of, number_of, seen_of, Stands, IsAfter, After}
 use Rattle.plain_map.proofs.TurnLemmas.{stands_behind}
-use Rattle.report_check.specs.Ready.{AreStanding, IsReady, standing_with, ReadyIsAfter, ReadyGoesOn}
+use Rattle.report_check.specs.Ready.{AreStanding, IsReady, standing_with}
+
+-- What is shown here.
+
+-- just such a call stands after all that it must
+abbrev pub ReadyIsAfter : Type 0
+ReadyIsAfter = (front : List Placed) (standing : ℕ → ℕ) (placed : Placed) → AreStanding front standing →
+    (IsReady standing placed → IsAfter front placed) × (IsAfter front placed → IsReady standing placed)
+
+-- and with it the list is as before
+abbrev pub ReadyGoesOn : Type 0
+ReadyGoesOn = (front : List Placed) (standing : ℕ → ℕ) (placed : Placed) → AreStanding front standing →
+    After front → IsReady standing placed →
+    AreStanding (front ++ placed ∷ []) (standing_with standing placed) × After (front ++ placed ∷ [])
 
 -- Calls that stand, and one more.
 

@@ -1,7 +1,7 @@
 -- The greatest number of a seat's standing calls, and which call may stand next.
-use Rattle.std.specs.Prelude.{ℕ, ◌+◌, ◌<◌, ◌≤◌, ◌==◌, max, if◌then◌else◌, List, [], ◌∷◌, ◌++◌}
+use Rattle.std.specs.Prelude.{ℕ, ◌+◌, ◌<◌, ◌≤◌, ◌==◌, max, if◌then◌else◌, List}
 use Rattle.plain_map.specs.declared.records.TheConstants.{MOST_SEATS}
-use Rattle.plain_map.specs.History.{Placed, seat_of, number_of, seen_of, Stands, IsAfter, After}
+use Rattle.plain_map.specs.History.{Placed, seat_of, number_of, seen_of, Stands}
 
 -- of each seat just the calls up to this number stand
 pub record AreStanding (front : List Placed) (standing : ℕ → ℕ) : Type 0 where
@@ -17,14 +17,3 @@ pub record IsReady (standing : ℕ → ℕ) (placed : Placed) : Type 0 where
 abbrev pub standing_with : (ℕ → ℕ) → Placed → ℕ → ℕ
 standing_with standing placed seat =
     if seat_of placed == seat then max (standing seat) (number_of placed) else standing seat
-
--- just such a call stands after all that it must
-abbrev pub ReadyIsAfter : Type 0
-ReadyIsAfter = (front : List Placed) (standing : ℕ → ℕ) (placed : Placed) → AreStanding front standing →
-    (IsReady standing placed → IsAfter front placed) × (IsAfter front placed → IsReady standing placed)
-
--- and with it the list is as before
-abbrev pub ReadyGoesOn : Type 0
-ReadyGoesOn = (front : List Placed) (standing : ℕ → ℕ) (placed : Placed) → AreStanding front standing →
-    After front → IsReady standing placed →
-    AreStanding (front ++ placed ∷ []) (standing_with standing placed) × After (front ++ placed ∷ [])

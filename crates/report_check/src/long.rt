@@ -25,7 +25,11 @@ pub(crate) fn is_update(call: &Call) -> bool
     ensures { result ≡ is_update_call call.now }
 {
     match call {
-        Call::Insert(_, _) | Call::Remove(_) | Call::Tally(_, _) => true,
+        Call::Insert(_, _)
+        | Call::Remove(_)
+        | Call::Tally(_, _)
+        | Call::Count(_, _, _)
+        | Call::Put(_, _) => true,
         Call::Lookup(_) => false,
     }
 }

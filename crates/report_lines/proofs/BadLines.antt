@@ -7,11 +7,12 @@ use Rattle.step_counts.specs.StepCounts.{step_bound}
 use Rattle.step_counts.specs.declared.settings.Settings.{Settings}
 use Rattle.hash_bits.specs.declared.hashing.Hashing.TheVariants.{Mix}
 use Rattle.trace_share.specs.declared.deals.Share.TheVariants.{Round}
+use Rattle.key_texts.specs.declared.rules.CallRule.TheVariants.{Sessions}
 use Rattle.line_fields.specs.First.{first_lines}
 use Rattle.line_fields.proofs.Scan.{Completes, stuck_is_bad, stuck_is_none, begun_here, AreBegun as AreBegunBy}
 use Rattle.report_text.specs.declared.parts.Head.{Head}
-use Rattle.report_text.specs.declared.parts.Ending.{Ending}
-use Rattle.report_text.specs.declared.parts.Ending.TheVariants.{Done}
+use Rattle.capture_faults.specs.declared.ending.Ending.{Ending}
+use Rattle.capture_faults.specs.declared.ending.Ending.TheVariants.{Done}
 use Rattle.report_told.specs.Told.{Told, told_text}
 use Rattle.report_told.specs.Rules.{IsHead}
 use Rattle.report_told.specs.Verdicts.{Tells, AreBegun, IsBadLine}
@@ -83,8 +84,17 @@ ends_body b is =
     (ends_left b no_leaves is)
 
 some_head : Head
-some_head =
-    record { play = false; seats = 1; items = 1; depth = 0; start = 0; hashing = Mix 0; share = Round; batch = 2048 }
+some_head = record {
+  play = false;
+  seats = 1;
+  items = 1;
+  depth = 0;
+  start = 0;
+  hashing = Mix 0;
+  share = Round;
+  calls = Sessions;
+  batch = 2048;
+}
 
 some_head_is : IsHead some_head
 unfolding some_head

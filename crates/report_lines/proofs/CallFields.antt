@@ -5,14 +5,14 @@ use Rattle.std.proofs.lemmas.Option.{none-some, cond_some}
 use Rattle.std.proofs.lemmas.Bool.{eqb-true, eq-eqb}
 use Rattle.plain_map.specs.declared.keys.Key.{Key}
 use Rattle.plain_map.specs.declared.calls.Call.{Call}
-use Rattle.plain_map.specs.declared.calls.Call.TheVariants.{Insert, Remove, Lookup, Tally}
+use Rattle.plain_map.specs.declared.calls.Call.TheVariants.{Insert, Remove, Lookup, Tally, Count, Put}
 use Rattle.plain_map.specs.declared.calls.Reply.{Reply}
 use Rattle.plain_map.specs.declared.calls.Reply.TheVariants.{New, Old, NoRoom, Gone, Found, Absent, Sum}
 use Rattle.plain_map.specs.declared.full.FullKind.{FullKind}
 use Rattle.plain_map.specs.declared.full.FullKind.TheVariants.{OpRows, BucketRows, BucketWords, DirRows}
 use Rattle.plain_map.specs.Calls.{key_in}
-use Rattle.flow_keys.specs.Flow.{InsertsOnly}
-use Rattle.flow_keys.specs.FlowText.{flow_text}
+use Rattle.key_texts.specs.Inserts.{InsertsOnly}
+use Rattle.key_texts.specs.FlowText.{flow_text}
 use Rattle.line_fields.specs.Reading.{HasNoDigit, number_at}
 use Rattle.line_fields.proofs.NumberLaws.{number_again}
 use Rattle.line_fields.proofs.BindLemmas.{number_then}
@@ -20,7 +20,7 @@ use Rattle.flow_reading.specs.Flows.{IsFlow, flow_at}
 use Rattle.flow_reading.proofs.KeyLaws.{IsFlowAt, flow_again, flow_takes}
 use Rattle.report_text.specs.Report.{short_word}
 use Rattle.report_told.specs.Rules.{amount_in}
-use Rattle.report_lines.specs.Fields.{tallied_at, new_at, most_64, verb_at, reply_at, kind_at}
+use Rattle.report_lines.specs.Fields.{counted_at, tallied_at, new_at, most_61, most_64, verb_at, reply_at, kind_at}
 use Rattle.report_lines.proofs.FieldLaws.{IsField, Takes, or_takes, numbered_takes, numbered_again, numbered_text, known_text, made_again, made_takes, both_text, both_field, number_field}
 use Rattle.report_lines.proofs.HeadFields.{Always}
 
@@ -47,16 +47,46 @@ tallied_field =
     both_field flow_at flow_text IsFlow (number_at most_64) decimal (λ n. n ≤ most_64) (codes " by ") flow_field
     (λ rest. refl) (number_field most_64 (omega arith))
 
+-- the same of a count
+abbrev CountedFits : Key × ℕ → Type 0
+CountedFits told = IsFlow told.0 × (told.1 ≤ most_61)
+
+counted_field : IsField counted_at tallied_text CountedFits
+counted_field =
+    both_field flow_at flow_text IsFlow (number_at most_61) decimal (λ n. n ≤ most_61) (codes " by ") flow_field
+    (λ rest. refl) (number_field most_61 (omega arith))
+
 abbrev pub verb_text : Call → List ℕ
 verb_text (Insert key value) = codes " insert " ++ flow_text key
 verb_text (Remove key) = codes " remove " ++ flow_text key
 verb_text (Lookup key) = codes " lookup " ++ flow_text key
 verb_text (Tally key amount) = codes " tally " ++ tallied_text (key, amount)
+verb_text (Count key value amount) = codes " count " ++ tallied_text (key, amount)
+verb_text (Put key value) = codes " put " ++ flow_text key
+
+-- a report tells any call but a put
+abbrev pub IsTold : Call → Type 0
+IsTold (Insert key value) = Unit {0}
+IsTold (Remove key) = Unit {0}
+IsTold (Lookup key) = Unit {0}
+IsTold (Tally key amount) = Unit {0}
+IsTold (Count key value amount) = Unit {0}
+IsTold (Put key value) = ⊥
+
+-- the most bytes that a call brings
+abbrev pub most_amount : Call → ℕ
+most_amount (Insert key value) = most_64
+most_amount (Remove key) = most_64
+most_amount (Lookup key) = most_64
+most_amount (Tally key amount) = most_64
+most_amount (Count key value amount) = most_61
+most_amount (Put key value) = most_64
 
 pub record IsVerb (packet : ℕ) (call : Call) : Type 0 where
   pub flow : IsFlow (key_in call)
+  pub told : IsTold call
   pub value : InsertsOnly packet call
-  pub amount : amount_in call ≤ most_64
+  pub amount : amount_in call ≤ most_amount call
 
 verb_again : (packet : ℕ) (call : Call) (rest : List ℕ) → IsVerb packet call → HasNoDigit rest →
     verb_at packet (verb_text call ++ rest) ≡ Some (call, rest)
@@ -71,6 +101,11 @@ verb_again packet (Lookup key) rest is end =
 verb_again packet (Tally key amount) rest is end =
     made_again tallied_at tallied_text TalliedFits tallied_field (λ told. Tally told.0 told.1) (key, amount) rest
     (is.flow, is.amount) end
+verb_again packet (Count key value amount) rest is end =
+    made_again counted_at tallied_text CountedFits counted_field (λ told. Count told.0 packet told.1) (key, amount) rest
+    (is.flow, is.amount) end
+    ∙ ap (λ (n : ℕ). Some (Count key n amount, rest)) (sym is.value)
+verb_again packet (Put key value) rest is end = absurd is.told
 
 verb_takes : (packet : ℕ) (bytes : List ℕ) (call : Call) (rest : List ℕ) → verb_at packet bytes ≡ Some (call, rest) →
     Takes verb_text (IsVerb packet) bytes call rest
@@ -80,27 +115,42 @@ verb_takes packet bytes call rest is =
       | inl (left, text, read) ↦
           made_takes flow_at flow_text IsFlow flow_field verb_text (IsVerb packet) (λ k. Insert k packet)
           (codes " insert ") bytes left call rest (λ k. refl)
-          (λ k flow. record { flow = flow; value = refl; amount = omega arith }) text read
+          (λ k flow. record { flow = flow; told = tt; value = refl; amount = omega arith }) text read
       | inr other ↦ elim (or_takes (codes " remove ") bytes _ _ (call, rest) other) [
         | inl (left, text, read) ↦
             made_takes flow_at flow_text IsFlow flow_field verb_text (IsVerb packet) (λ k. Remove k) (codes " remove ")
-            bytes left call rest (λ k. refl) (λ k flow. record { flow = flow; value = tt; amount = omega arith }) text
-            read
+            bytes left call rest (λ k. refl)
+            (λ k flow. record { flow = flow; told = tt; value = tt; amount = omega arith }) text read
         | inr another ↦ elim (or_takes (codes " lookup ") bytes _ _ (call, rest) another) [
           | inl (left, text, read) ↦
               made_takes flow_at flow_text IsFlow flow_field verb_text (IsVerb packet) (λ k. Lookup k)
               (codes " lookup ") bytes left call rest (λ k. refl)
-              (λ k flow. record { flow = flow; value = tt; amount = omega arith }) text read
+              (λ k flow. record { flow = flow; told = tt; value = tt; amount = omega arith }) text read
           | inr last ↦ elim (or_takes (codes " tally ") bytes _ _ (call, rest) last) [
             | inl (left, text, read) ↦
                 made_takes tallied_at tallied_text TalliedFits tallied_field verb_text (IsVerb packet)
                 (λ told. Tally told.0 told.1) (codes " tally ") bytes left call rest (λ told. refl)
-                (λ told fits. record { flow = fits.0; value = tt; amount = fits.1 }) text read
-            | inr none ↦ absurd (none-some (call, rest) none)
+                (λ told fits. record { flow = fits.0; told = tt; value = tt; amount = fits.1 }) text read
+            | inr count ↦ elim (or_takes (codes " count ") bytes _ _ (call, rest) count) [
+              | inl (left, text, read) ↦
+                  made_takes counted_at tallied_text CountedFits counted_field verb_text (IsVerb packet)
+                  (λ told. Count told.0 packet told.1) (codes " count ") bytes left call rest (λ told. refl)
+                  (λ told fits. record { flow = fits.0; told = tt; value = refl; amount = fits.1 }) text read
+              | inr none ↦ absurd (none-some (call, rest) none)
+            ]
           ]
         ]
       ]
     ]
+
+-- it is a number of 64 bits
+pub amount_small : (call : Call) → amount_in call ≤ most_amount call → amount_in call ≤ most_64
+amount_small (Insert key value) fits = fits
+amount_small (Remove key) fits = fits
+amount_small (Lookup key) fits = fits
+amount_small (Tally key amount) fits = fits
+amount_small (Count key value amount) fits = omega (arith, fits)
+amount_small (Put key value) fits = fits
 
 pub verb_field : (packet : ℕ) → IsField (verb_at packet) verb_text (IsVerb packet)
 verb_field packet = record { again = verb_again packet; takes = verb_takes packet }

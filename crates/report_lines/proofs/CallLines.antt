@@ -4,7 +4,7 @@ use Rattle.std.specs.Prelude.{decimal}
 use Rattle.std.proofs.lemmas.Option.{none-some, cond_some}
 use Rattle.std.proofs.lemmas.Bool.{ltb-true, lt-ltb}
 use Rattle.plain_map.specs.declared.calls.Call.{Call}
-use Rattle.plain_map.specs.declared.calls.Call.TheVariants.{Insert, Remove, Lookup, Tally}
+use Rattle.plain_map.specs.declared.calls.Call.TheVariants.{Insert, Remove, Lookup, Tally, Count, Put}
 use Rattle.plain_map.specs.declared.calls.Reply.{Reply}
 use Rattle.plain_map.specs.declared.calls.Reply.TheVariants.{New, Old, NoRoom, Gone, Found, Absent, Sum}
 use Rattle.plain_map.specs.declared.full.Full.{Full}
@@ -41,6 +41,8 @@ verb_starts (Insert key value) rest = refl
 verb_starts (Remove key) rest = refl
 verb_starts (Lookup key) rest = refl
 verb_starts (Tally key amount) rest = refl
+verb_starts (Count key value amount) rest = refl
+verb_starts (Put key value) rest = refl
 
 pub asked_again : (seats : ℕ) → seats ≤ 8 → (asked : Asked) (rest : List ℕ) → AskedFits seats asked → HasNoDigit rest →
     asked_at seats (asked_text asked rest) ≡ Some (asked, rest)

@@ -4,13 +4,13 @@ use Rattle.std.specs.Prelude.{decimal, map}
 use Rattle.std.proofs.lemmas.Option.{cond_some}
 use Rattle.std.proofs.lemmas.Bool.{ltb-true, lt-ltb}
 use Rattle.plain_map.specs.declared.calls.Call.{Call}
-use Rattle.plain_map.specs.declared.calls.Call.TheVariants.{Insert, Remove, Lookup, Tally}
+use Rattle.plain_map.specs.declared.calls.Call.TheVariants.{Insert, Remove, Lookup, Tally, Count, Put}
 use Rattle.plain_map.specs.declared.calls.Reply.{Reply}
 use Rattle.plain_map.specs.declared.calls.Reply.TheVariants.{New, Old, NoRoom, Gone, Found, Absent, Sum}
 use Rattle.plain_map.specs.declared.records.Seen.{Seen}
 use Rattle.line_fields.specs.Reading.{HasNoDigit}
 use Rattle.line_fields.proofs.BindLemmas.{bind_some, text_then}
-use Rattle.flow_keys.specs.FlowText.{flow_text}
+use Rattle.key_texts.specs.FlowText.{flow_text}
 use Rattle.report_text.specs.Report.{call_words, steps_words, after_words, full_words}
 use Rattle.report_told.specs.Told.{call_line, waiting_line, packets_line, told_reply_words, ended_words}
 use Rattle.report_told.specs.declared.told.Ended.{Ended}
@@ -39,6 +39,10 @@ call_behind packet seat (Lookup key) words rest = refl
 call_behind packet seat (Tally key amount) words rest =
     ap (λ (b : List ℕ). 32 ∷ (decimal packet ++ (codes " seat " ++ (decimal seat ++ (codes " tally " ++ b)))))
     (sym (append_assoc (flow_text key) (codes " by " ++ decimal amount) (behind words rest)))
+call_behind packet seat (Count key value amount) words rest =
+    ap (λ (b : List ℕ). 32 ∷ (decimal packet ++ (codes " seat " ++ (decimal seat ++ (codes " count " ++ b)))))
+    (sym (append_assoc (flow_text key) (codes " by " ++ decimal amount) (behind words rest)))
+call_behind packet seat (Put key value) words rest = refl
 
 reply_behind : (packet : ℕ) (asked : Call) (told : Reply) (seats steps : ℕ) (seen : Seen) (rest : List ℕ) →
     behind (told_reply_words packet asked told ++ (steps_words steps ++ after_words seats seen)) rest

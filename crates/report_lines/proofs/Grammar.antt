@@ -20,8 +20,8 @@ use Rattle.flow_reading.specs.Flows.{IsFlow}
 use Rattle.report_text.specs.Report.{session_line, input_line, leaves_line, count_line, steps_line, tail_lines}
 use Rattle.report_text.specs.declared.parts.Head.{Head}
 use Rattle.report_text.specs.declared.parts.Tail.{Tail}
-use Rattle.report_text.specs.declared.parts.Ending.{Ending}
-use Rattle.report_text.specs.declared.parts.Ending.TheVariants.{Done, ReadFault, Limit, Fault}
+use Rattle.capture_faults.specs.declared.ending.Ending.{Ending}
+use Rattle.capture_faults.specs.declared.ending.Ending.TheVariants.{Done, ReadFault, Limit, Fault}
 use Rattle.report_told.specs.Told.{Entry, Told, entry_line, told_text}
 use Rattle.report_told.specs.Rules.{IsHead, IsEntry, AreEntries, AreSessions, IsTail, IsInGrammar, IsEndingTold, IsFaultTold, IsAnyFaultTold, Rise, ended_packets, waiting_packets, packet_ended, packet_pending, times}
 use Rattle.report_told.proofs.TimesLemmas.{times-append}

@@ -3,8 +3,8 @@ use Rattle.std.proofs.Common.{◌≡◌, ℕ, ◌/◌, ◌%◌, ◌^◌, ◌<◌
 use Rattle.std.specs.Prelude.{decimal}
 use Rattle.std.specs.Fmt.{digit_glyph}
 use Rattle.plain_map.specs.declared.keys.Key.{Key}
-use Rattle.flow_keys.specs.FlowText.{group_text, groups_text, ipv4_text, ipv6_text, address_text, endpoint_text, protocol_text, flow_text, low_port, high_port, protocol_in, is_ipv6}
-use Rattle.flow_keys.proofs.HexLemmas.{one_digit, two_digits, three_digits, four_digits}
+use Rattle.key_texts.specs.FlowText.{group_text, groups_text, ipv4_text, ipv6_text, address_text, endpoint_text, protocol_text, flow_text, low_port, high_port, protocol_in, is_ipv6}
+use Rattle.key_texts.proofs.HexLemmas.{one_digit, two_digits, three_digits, four_digits}
 use Rattle.line_fields.proofs.Feeds.{HasNoFeed, no_feed-append, no_feed-decimal}
 use Rattle.flow_reading.specs.Flows.{IsFlow}
 use Rattle.flow_reading.proofs.EndLaws.{AreWords}

@@ -8,6 +8,7 @@ pub mod InputFields
 pub mod SeenFields
 pub mod PartLaws
 pub mod BatchField
+pub mod RuleField
 pub mod Behind
 pub mod TailLines
 pub mod HeadLines

@@ -10,7 +10,7 @@ use Rattle.trace_share.specs.declared.deals.Share.{Share}
 use Rattle.trace_share.specs.declared.deals.Share.TheVariants.{Round, Block, Flow}
 use Rattle.plain_map.specs.declared.keys.Pair.{Pair}
 use Rattle.plain_map.specs.declared.calls.Call.{Call}
-use Rattle.plain_map.specs.declared.calls.Call.TheVariants.{Insert, Remove, Lookup, Tally}
+use Rattle.plain_map.specs.declared.calls.Call.TheVariants.{Insert, Remove, Lookup, Tally, Count, Put}
 use Rattle.plain_map.specs.declared.calls.Reply.{Reply}
 use Rattle.plain_map.specs.declared.calls.Reply.TheVariants.{New, Old, NoRoom, Gone, Found, Absent, Sum}
 use Rattle.plain_map.specs.declared.full.FullKind.{FullKind}
@@ -25,10 +25,12 @@ use Rattle.line_fields.proofs.Feeds.{HasNoFeed, no_feed-append}
 use Rattle.line_fields.proofs.Scan.{IsCut}
 use Rattle.flow_reading.specs.Flows.{IsFlow}
 use Rattle.report_text.specs.Lines.{line, spaced, counts_word, hexadecimal}
-use Rattle.report_text.specs.Report.{batch_words, head_line, mode_word, share_word, hash_words, call_words, steps_words, after_words, full_words, short_word, session_line, input_line, ending_words, capture_words, fault_words}
+use Rattle.key_texts.specs.declared.rules.CallRule.{CallRule}
+use Rattle.key_texts.specs.declared.rules.CallRule.TheVariants.{Sessions, Flows}
+use Rattle.report_text.specs.Report.{batch_words, rule_words, head_line, mode_word, share_word, hash_words, call_words, steps_words, after_words, full_words, short_word, session_line, input_line, ending_words, capture_words, fault_words}
 use Rattle.report_text.specs.declared.parts.Head.{Head}
-use Rattle.report_text.specs.declared.parts.Ending.{Ending}
-use Rattle.report_text.specs.declared.parts.Ending.TheVariants.{Done, ReadFault, Limit, Fault}
+use Rattle.capture_faults.specs.declared.ending.Ending.{Ending}
+use Rattle.capture_faults.specs.declared.ending.Ending.TheVariants.{Done, ReadFault, Limit, Fault}
 use Rattle.report_told.specs.Told.{call_line, waiting_line, packets_line, told_reply_words, ended_words}
 use Rattle.report_told.specs.Rules.{IsHead, IsSeen, seed_in, amount_in}
 use Rattle.report_told.specs.declared.told.Ended.{Ended}
@@ -38,7 +40,7 @@ use Rattle.report_told.specs.declared.told.PendingLine.{PendingLine}
 use Rattle.report_lines.specs.declared.tails.Leaves.{Leaves}
 use Rattle.report_lines.specs.declared.tails.Counts.{Counts}
 use Rattle.report_lines.specs.declared.tails.Steps.{Steps}
-use Rattle.report_lines.proofs.CallFields.{HasWord}
+use Rattle.report_lines.proofs.CallFields.{HasWord, amount_small}
 use Rattle.report_lines.proofs.SeenFields.{AreSmall, commas, word_of}
 use Rattle.report_lines.proofs.KeyFeeds.{number, glyph_feed, no_feed-flow}
 use Rattle.report_lines.proofs.InputFields.{EndingFits}
@@ -108,6 +110,10 @@ batch_feeds batch small = go (batch == 2048)
     go true = tt
     go false = (no_feed-known (codes "batch") refl, (number batch (omega arith), tt))
 
+rule_feeds : (rule : CallRule) → NoFeeds (rule_words rule)
+rule_feeds Sessions = tt
+rule_feeds Flows = (no_feed-known (codes "calls") refl, (no_feed-known (codes "flows") refl, tt))
+
 pub head_cut : (head : Head) → IsHead head → IsCut (head_line head)
 unfolding head_line
 head_cut head is =
@@ -136,10 +142,14 @@ head_cut head is =
                       (
                         no_feed-known (codes "hash") refl,
                         no_feeds-append (hash_words head.hashing)
-                            (codes "share" ∷ share_word head.share ∷ batch_words head.batch)
+                            (codes "share" ∷ share_word head.share ∷ (rule_words head.calls ++ batch_words head.batch))
                             (hash_feeds head.hashing is.seed) (
                               no_feed-known (codes "share") refl,
-                              (share_feed head.share, batch_feeds head.batch is.batch.range.1),
+                              (
+                                share_feed head.share,
+                                no_feeds-append (rule_words head.calls) (batch_words head.batch)
+                                    (rule_feeds head.calls) (batch_feeds head.batch is.batch.range.1),
+                              ),
                             ),
                       ),
                     ),
@@ -351,6 +361,32 @@ call_feeds packet seat (Tally key amount) p s flow within = (
     ),
   ),
 )
+call_feeds packet seat (Count key value amount) p s flow within = (
+  number packet p,
+  (
+    no_feed-known (codes "seat") refl,
+    (
+      number seat s,
+      (
+        no_feed-known (codes "count") refl,
+        (no_feed-flow key flow, (no_feed-known (codes "by") refl, (number amount within, tt))),
+      ),
+    ),
+  ),
+)
+call_feeds packet seat (Put key value) p s flow within = (
+  number packet p,
+  (
+    no_feed-known (codes "seat") refl,
+    (
+      number seat s,
+      (
+        no_feed-known (codes "put") refl,
+        (no_feed-flow key flow, tt),
+      ),
+    ),
+  ),
+)
 
 commas_feed : (counts : List ℕ) → AreSmall counts → HasNoFeed (commas counts)
 commas_feed [] small = tt
@@ -409,7 +445,8 @@ call_cut seats few told fits =
     let s : told.seat ≤ 18446744073709551615 = omega (arith, fits.asked.seat) in
     line_cut (codes "call") _ (no_feed-known (codes "call") refl)
     (no_feeds-append (call_words told.packet told.seat told.call) (ended_words seats told.packet told.call told.ended)
-    (call_feeds told.packet told.seat told.call p s fits.asked.verb.flow fits.asked.verb.amount)
+    (call_feeds told.packet told.seat told.call p s fits.asked.verb.flow
+    (amount_small told.call fits.asked.verb.amount))
     (ended_feeds seats told.packet told.call told.ended p fits.ended))
 
 pub pending_cut : (seats : ℕ) → seats ≤ 8 → (told : PendingLine) → PendingFits seats told → IsCut
@@ -420,7 +457,8 @@ pending_cut seats few told fits =
     let s : told.seat ≤ 18446744073709551615 = omega (arith, fits.asked.seat) in
     line_cut (codes "pending") _ (no_feed-known (codes "pending") refl)
     (no_feeds-append (call_words told.packet told.seat told.call) (after_words seats told.seen)
-    (call_feeds told.packet told.seat told.call p s fits.asked.verb.flow fits.asked.verb.amount)
+    (call_feeds told.packet told.seat told.call p s fits.asked.verb.flow
+    (amount_small told.call fits.asked.verb.amount))
     (after_feeds seats told.seen fits.seen.0))
 
 packet_feeds : (packets : List ℕ) → AreSmall packets → NoFeeds (map decimal packets)

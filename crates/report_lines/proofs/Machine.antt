@@ -7,7 +7,7 @@ use Rattle.report_text.specs.Lines.{line}
 use Rattle.report_text.specs.Report.{head_line, session_line, input_line}
 use Rattle.report_text.specs.declared.parts.Head.{Head}
 use Rattle.report_text.specs.declared.parts.Tail.{Tail}
-use Rattle.report_text.specs.declared.parts.Ending.{Ending}
+use Rattle.capture_faults.specs.declared.ending.Ending.{Ending}
 use Rattle.report_told.specs.Told.{Entry, call, pending, order, Told, entry_line}
 use Rattle.report_told.specs.Rules.{IsHead, AreEntries, AreSessions, IsSettingsOf}
 use Rattle.report_lines.specs.declared.tails.Leaves.{Leaves}

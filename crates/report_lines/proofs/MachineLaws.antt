@@ -11,18 +11,22 @@ use Rattle.plain_map.specs.declared.calls.Reply.{Reply}
 use Rattle.plain_map.specs.declared.calls.Reply.TheVariants.{New, Old, NoRoom, Gone, Found, Absent, Sum}
 use Rattle.plain_map.specs.declared.full.FullKind.{FullKind}
 use Rattle.plain_map.specs.declared.full.FullKind.TheVariants.{OpRows, BucketRows, BucketWords, DirRows}
+use Rattle.plain_map.specs.declared.calls.Call.TheVariants.{Insert, Remove, Lookup, Tally, Count, Put}
+use Rattle.key_texts.specs.Inserts.{IsOfRule}
+use Rattle.key_texts.specs.declared.rules.CallRule.{CallRule}
+use Rattle.key_texts.specs.declared.rules.CallRule.TheVariants.{Sessions, Flows}
 use Rattle.line_fields.proofs.Scan.{IsCut, IsMachine}
 use Rattle.flow_reading.specs.Flows.{IsFlow}
 use Rattle.report_text.specs.Lines.{line}
 use Rattle.report_text.specs.Report.{head_line, session_line, input_line}
 use Rattle.report_text.specs.declared.parts.Head.{Head}
 use Rattle.report_told.specs.Told.{Entry, call, pending, order, call_line, waiting_line, packets_line, entry_line}
-use Rattle.report_told.specs.Rules.{IsHead, IsAsked, IsEnd, IsEntry, IsReply, AreEntries, AreSessions, IsSettingsOf, part_of}
+use Rattle.report_told.specs.Rules.{IsHead, IsAsked, IsEnd, IsEntry, IsReply, AreEntries, AreSessions, IsSettingsOf, amount_in, amount_limit, part_of}
 use Rattle.report_told.specs.declared.told.Ended.{Ended}
 use Rattle.report_told.specs.declared.told.Ended.TheVariants.{Answered, Refused}
 use Rattle.report_lines.specs.declared.tails.Leaves.{Leaves}
 use Rattle.report_lines.specs.Lines.{head_at, call_at, pending_at, order_at, session_at, leaves_at, input_at, count_at, steps_at}
-use Rattle.report_lines.proofs.CallFields.{HasWord}
+use Rattle.report_lines.proofs.CallFields.{HasWord, IsTold, most_amount}
 use Rattle.report_lines.proofs.TailLines.{SessionFits, LeavesFit, session_is_line, leaves_is_line, leaves_words, count_is_line, count_words, steps_is_line, step_words, input_is_line}
 use Rattle.report_lines.proofs.HeadLines.{head_is_line}
 use Rattle.report_lines.proofs.CallLines.{AskedFits, EndedFits, asked_text, seen_behind}
@@ -84,12 +88,40 @@ ended_fits h is asked (Refused full) short =
       need = omega (arith, need, few);
     }
 
+-- a rule makes no put
+pub told_by_rule : (rule : CallRule) (asked : Call) → IsOfRule rule asked → IsTold asked
+told_by_rule Sessions (Insert key value) is = tt
+told_by_rule Sessions (Remove key) is = tt
+told_by_rule Sessions (Lookup key) is = tt
+told_by_rule Sessions (Tally key amount) is = tt
+told_by_rule Sessions (Count key value amount) is = tt
+told_by_rule Sessions (Put key value) is = is
+told_by_rule Flows (Insert key value) is = tt
+told_by_rule Flows (Remove key) is = tt
+told_by_rule Flows (Lookup key) is = tt
+told_by_rule Flows (Tally key amount) is = tt
+told_by_rule Flows (Count key value amount) is = tt
+told_by_rule Flows (Put key value) is = is
+
+amount_fits : (asked : Call) → amount_in asked < amount_limit asked → amount_in asked ≤ most_amount asked
+amount_fits (Insert key value) fits = omega arith
+amount_fits (Remove key) fits = omega arith
+amount_fits (Lookup key) fits = omega arith
+amount_fits (Tally key amount) fits = omega (arith, fits)
+amount_fits (Count key value amount) fits = omega (arith, fits)
+amount_fits (Put key value) fits = omega arith
+
 asked_fits : (h : Head) (packet seat : ℕ) (asked : Call) → IsAsked h packet seat asked →
     AskedFits h.seats (asked_of packet seat asked)
 asked_fits h packet seat asked is = record {
   packet = omega (arith, is.packet_fits);
   seat = is.seat_is;
-  verb = record { flow = is.flow; value = is.value; amount = omega (arith, is.amount) };
+  verb = record {
+    flow = is.flow;
+    told = told_by_rule h.calls asked is.rule;
+    value = is.value;
+    amount = amount_fits asked is.amount;
+  };
 }
 
 abbrev pub EntryFits : (seats : ℕ) → Entry → Type 0

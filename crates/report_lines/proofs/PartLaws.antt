@@ -9,13 +9,13 @@ use Rattle.plain_map.specs.declared.calls.Call.{Call}
 use Rattle.plain_map.specs.declared.calls.Reply.{Reply}
 use Rattle.plain_map.specs.declared.full.FullKind.{FullKind}
 use Rattle.plain_map.specs.declared.records.Seen.{Seen}
-use Rattle.flow_keys.specs.FlowText.{flow_text}
+use Rattle.key_texts.specs.FlowText.{flow_text}
 use Rattle.line_fields.specs.Reading.{◌>>=◌, HasNoDigit, number_at, text_at}
 use Rattle.line_fields.proofs.TextLemmas.{text_again}
 use Rattle.line_fields.proofs.BindLemmas.{bind_some, text_then}
 use Rattle.flow_reading.specs.Flows.{IsFlow, flow_at}
 use Rattle.report_text.specs.Report.{mode_word, share_word, short_word}
-use Rattle.report_text.specs.declared.parts.Ending.{Ending}
+use Rattle.capture_faults.specs.declared.ending.Ending.{Ending}
 use Rattle.report_told.specs.Rules.{IsSeen}
 use Rattle.report_lines.specs.Fields.{most_64, mode_at, hashing_at, share_at, verb_at, reply_at, kind_at, counts_at, ending_at}
 use Rattle.report_lines.proofs.FieldLaws.{IsField, Takes, number_field}

@@ -7,7 +7,7 @@ use Rattle.line_fields.proofs.Scan.{lines_same}
 use Rattle.report_text.specs.Lines.{line}
 use Rattle.report_text.specs.Report.{head_line, session_line, input_line, leaves_line, count_line, steps_line, tail_lines}
 use Rattle.report_text.specs.declared.parts.Head.{Head}
-use Rattle.report_text.specs.declared.parts.Ending.{Ending}
+use Rattle.capture_faults.specs.declared.ending.Ending.{Ending}
 use Rattle.report_told.specs.Told.{Told, entry_line, told_text}
 use Rattle.report_told.specs.Rules.{IsHead, AreEntries, AreSessions}
 use Rattle.report_told.specs.Verdicts.{Tells, TellsOnce}

@@ -7,11 +7,11 @@ use Rattle.capture_faults.specs.declared.fault.CaptureFault.{CaptureFault}
 use Rattle.capture_faults.specs.declared.fault.CaptureFault.TheVariants.{ReadFault as NoRead, ShortHeader, Magic, Version, LinkType, RecordLength, Memory}
 use Rattle.capture_faults.specs.declared.any_fault.AnyFault.{AnyFault}
 use Rattle.capture_faults.specs.declared.any_fault.AnyFault.TheVariants.{Capture, ByteOrder, BlockLength, Trailer, SectionVersion, Interface, CapturedLength, Interfaces, Blocks}
-use Rattle.flow_keys.specs.FlowText.{flow_text}
+use Rattle.key_texts.specs.FlowText.{flow_text}
 use Rattle.report_text.specs.Lines.{line, hexadecimal}
 use Rattle.report_text.specs.Report.{session_line, input_line, ending_words, capture_words, fault_words}
-use Rattle.report_text.specs.declared.parts.Ending.{Ending}
-use Rattle.report_text.specs.declared.parts.Ending.TheVariants.{Done, ReadFault, Limit, Fault}
+use Rattle.capture_faults.specs.declared.ending.Ending.{Ending}
+use Rattle.capture_faults.specs.declared.ending.Ending.TheVariants.{Done, ReadFault, Limit, Fault}
 use Rattle.report_lines.specs.declared.tails.Leaves.{Leaves}
 use Rattle.report_lines.specs.declared.tails.Counts.{Counts}
 use Rattle.report_lines.specs.declared.tails.Steps.{Steps}

@@ -11,15 +11,15 @@ use Rattle.capture_faults.specs.declared.any_fault.AnyFault.{AnyFault}
 use Rattle.capture_faults.specs.declared.any_fault.AnyFault.TheVariants.{Capture, ByteOrder, BlockLength, Trailer, SectionVersion, Interface, CapturedLength, Interfaces, Blocks}
 use Rattle.plain_map.specs.declared.keys.Key.{Key}
 use Rattle.plain_map.specs.declared.calls.Call.{Call}
-use Rattle.plain_map.specs.declared.calls.Call.TheVariants.{Insert, Remove, Lookup, Tally}
+use Rattle.plain_map.specs.declared.calls.Call.TheVariants.{Insert, Remove, Lookup, Tally, Count}
 use Rattle.plain_map.specs.declared.calls.Reply.{Reply}
 use Rattle.plain_map.specs.declared.calls.Reply.TheVariants.{New, Old, NoRoom, Gone, Found, Absent, Sum}
 use Rattle.plain_map.specs.declared.full.FullKind.{FullKind}
 use Rattle.plain_map.specs.declared.full.FullKind.TheVariants.{OpRows, BucketRows, BucketWords, DirRows}
 use Rattle.plain_map.specs.declared.records.Seen.{Seen}
 use Rattle.plain_map.specs.declared.records.TheConstants.{MOST_SEATS}
-use Rattle.report_text.specs.declared.parts.Ending.{Ending}
-use Rattle.report_text.specs.declared.parts.Ending.TheVariants.{Done, ReadFault, Limit, Fault}
+use Rattle.capture_faults.specs.declared.ending.Ending.{Ending}
+use Rattle.capture_faults.specs.declared.ending.Ending.TheVariants.{Done, ReadFault, Limit, Fault}
 use Rattle.line_fields.specs.Reading.{◌>>=◌, hexadecimal_at, number_at, text_at}
 use Rattle.flow_reading.specs.Flows.{flow_at}
 
@@ -30,6 +30,10 @@ most_16 = 65535
 -- the most that a number of 32 bits is
 abbrev pub most_32 : ℕ
 most_32 = 4294967295
+
+-- the most that bytes of a session are
+abbrev pub most_61 : ℕ
+most_61 = 2305843009213693951
 
 -- the most that a number of 64 bits is
 abbrev pub most_64 : ℕ
@@ -86,13 +90,18 @@ share_at bytes =
 abbrev pub tallied_at : List ℕ → Option ((Key × ℕ) × List ℕ)
 tallied_at bytes = both_at flow_at (codes " by ") (number_at most_64) bytes
 
--- the verb and the key; an insert brings the packet's number
+-- a key, and how many bytes a count brings
+abbrev pub counted_at : List ℕ → Option ((Key × ℕ) × List ℕ)
+counted_at bytes = both_at flow_at (codes " by ") (number_at most_61) bytes
+
+-- the verb and the key; an insert and a count bring the packet's number
 unfoldable pub verb_at : (packet : ℕ) → List ℕ → Option (Call × List ℕ)
 verb_at packet bytes =
     behind_or (text_at (codes " insert ") bytes) (made_at flow_at (λ key. Insert key packet))
     (behind_or (text_at (codes " remove ") bytes) (made_at flow_at (λ key. Remove key))
     (behind_or (text_at (codes " lookup ") bytes) (made_at flow_at (λ key. Lookup key))
-    (behind_or (text_at (codes " tally ") bytes) (made_at tallied_at (λ told. Tally told.0 told.1)) None)))
+    (behind_or (text_at (codes " tally ") bytes) (made_at tallied_at (λ told. Tally told.0 told.1))
+    (behind_or (text_at (codes " count ") bytes) (made_at counted_at (λ told. Count told.0 packet told.1)) None))))
 
 -- `new` tells the packet
 abbrev pub new_at : (packet : ℕ) → List ℕ → Option (Reply × List ℕ)

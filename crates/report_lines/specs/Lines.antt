@@ -4,8 +4,10 @@ use Rattle.std.specs.Prelude.{◌≡◌, ℕ, Bool, not, ◌++◌, nat_lt, nat_l
 use Rattle.plain_map.specs.declared.keys.Pair.{Pair}
 use Rattle.plain_map.specs.declared.calls.Call.{Call}
 use Rattle.plain_map.specs.declared.records.Seen.{Seen}
+use Rattle.key_texts.specs.declared.rules.CallRule.{CallRule}
+use Rattle.key_texts.specs.declared.rules.CallRule.TheVariants.{Sessions, Flows}
 use Rattle.report_text.specs.declared.parts.Head.{Head}
-use Rattle.report_text.specs.declared.parts.Ending.{Ending}
+use Rattle.capture_faults.specs.declared.ending.Ending.{Ending}
 use Rattle.line_fields.specs.Reading.{◌>>=◌, number_at, text_at}
 use Rattle.flow_reading.specs.Flows.{flow_at}
 use Rattle.plain_map.specs.Calls.{is_update}
@@ -37,6 +39,18 @@ batch_at play bytes =
     behind_or (text_at (codes "\n") bytes) (λ rest. Some (2048, rest))
     (behind_or (text_at (codes " batch ") bytes) (told_batch play) None)
 
+-- which calls packets make, with how many packets a batch has
+abbrev pub with_rule : CallRule → Option (ℕ × List ℕ) → Option ((CallRule × ℕ) × List ℕ)
+with_rule rule batch = do
+  told ← batch
+  Some ((rule, told.0), told.1)
+
+-- both, and the end of the line
+unfoldable pub rule_at : (play : Bool) → List ℕ → Option ((CallRule × ℕ) × List ℕ)
+rule_at play bytes =
+    behind_or (text_at (codes " calls flows") bytes) (λ rest. with_rule Flows (batch_at play rest))
+    (with_rule Sessions (batch_at play bytes))
+
 -- the head line behind the items of a class
 unfoldable pub head_behind : (play : Bool) (seats items : ℕ) → List ℕ → Option (Head × List ℕ)
 head_behind play seats items bytes = do
@@ -48,7 +62,7 @@ head_behind play seats items bytes = do
   hashing ← hashing_at before_hash
   before_share ← text_at (codes " share ") hashing.1
   share ← share_at before_share
-  batch ← batch_at play share.1
+  last ← rule_at play share.1
   ranged (record {
     play = play;
     seats = seats;
@@ -57,8 +71,9 @@ head_behind play seats items bytes = do
     start = start.0;
     hashing = hashing.0;
     share = share.0;
-    batch = batch.0;
-  }) batch.1
+    calls = last.0.0;
+    batch = last.0.1;
+  }) last.1
 
 -- the head line
 unfoldable pub head_at : List ℕ → Option (Head × List ℕ)

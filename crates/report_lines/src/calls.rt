@@ -12,6 +12,9 @@ use line_fields::{number, text};
 use plain_map::{Call, Full, Seen};
 use report_told::{CallLine, Ended, PendingLine};
 
+/// The most bytes that a count may bring.
+const MOST_BYTES: u64 = 2_305_843_009_213_693_951;
+
 /// What the line of a call is about.
 #[derive(Clone, Copy, PartialEq, Eq)]
 pub struct Asked {
@@ -79,7 +82,7 @@ fn asked_call(bytes: &[u8], seats: u32) -> Option<(Asked, &[u8])>
     Some((asked, rest))
 }
 
-// The verb and the key, and the bytes of a tally.
+// The verb and the key, and the bytes of a tally or a count.
 #[inline]
 #[tactic(auto, unfolding(crate::specs::Fields::verb_at))]
 fn verb(bytes: &[u8], packet: u64) -> Option<(Call, &[u8])>
@@ -97,11 +100,17 @@ fn verb(bytes: &[u8], packet: u64) -> Option<(Call, &[u8])>
         let (key, rest) = flow(rest)?;
         return Some((Call::Lookup(key), rest));
     }
-    let rest = text(bytes, b" tally ")?;
+    if let Some(rest) = text(bytes, b" tally ") {
+        let (key, rest) = flow(rest)?;
+        let rest = text(rest, b" by ")?;
+        let (amount, rest) = number(rest, u64::MAX)?;
+        return Some((Call::Tally(key, amount), rest));
+    }
+    let rest = text(bytes, b" count ")?;
     let (key, rest) = flow(rest)?;
     let rest = text(rest, b" by ")?;
-    let (amount, rest) = number(rest, u64::MAX)?;
-    Some((Call::Tally(key, amount), rest))
+    let (amount, rest) = number(rest, MOST_BYTES)?;
+    Some((Call::Count(key, packet, amount), rest))
 }
 
 // How the call ended.

@@ -3,9 +3,10 @@
 ghost use Rattle.std.specs.Prelude.{◌≡◌};
 ghost use Rattle.line_fields.specs.Reading.{Gives};
 ghost use Rattle.report_lines.specs.Fields.{hashing_at, mode_at, share_at};
-ghost use Rattle.report_lines.specs.Lines.{batch_at, head_at, head_behind};
+ghost use Rattle.report_lines.specs.Lines.{batch_at, head_at, head_behind, rule_at};
 
 use hash_bits::Hashing;
+use key_texts::CallRule;
 use line_fields::{number, text};
 use report_text::Head;
 use trace_share::Share;
@@ -37,7 +38,7 @@ fn head_behind(play: bool, seats: u32, items: u32, bytes: &[u8]) -> Option<(Head
     let (hashing, rest) = hashing(rest)?;
     let rest = text(rest, b" share ")?;
     let (share, rest) = share(rest)?;
-    let (batch, rest) = batch(play, rest)?;
+    let (calls, batch, rest) = rule(play, rest)?;
     let head = Head {
         play,
         seats,
@@ -46,6 +47,7 @@ fn head_behind(play: bool, seats: u32, items: u32, bytes: &[u8]) -> Option<(Head
         start: start as u32,
         hashing,
         share,
+        calls,
         batch,
     };
     if seats > 0 && items > 0 && start <= depth {
@@ -53,6 +55,19 @@ fn head_behind(play: bool, seats: u32, items: u32, bytes: &[u8]) -> Option<(Head
     } else {
         None
     }
+}
+
+// Which calls packets make, how many packets a batch has, and the bytes behind the line.
+#[tactic(auto, unfolding(crate::specs::Lines::rule_at))]
+fn rule(play: bool, bytes: &[u8]) -> Option<(CallRule, u32, &[u8])>
+    ensures { Gives (λ x. ((x.0, x.1), x.2.now)) result (rule_at play bytes.now) }
+{
+    if let Some(rest) = text(bytes, b" calls flows") {
+        let (batch, rest) = batch(play, rest)?;
+        return Some((CallRule::Flows, batch, rest));
+    }
+    let (batch, rest) = batch(play, bytes)?;
+    Some((CallRule::Sessions, batch, rest))
 }
 
 // How many packets a batch has, and the bytes behind the line.

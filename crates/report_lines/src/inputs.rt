@@ -6,8 +6,8 @@ ghost use Rattle.report_lines.specs.Fields.{ending_at};
 ghost use Rattle.report_lines.specs.Lines.{input_at};
 
 use crate::faults::fault;
+use capture_faults::Ending;
 use line_fields::{number, text};
-use report_text::Ending;
 
 /// `input done rest R` and its like at the front, and the bytes behind its line.
 #[tactic(auto, unfolding(crate::specs::Lines::input_at))]

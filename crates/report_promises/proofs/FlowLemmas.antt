@@ -7,9 +7,15 @@ use Rattle.packet_heads.specs.declared.packet.Endpoint.{Endpoint}
 use Rattle.packet_heads.specs.declared.packet.Heads.{Heads}
 use Rattle.packet_heads.specs.declared.packet.Protocol.{Protocol}
 use Rattle.packet_heads.specs.declared.packet.Protocol.TheVariants.{Tcp, Udp}
-use Rattle.plain_map.specs.declared.calls.Call.TheVariants.{Insert, Remove, Lookup, Tally}
+use Rattle.plain_map.specs.declared.calls.Call.{Call}
+use Rattle.plain_map.specs.declared.calls.Call.TheVariants.{Insert, Remove, Lookup, Tally, Count, Put}
+use Rattle.plain_map.specs.Serving.{IsAskable}
+use Rattle.key_texts.specs.declared.rules.CallRule.{CallRule}
+use Rattle.key_texts.specs.declared.rules.CallRule.TheVariants.{Sessions, Flows}
+use Rattle.report_told.specs.Rules.{amount_in, amount_limit}
 use Rattle.plain_map.specs.Calls.{key_in}
-use Rattle.flow_keys.specs.Flow.{InsertsOnly, call_by, flow_call, flow_key, has_flag, is_below, key_between, version_bit}
+use Rattle.flow_keys.specs.Flow.{call_by, flow_call, flow_key, has_flag, is_below, key_between, version_bit}
+use Rattle.key_texts.specs.Inserts.{InsertsOnly}
 use Rattle.flow_reading.specs.Flows.{IsFlow}
 
 -- a version's bit
@@ -36,7 +42,7 @@ above_first one other is = grind arith
 -- the number is that of TCP or that of UDP
 known_number : (protocol : Protocol) → (number_of protocol ≡ 6) ⊎ (number_of protocol ≡ 17)
 known_number (Tcp flags payload) = inl refl
-known_number Udp = inr refl
+known_number (Udp payload) = inr refl
 
 -- the key between two endpoints, the lower one first
 flow_between : (version bit number : ℕ) (low high : Endpoint) → IsBit version bit → (number ≡ 6) ⊎ (number ≡ 17) →
@@ -110,8 +116,9 @@ flow_between version bit number low high b known l h first =
     ]
 
 -- a packet's call is about its flow
-call_key : (heads : Heads) (packet : ℕ) → key_in (flow_call heads packet) ≡ flow_key heads
-call_key heads packet = by heads.protocol
+call_key : (rule : CallRule) (heads : Heads) (packet : ℕ) → key_in (flow_call rule heads packet) ≡ flow_key heads
+call_key Flows heads packet = refl
+call_key Sessions heads packet = by heads.protocol
   where
     tcp : (ends asks : Bool) (payload : ℕ) (none : Bool) →
         key_in (cond ends (Remove (flow_key heads)) (cond asks (Insert (flow_key heads) packet)
@@ -124,7 +131,7 @@ call_key heads packet = by heads.protocol
     by : (protocol : Protocol) → key_in (call_by protocol (flow_key heads) packet) ≡ flow_key heads
     by (Tcp flags payload) =
         tcp (has_flag flags 1 || has_flag flags 4) (has_flag flags 2 && not (has_flag flags 16)) payload (payload == 0)
-    by Udp = refl
+    by (Udp payload) = refl
 
 -- the key of a packet has a text, with the lower endpoint first
 pub flow_of_key : (heads : Heads) → HasWidths heads → IsFlow (flow_key heads)
@@ -146,12 +153,14 @@ flow_of_key heads widths = go (is_below heads.target heads.source) refl
         (above_first heads.target heads.source is)
 
 -- the key of a packet's call is a flow's
-pub flow_of_call : (heads : Heads) (packet : ℕ) → HasWidths heads → IsFlow (key_in (flow_call heads packet))
-flow_of_call heads packet widths = subst IsFlow (sym (call_key heads packet)) (flow_of_key heads widths)
+pub flow_of_call : (rule : CallRule) (heads : Heads) (packet : ℕ) → HasWidths heads →
+    IsFlow (key_in (flow_call rule heads packet))
+flow_of_call rule heads packet widths = subst IsFlow (sym (call_key rule heads packet)) (flow_of_key heads widths)
 
--- and an insert brings the packet's number
-pub value_of_call : (heads : Heads) (packet : ℕ) → InsertsOnly packet (flow_call heads packet)
-value_of_call heads packet = by heads.protocol
+-- and an insert or a count brings the packet's number
+pub value_of_call : (rule : CallRule) (heads : Heads) (packet : ℕ) → InsertsOnly packet (flow_call rule heads packet)
+value_of_call Flows heads packet = refl
+value_of_call Sessions heads packet = by heads.protocol
   where
     tcp : (ends asks : Bool) (payload : ℕ) (none : Bool) →
         InsertsOnly packet (cond ends (Remove (flow_key heads)) (cond asks (Insert (flow_key heads) packet)
@@ -164,4 +173,13 @@ value_of_call heads packet = by heads.protocol
     by : (protocol : Protocol) → InsertsOnly packet (call_by protocol (flow_key heads) packet)
     by (Tcp flags payload) =
         tcp (has_flag flags 1 || has_flag flags 4) (has_flag flags 2 && not (has_flag flags 16)) payload (payload == 0)
-    by Udp = refl
+    by (Udp payload) = refl
+
+-- bytes that can be kept can be told
+pub amount_of_call : (call : Call) → IsAskable call → amount_in call < amount_limit call
+amount_of_call (Insert key value) askable = omega arith
+amount_of_call (Remove key) askable = omega arith
+amount_of_call (Lookup key) askable = omega arith
+amount_of_call (Tally key amount) askable = omega (arith, askable)
+amount_of_call (Count key value amount) askable = askable.1
+amount_of_call (Put key value) askable = omega arith

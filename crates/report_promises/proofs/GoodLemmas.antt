@@ -14,6 +14,7 @@ use Rattle.plain_map.proofs.AskedLemmas.{All-unmap}
 use Rattle.trace_share.specs.declared.outcome.Outcome.{Outcome}
 use Rattle.trace_share.specs.declared.outcome.Outcome.TheVariants.{Answered, Refused}
 use Rattle.trace_share.specs.Outcomes.{asked_in, record_in}
+use Rattle.key_texts.specs.declared.rules.CallRule.{CallRule}
 use Rattle.report_text.specs.declared.parts.Head.{Head}
 use Rattle.report_text.specs.Report.{Report, report_of}
 use Rattle.report_told.specs.Told.{Told}
@@ -52,7 +53,8 @@ record IsKnownAnswer (r : Record) : Type 0 where
   seen : HasSeenFew (answered r)
 
 -- an answered call of which this is known, or a refused one, is told on a line that may stand so
-one_known : (head : Head) (line : ℕ × Outcome) → head.seats ≤ 8 → IsFitting (asked_in line.1) → line.0 < head.seats →
+one_known : (head : Head) (line : ℕ × Outcome) → head.seats ≤ 8 → IsFitting head.calls (asked_in line.1) →
+    line.0 < head.seats →
     HasEnded head line.1 → AllByRecursion IsKnownAnswer (record_in line.1) → IsKnown head line
 one_known head (seat, Answered r) few fits inside ended answers = record {
   fits = (
@@ -60,6 +62,7 @@ one_known head (seat, Answered r) few fits inside ended answers = record {
       packet_fits = fits.packet;
       seat_is = inside;
       flow = fits.flow;
+      rule = fits.rule_is;
       value = fits.value;
       amount = fits.amount;
     },
@@ -77,6 +80,7 @@ one_known head (seat, Refused packet asked full) few fits inside ended answers =
       packet_fits = fits.packet;
       seat_is = inside;
       flow = fits.flow;
+      rule = fits.rule_is;
       value = fits.value;
       amount = fits.amount;
     },
@@ -93,7 +97,7 @@ answers_parted P (Refused packet asked full) later all = (tt, all)
 
 -- so are all calls that ended
 all_known : (head : Head) (lines : List (ℕ × Outcome)) → head.seats ≤ 8 →
-    AllByRecursion IsFitting (calls_ended lines) →
+    AllByRecursion (IsFitting head.calls) (calls_ended lines) →
     AllByRecursion (λ (line : ℕ × Outcome). line.0 < head.seats) lines →
     AllByRecursion (λ (line : ℕ × Outcome). HasEnded head line.1) lines →
     AllByRecursion IsKnownAnswer (answered_on lines) → AllByRecursion (IsKnown head) lines
@@ -126,6 +130,10 @@ module _ (report : Report) (all : List Placed) (good : IsGood report all) where
   abbrev seats : ℕ
   seats = report.head.seats
 
+  -- which calls packets make
+  abbrev rule : CallRule
+  rule = report.head.calls
+
   -- the calls that ended, with their seats
   abbrev lines : List (ℕ × Outcome)
   lines = ended_in report
@@ -146,22 +154,22 @@ module _ (report : Report) (all : List Placed) (good : IsGood report all) where
   few_seats = good.head.settings.seats_in_range.1
 
   -- each call of the order can be told
-  asked : AllByRecursion CanBeAsked all
+  asked : AllByRecursion (CanBeAsked rule) all
   asked =
-      recursion_from_All CanBeAsked all
-      (All-permutation CanBeAsked (map answered (answered_on lines) ++ map waiting effects) all good.whole
-      (All-append CanBeAsked (map answered (answered_on lines)) (map waiting effects)
-      (All-map CanBeAsked answered (answered_on lines)
-      (All-from_recursion (λ (r : Record). IsFitting (r.packet, r.call)) (answered_on lines)
-      (asked_on IsFitting lines (recursion_from_All IsFitting (calls_ended lines) good.asked))))
-      (All-map CanBeAsked waiting effects
-      (All-filter good.took (λ (u : Pending). IsFitting (u.packet, u.call)) us
-      (All-unmap IsFitting (λ (u : Pending). (u.packet, u.call)) us good.under_way)))))
+      recursion_from_All (CanBeAsked rule) all
+      (All-permutation (CanBeAsked rule) (map answered (answered_on lines) ++ map waiting effects) all good.whole
+      (All-append (CanBeAsked rule) (map answered (answered_on lines)) (map waiting effects)
+      (All-map (CanBeAsked rule) answered (answered_on lines)
+      (All-from_recursion (λ (r : Record). IsFitting rule (r.packet, r.call)) (answered_on lines)
+      (asked_on (IsFitting rule) lines (recursion_from_All (IsFitting rule) (calls_ended lines) good.asked))))
+      (All-map (CanBeAsked rule) waiting effects
+      (All-filter good.took (λ (u : Pending). IsFitting rule (u.packet, u.call)) us
+      (All-unmap (IsFitting rule) (λ (u : Pending). (u.packet, u.call)) us good.under_way)))))
 
   -- each reply can be told, and so can each session that is left
   replies : AllByRecursion HasToldReply all
       × AreSessions (pairs_of (sessions_after (rules_told report.head) empty all))
-  replies = order_replies (rules_told report.head) all asked good.legal
+  replies = order_replies rule (rules_told report.head) all asked good.legal
 
   -- numbers fit
   next_few : (u : Pending) → HasBegun report u → u.number < 2 ^ 32
@@ -187,18 +195,19 @@ module _ (report : Report) (all : List Placed) (good : IsGood report all) where
       × AllByRecursion (λ (line : ℕ × Outcome). CanBeTold seats line.1) lines
   known =
       lines_of report.head lines
-      (all_known report.head lines few_seats (recursion_from_All IsFitting (calls_ended lines) good.asked)
+      (all_known report.head lines few_seats (recursion_from_All (IsFitting rule) (calls_ended lines) good.asked)
       (recursion_from_All (λ (line : ℕ × Outcome). line.0 < seats) lines good.seats)
       (recursion_from_All (λ (line : ℕ × Outcome). HasEnded report.head line.1) lines good.ended) answers)
 
   -- calls under way
-  wait_known : (u : Pending) → HasBegun report u → IsFitting (u.packet, u.call) → IsWait report.head u
+  wait_known : (u : Pending) → HasBegun report u → IsFitting rule (u.packet, u.call) → IsWait report.head u
   wait_known u is fits = (
     is.play,
     record {
       packet_fits = fits.packet;
       seat_is = is.seat;
       flow = fits.flow;
+      rule = fits.rule_is;
       value = fits.value;
       amount = fits.amount;
     },
@@ -210,7 +219,7 @@ module _ (report : Report) (all : List Placed) (good : IsGood report all) where
   waits_known =
       recursion_from_All (IsWait report.head) us
       (λ k d inside. wait_known (get_or us k d) (good.begun k d inside)
-      (All-unmap IsFitting (λ (u : Pending). (u.packet, u.call)) us good.under_way k d inside))
+      (All-unmap (IsFitting rule) (λ (u : Pending). (u.packet, u.call)) us good.under_way k d inside))
 
   -- and has a count for each seat
   waits_long : AllByRecursion (HasCounts seats) us
@@ -223,8 +232,8 @@ module _ (report : Report) (all : List Placed) (good : IsGood report all) where
       subst (AllByRecursion (λ packet. packet < 2 ^ 32)) (sym good.order)
       (recursion_from_All (λ packet. packet < 2 ^ 32) (map packet_of all)
       (All-map (λ packet. packet < 2 ^ 32) packet_of all
-      (All-weaker CanBeAsked (λ (p : Placed). packet_of p < 2 ^ 32) (λ p fits. fits.packet) all
-      (All-from_recursion CanBeAsked all asked))))
+      (All-weaker (CanBeAsked rule) (λ (p : Placed). packet_of p < 2 ^ 32) (λ p fits. fits.packet) all
+      (All-from_recursion (CanBeAsked rule) all asked))))
 
   -- the report is in the grammar
   in_grammar : IsInGrammar told

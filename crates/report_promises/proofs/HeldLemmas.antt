@@ -11,16 +11,17 @@ use Rattle.plain_map.specs.declared.keys.Key.{Key}
 use Rattle.plain_map.specs.declared.keys.Pair.{Pair}
 use Rattle.plain_map.specs.declared.rules.Rules.{Rules}
 use Rattle.plain_map.specs.declared.calls.Call.{Call}
-use Rattle.plain_map.specs.declared.calls.Call.TheVariants.{Insert, Remove, Lookup, Tally}
+use Rattle.plain_map.specs.declared.calls.Call.TheVariants.{Insert, Remove, Lookup, Tally, Count, Put}
 use Rattle.plain_map.specs.declared.calls.Reply.{Reply}
 use Rattle.plain_map.specs.declared.calls.Reply.TheVariants.{Absent}
 use Rattle.plain_map.specs.Keys.{Session, entry_of, held_in, key_cmp}
-use Rattle.plain_map.specs.PlainObject.{Sessions, found_in, gone_from, grown, has_room, insert_reply, inserted, map_after, new_session, pairs_of, reply_of, sum_of, tallied}
+use Rattle.plain_map.specs.PlainObject.{Sessions, count_reply, counted_session, found_in, gone_from, grown, has_room, insert_reply, inserted, map_after, new_session, pairs_of, reply_of, revalued, revised, sum_of, tallied}
 use Rattle.plain_map.specs.Held.{sessions_of}
 use Rattle.plain_map.specs.History.{Placed, answered, pending, Legal, call_in, packet_of, sessions_after}
 use Rattle.plain_map.proofs.KeyLemmas.{keys_total, exact_keys, tied}
 use Rattle.plain_map.proofs.SessionLemmas.{held_at, pairs_are_ordered, entries_back}
-use Rattle.flow_keys.specs.Flow.{InsertsOnly}
+use Rattle.key_texts.specs.Inserts.{InsertsOnly}
+use Rattle.key_texts.specs.declared.rules.CallRule.{CallRule}
 use Rattle.flow_reading.specs.Flows.{IsFlow}
 use Rattle.report_told.specs.Rules.{AreSessions, IsReply}
 use Rattle.report_promises.specs.Good.{IsFitting}
@@ -82,17 +83,36 @@ tellable-tallied m key amount (Some held) is all =
     (record { flow = good.flow; value = good.value; bytes = omega arith }) all
 tellable-tallied m key amount None is all = all
 
+-- after a call that changes what is held, or brings a session
+tellable-revised : (m : Sessions) (key : Key) (new : Session) (change : Session → Session) (held : Option Session)
+    (room : Bool) → finite.get m key ≡ held → IsTellable key new →
+    ((s : Session) → IsTellable key s → IsTellable key (change s)) → AreTellable m →
+    AreTellable (revised m key new change held room)
+tellable-revised m key new change (Some held) room is good each all =
+    tellable-insert m key (change held) (each held (all key held is)) all
+tellable-revised m key new change None true is good each all = tellable-insert m key new good all
+tellable-revised m key new change None false is good each all = all
+
 -- what is held after a call that can be told
-tellable-after : (rules : Rules) (m : Sessions) (packet : ℕ) (asked : Call) → packet < 2 ^ 32 →
-    IsFitting (packet, asked) → AreTellable m → AreTellable (map_after rules m asked)
+tellable-after : (rule : CallRule) (rules : Rules) (m : Sessions) (packet : ℕ) (asked : Call) → packet < 2 ^ 32 →
+    IsFitting rule (packet, asked) → AreTellable m → AreTellable (map_after rules m asked)
 unfolding map_after
-tellable-after rules m packet (Insert key value) few fits all =
+tellable-after rule rules m packet (Insert key value) few fits all =
     tellable-inserted m key (new_session value) (finite.get m key) (has_room rules m key)
     (record { flow = fits.flow; value = omega (arith, few, fits.value); bytes = omega arith }) all
-tellable-after rules m packet (Remove key) few fits all = tellable-remove m key all
-tellable-after rules m packet (Lookup key) few fits all = all
-tellable-after rules m packet (Tally key amount) few fits all =
+tellable-after rule rules m packet (Remove key) few fits all = tellable-remove m key all
+tellable-after rule rules m packet (Lookup key) few fits all = all
+tellable-after rule rules m packet (Tally key amount) few fits all =
     tellable-tallied m key amount (finite.get m key) refl all
+tellable-after rule rules m packet (Count key value amount) few fits all =
+    tellable-revised m key (counted_session value amount) (λ held. grown held amount) (finite.get m key)
+    (has_room rules m key) refl
+    (record { flow = fits.flow; value = omega (arith, few, fits.value); bytes = omega (arith, fits.amount) })
+    (λ s good. record { flow = good.flow; value = good.value; bytes = omega arith }) all
+tellable-after rule rules m packet (Put key value) few fits all =
+    tellable-revised m key (new_session value) (λ held. revalued held value) (finite.get m key) (has_room rules m key)
+    refl (record { flow = fits.flow; value = omega (arith, few, fits.value); bytes = omega arith })
+    (λ s good. record { flow = good.flow; value = omega (arith, few, fits.value); bytes = good.bytes }) all
 
 -- where nothing is held, each session can be told
 tellable-empty : AreTellable finite.empty
@@ -119,6 +139,21 @@ new_reply m key packet value (Some s) room same is all = record { fits = (all ke
 new_reply m key packet value None true same is all = record { fits = tt; tells = same }
 new_reply m key packet value None false same is all = record { fits = tt; tells = tt }
 
+-- to a count
+counted_reply : (m : Sessions) (key : Key) (packet value amount : ℕ) (held : Option Session) (room : Bool) →
+    value ≡ packet → finite.get m key ≡ held → AreTellable m →
+    IsToldReply packet (Count key value amount) (count_reply amount held room)
+counted_reply m key packet value amount (Some s) room same is all = record { fits = omega arith; tells = tt }
+counted_reply m key packet value amount None true same is all = record { fits = tt; tells = same }
+counted_reply m key packet value amount None false same is all = record { fits = tt; tells = tt }
+
+-- and to a put
+put_reply : (m : Sessions) (key : Key) (packet value : ℕ) (held : Option Session) (room : Bool) → value ≡ packet →
+    finite.get m key ≡ held → AreTellable m → IsToldReply packet (Put key value) (insert_reply held room)
+put_reply m key packet value (Some s) room same is all = record { fits = (all key s is).value; tells = tt }
+put_reply m key packet value None true same is all = record { fits = tt; tells = same }
+put_reply m key packet value None false same is all = record { fits = tt; tells = tt }
+
 -- the plain map's reply can be told, where what is held can
 told_reply : (rules : Rules) (m : Sessions) (packet : ℕ) (asked : Call) → InsertsOnly packet asked → AreTellable m →
     IsToldReply packet asked (reply_of rules m asked)
@@ -134,6 +169,10 @@ told_reply rules m packet (Lookup key) value_is all =
 told_reply rules m packet (Tally key amount) value_is all =
     map_reply m key packet (Tally key amount) (sum_of amount) (finite.get m key)
     (λ s good. record { fits = omega arith; tells = tt }) refl all
+told_reply rules m packet (Count key value amount) value_is all =
+    counted_reply m key packet value amount (finite.get m key) (has_room rules m key) value_is refl all
+told_reply rules m packet (Put key value) value_is all =
+    put_reply m key packet value (finite.get m key) (has_room rules m key) value_is refl all
 
 -- what was answered can be told
 abbrev pub HasToldReply : Placed → Type 0
@@ -141,25 +180,25 @@ HasToldReply (answered r) = IsToldReply r.packet r.call r.reply
 HasToldReply (pending u) = Unit {0}
 
 -- it can be told what a call of the order asks
-abbrev pub CanBeAsked : Placed → Type 0
-CanBeAsked placed = IsFitting (packet_of placed, call_in placed)
+abbrev pub CanBeAsked : CallRule → Placed → Type 0
+CanBeAsked rule placed = IsFitting rule (packet_of placed, call_in placed)
 
 -- so can the reply of a call of a legal order
-one_reply : (rules : Rules) (m : Sessions) (placed : Placed) → CanBeAsked placed → AreTellable m →
-    Legal rules m (placed ∷ []) → HasToldReply placed
-one_reply rules m (answered r) fits all legal =
+one_reply : (rule : CallRule) (rules : Rules) (m : Sessions) (placed : Placed) → CanBeAsked rule placed →
+    AreTellable m → Legal rules m (placed ∷ []) → HasToldReply placed
+one_reply rule rules m (answered r) fits all legal =
     subst (IsToldReply r.packet r.call) (sym legal.0) (told_reply rules m r.packet r.call fits.value all)
-one_reply rules m (pending u) fits all legal = tt
+one_reply rule rules m (pending u) fits all legal = tt
 
 -- and those of all its calls, and what it leaves
-pub told_replies : (rules : Rules) (m : Sessions) (order : List Placed) → AllByRecursion CanBeAsked order →
-    Legal rules m order → AreTellable m →
+pub told_replies : (rule : CallRule) (rules : Rules) (m : Sessions) (order : List Placed) →
+    AllByRecursion (CanBeAsked rule) order → Legal rules m order → AreTellable m →
     AllByRecursion HasToldReply order × AreTellable (sessions_after rules m order)
-told_replies rules m [] fits legal all = (tt, all)
-told_replies rules m (placed ∷ later) fits legal all =
-    let next = told_replies rules (map_after rules m (call_in placed)) later fits.1 legal.1
-    (tellable-after rules m (packet_of placed) (call_in placed) fits.0.packet fits.0 all) in
-    ((one_reply rules m placed fits.0 all (legal.0, tt), next.0), next.1)
+told_replies rule rules m [] fits legal all = (tt, all)
+told_replies rule rules m (placed ∷ later) fits legal all =
+    let next = told_replies rule rules (map_after rules m (call_in placed)) later fits.1 legal.1
+    (tellable-after rule rules m (packet_of placed) (call_in placed) fits.0.packet fits.0 all) in
+    ((one_reply rule rules m placed fits.0 all (legal.0, tt), next.0), next.1)
 
 -- ---- the sessions
 
@@ -188,9 +227,9 @@ told_sessions m all = record {
     same_key k d e inside = ap (λ (p : Pair). p.key) (get_or_default (pairs_of m) k e d inside)
 
 -- the sessions that a right order of calls leaves, from none on
-pub order_told : (rules : Rules) (order : List Placed) → AllByRecursion CanBeAsked order →
+pub order_told : (rule : CallRule) (rules : Rules) (order : List Placed) → AllByRecursion (CanBeAsked rule) order →
     Legal rules finite.empty order →
     AllByRecursion HasToldReply order × AreSessions (pairs_of (sessions_after rules finite.empty order))
-order_told rules order fits legal =
-    let both = told_replies rules finite.empty order fits legal tellable-empty in
+order_told rule rules order fits legal =
+    let both = told_replies rule rules finite.empty order fits legal tellable-empty in
     (both.0, told_sessions (sessions_after rules finite.empty order) both.1)

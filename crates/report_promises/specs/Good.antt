@@ -7,14 +7,15 @@ use Rattle.plain_map.specs.declared.records.Pending.{Pending}
 use Rattle.plain_map.specs.Calls.{key_in, is_update}
 use Rattle.plain_map.specs.PlainObject.{pairs_of}
 use Rattle.plain_map.specs.History.{Placed, packet_of, After, Legal, Whole, sessions_after}
-use Rattle.flow_keys.specs.Flow.{InsertsOnly}
+use Rattle.key_texts.specs.Inserts.{InsertsOnly, IsOfRule}
+use Rattle.key_texts.specs.declared.rules.CallRule.{CallRule}
 use Rattle.flow_reading.specs.Flows.{IsFlow}
 use Rattle.trace_share.specs.declared.outcome.Outcome.{Outcome}
 use Rattle.trace_share.specs.declared.outcome.Outcome.TheVariants.{Answered, Refused}
 use Rattle.trace_share.specs.Outcomes.{asked_in, record_in}
 use Rattle.report_text.specs.declared.parts.Head.{Head}
 use Rattle.report_text.specs.Report.{Report, report_of}
-use Rattle.report_told.specs.Rules.{IsHead, IsTail, IsShort, Rise, amount_in, times}
+use Rattle.report_told.specs.Rules.{IsHead, IsTail, IsShort, Rise, amount_in, amount_limit, times}
 use Rattle.report_told.specs.Points.{IsShortEnough, rules_told}
 use Rattle.report_told.specs.Verdicts.{Certified}
 
@@ -55,12 +56,14 @@ AreCountedBySeat lines =
 
 -- ---- what may stand on a line
 
--- a call that can be told: the packet's number fits, the key has a text, and an insert brings the packet's number
-pub record IsFitting (asked : ℕ × Call) : Type 0 where
+-- a call that can be told by a rule: the packet's number fits, the key has a text, and an insert or a count brings the
+-- packet's number
+pub record IsFitting (rule : CallRule) (asked : ℕ × Call) : Type 0 where
   pub packet : asked.0 < 2 ^ 32
   pub flow : IsFlow (key_in asked.1)
+  pub rule_is : IsOfRule rule asked.1
   pub value : InsertsOnly asked.0 asked.1
-  pub amount : amount_in asked.1 < 2 ^ 64
+  pub amount : amount_in asked.1 < amount_limit asked.1
 
 -- its ending can be told: an answer has a count for each seat, and a refusal tells too little room
 abbrev pub HasEnded : Head → Outcome → Type 0
@@ -83,11 +86,11 @@ pub record IsGood (report : Report) (all : List Placed) : Type 0 where
   pub head : IsHead report.head
   pub tail : IsTail report.head report.tail
   -- what was asked, by whom, and how it ended
-  pub asked : All IsFitting (calls_ended (ended_in report))
+  pub asked : All (IsFitting report.head.calls) (calls_ended (ended_in report))
   pub seats : All (λ line. line.0 < report.head.seats) (ended_in report)
   pub ended : All (λ line. HasEnded report.head line.1) (ended_in report)
   pub few : length (ended_in report) < 2 ^ 32 - 1
-  pub under_way : All IsFitting (calls_begun (begun_in report))
+  pub under_way : All (IsFitting report.head.calls) (calls_begun (begun_in report))
   pub begun : All (HasBegun report) (begun_in report)
   -- the lines of the calls that ended are in packet order, and no packet is of two calls
   pub rise : Rise (map (λ asked. asked.0) (calls_ended (ended_in report)))

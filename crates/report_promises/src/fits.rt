@@ -3,12 +3,12 @@
 ghost use Rattle.std.specs.Prelude.{◌≡◌, ◌<◌, ◌^◌};
 ghost use Rattle.step_counts.specs.Made.{IsMadeOf};
 ghost use Rattle.step_counts.specs.StepCounts.{step_bound};
-ghost use Rattle.report_text.specs.Report.{IsCaptureFault, IsEnding, IsFormatFault};
+ghost use Rattle.capture_faults.specs.Endings.{IsCaptureFault, IsEnding, IsFormatFault};
 ghost use Rattle.report_told.specs.Rules.{IsAnyFaultTold, IsBatch, IsEndingTold, IsFaultTold, IsHead, IsTail, seed_in};
 
-use capture_faults::{AnyFault, CaptureFault};
+use capture_faults::{AnyFault, CaptureFault, Ending};
 use hash_bits::Hashing;
-use report_text::{Ending, Head, Tail};
+use report_text::{Head, Tail};
 use step_counts::Settings;
 
 // The type's own limit.

@@ -1,5 +1,5 @@
 -- Which entry may stand behind others, and what is then taken in.
-use Rattle.std.proofs.Common.{◌≡◌, inl, inr, ℕ, zero, suc, ◌+◌, ◌^◌, ◌<◌, ◌==◌, ◌&&◌, nat_lt, Bool, true, List, [], ◌∷◌, ◌++◌, refl, sym, ap, ◌∙◌, append-nil, subst, arith}
+use Rattle.std.proofs.Common.{◌≡◌, inl, inr, ℕ, zero, suc, ◌+◌, ◌^◌, ◌<◌, ◌≤◌, ◌==◌, ◌&&◌, nat_lt, Bool, true, List, [], ◌∷◌, ◌++◌, refl, sym, ap, ◌∙◌, append-nil, subst, arith}
 use Rattle.std.proofs.lemmas.List.Elements.{All-push, All-from_recursion}
 use Rattle.std.proofs.lemmas.List.Concat.{flat_map-append}
 use Rattle.std.proofs.lemmas.Bool.{eqb-true, eq-eqb, ltb-true, lt-ltb, cases_eq, and_parts}
@@ -7,18 +7,20 @@ use Rattle.step_counts.specs.declared.settings.Settings.{Settings}
 use Rattle.step_counts.specs.declared.rows.SeatRows.{SeatRows}
 use Rattle.step_counts.specs.StepCounts.{need_of}
 use Rattle.plain_map.specs.declared.calls.Call.{Call}
+use Rattle.plain_map.specs.declared.calls.Call.TheVariants.{Insert, Remove, Lookup, Tally, Count, Put}
+use Rattle.key_texts.specs.Inserts.{IsOfRule}
 use Rattle.plain_map.specs.declared.calls.Reply.{Reply}
 use Rattle.plain_map.specs.declared.calls.Reply.TheVariants.{New, Old, NoRoom, Gone, Found, Absent, Sum}
 use Rattle.plain_map.specs.declared.full.Full.{Full}
 use Rattle.plain_map.specs.declared.records.Seen.{Seen}
 use Rattle.report_text.specs.declared.parts.Head.{Head}
 use Rattle.report_told.specs.Told.{Entry, call, pending, order}
-use Rattle.report_told.specs.Rules.{IsHead, IsAsked, IsEnd, IsEntry, IsReply, IsShort, IsSettingsOf, AreEntries, IsApart, Rise, ended_packets, waiting_packets, packet_ended, packet_pending, times, part_of}
+use Rattle.report_told.specs.Rules.{IsHead, IsAsked, IsEnd, IsEntry, IsReply, IsShort, IsSettingsOf, AreEntries, IsApart, Rise, amount_in, amount_limit, ended_packets, waiting_packets, packet_ended, packet_pending, times, part_of}
 use Rattle.report_told.specs.declared.told.Ended.TheVariants.{Answered, Refused}
 use Rattle.report_told.specs.declared.told.CallLine.{CallLine}
 use Rattle.report_told.specs.declared.told.PendingLine.{PendingLine}
 use Rattle.report_told.proofs.TimesLemmas.{times-append, times-other, times-same}
-use Rattle.report_lines.proofs.CallFields.{HasWord}
+use Rattle.report_lines.proofs.CallFields.{HasWord, most_amount}
 use Rattle.report_lines.proofs.CallLines.{AskedFits, EndedFits}
 use Rattle.report_lines.proofs.EntryLines.{CallFits, PendingFits, OrderFits, asked_of}
 use Rattle.report_lines.proofs.MachineLaws.{settings_of, settings_are, at_last}
@@ -89,6 +91,17 @@ can_wait h es told are =
     are.apart told.packet (omega (arith, waits, once-own told.packet)) in
     (own.0, omega (arith, sum, waits, ends, once-own told.packet))
 
+-- the last call is one that the rule makes
+pub call_by_rule : (h own : Head) (es : List Entry) (told : CallLine) → own ≡ h → AreEntries h (es ++ call told ∷ []) →
+    IsOfRule own.calls told.call
+call_by_rule h own es told same are =
+    subst (λ (x : Head). IsOfRule x.calls told.call) (sym same) (at_last (IsEntry h) es (call told) are.each).0.rule
+
+pub pending_by_rule : (h own : Head) (es : List Entry) (told : PendingLine) → own ≡ h →
+    AreEntries h (es ++ pending told ∷ []) → IsOfRule own.calls told.call
+pending_by_rule h own es told same are =
+    subst (λ (x : Head). IsOfRule x.calls told.call) (sym same) (at_last (IsEntry h) es (pending told) are.each).1.rule
+
 -- the test of a refusal
 abbrev pub short_test : SeatRows → Full → Bool
 short_test rows full = (full.need == part_of rows full.what) && nat_lt full.left full.need
@@ -120,22 +133,31 @@ reply_is (Found value) fits = omega (arith, fits)
 reply_is Absent fits = tt
 reply_is (Sum total) fits = omega (arith, fits)
 
-asked_is : (h : Head) (packet seat : ℕ) (asked : Call) → AskedFits h.seats (asked_of packet seat asked) →
-    IsAsked h packet seat asked
-asked_is h packet seat asked fits = record {
+amount_is : (asked : Call) → amount_in asked ≤ most_amount asked → amount_in asked < amount_limit asked
+amount_is (Insert key value) fits = omega arith
+amount_is (Remove key) fits = omega arith
+amount_is (Lookup key) fits = omega arith
+amount_is (Tally key amount) fits = omega (arith, fits)
+amount_is (Count key value amount) fits = omega (arith, fits)
+amount_is (Put key value) fits = omega arith
+
+asked_is : (h : Head) (packet seat : ℕ) (asked : Call) → IsOfRule h.calls asked →
+    AskedFits h.seats (asked_of packet seat asked) → IsAsked h packet seat asked
+asked_is h packet seat asked rule fits = record {
   packet_fits = omega (arith, fits.packet);
   seat_is = fits.seat;
   flow = fits.verb.flow;
+  rule = rule;
   value = fits.verb.value;
-  amount = omega (arith, fits.verb.amount);
+  amount = amount_is asked fits.verb.amount;
 }
 
 pub answered_entry : (h : Head) (told : CallLine) (reply : Reply) (steps : ℕ) (seen : Seen) →
-    CallFits h.seats told → told.ended ≡ Answered reply steps seen → IsEntry h (call told)
-answered_entry h told reply steps seen fits ends =
+    IsOfRule h.calls told.call → CallFits h.seats told → told.ended ≡ Answered reply steps seen → IsEntry h (call told)
+answered_entry h told reply steps seen rule fits ends =
     let ended : EndedFits h.seats told.call (Answered reply steps seen) =
     subst (EndedFits h.seats told.call) ends fits.ended in (
-      asked_is h told.packet told.seat told.call fits.asked,
+      asked_is h told.packet told.seat told.call rule fits.asked,
       subst (IsEnd h told.call) (sym ends) (reply_is reply ended.0, omega (arith, ended.1), ended.2.0),
     )
 
@@ -143,12 +165,12 @@ same_need : (s t : Settings) → s.seats ≡ t.seats → s.depth ≡ t.depth →
 same_need s t seats depth = rw (seats, depth) refl
 
 pub refused_entry : (h : Head) (rows : SeatRows) (told : CallLine) (full : Full) →
-    ((s : Settings) → IsSettingsOf h s → rows ≡ need_of s) → CallFits h.seats told → told.ended ≡ Refused full →
-    short_test rows full ≡ true → IsEntry h (call told)
-refused_entry h rows told full need fits ends test =
+    ((s : Settings) → IsSettingsOf h s → rows ≡ need_of s) → IsOfRule h.calls told.call → CallFits h.seats told →
+    told.ended ≡ Refused full → short_test rows full ≡ true → IsEntry h (call told)
+refused_entry h rows told full need rule fits ends test =
     let ended : EndedFits h.seats told.call (Refused full) = subst (EndedFits h.seats told.call) ends fits.ended in
     let parts = and_parts (full.need == part_of rows full.what) (nat_lt full.left full.need) test in (
-      asked_is h told.packet told.seat told.call fits.asked,
+      asked_is h told.packet told.seat told.call rule fits.asked,
       subst (IsEnd h told.call) (sym ends) (record {
         update = ended.update;
         need = λ s of_head.
@@ -158,9 +180,10 @@ refused_entry h rows told full need fits ends test =
       }),
     )
 
-pub pending_entry : (h : Head) (told : PendingLine) → h.play ≡ true → PendingFits h.seats told → IsEntry h
-    (pending told)
-pending_entry h told play fits = (play, asked_is h told.packet told.seat told.call fits.asked, fits.seen.0)
+pub pending_entry : (h : Head) (told : PendingLine) → h.play ≡ true → IsOfRule h.calls told.call →
+    PendingFits h.seats told → IsEntry h (pending told)
+pending_entry h told play rule fits =
+    (play, asked_is h told.packet told.seat told.call rule fits.asked, fits.seen.0)
 
 pub order_entry : (h : Head) (packets : List ℕ) → OrderFits packets → IsEntry h (order packets)
 order_entry h packets fits =

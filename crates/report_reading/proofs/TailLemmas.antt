@@ -4,7 +4,7 @@ use Rattle.std.proofs.lemmas.Option.{none-some, some_pair_parts}
 use Rattle.std.proofs.lemmas.Bool.{eq-eqb, eqb-true, true≢false}
 use Rattle.step_counts.specs.declared.settings.Settings.{Settings}
 use Rattle.step_counts.specs.StepCounts.{step_bound}
-use Rattle.report_text.specs.declared.parts.Ending.{Ending}
+use Rattle.capture_faults.specs.declared.ending.Ending.{Ending}
 use Rattle.report_told.specs.Told.{Told}
 use Rattle.report_told.specs.Rules.{IsHead, IsSettingsOf}
 use Rattle.report_told.specs.Verdicts.{Tells, IsBadLine}

@@ -1,6 +1,7 @@
 //! The lines of calls and orders, taken in one by one.
 
 ghost use Rattle.std.specs.Prelude.{◌≡◌, ◌++◌, ◌∷◌, [], List, IfOk, MatchBool, ◌==◌, ◌&&◌, nat_lt, length, ◌<◌, ◌-◌, ◌^◌, ℕ, Some};
+ghost use Rattle.key_texts.specs.Inserts.{IsOfRule};
 ghost use Rattle.step_counts.specs.declared.settings.Settings.{Settings as ASettings};
 ghost use Rattle.step_counts.specs.StepCounts.{need_of};
 ghost use Rattle.report_text.specs.declared.parts.Head.{Head as AHead};
@@ -12,7 +13,8 @@ ghost use Rattle.std.specs.Option.{option_map};
 
 use crate::answers::Answers;
 use crate::packets::Packets;
-use plain_map::{Full, FullKind, Pending};
+use key_texts::CallRule;
+use plain_map::{Call, Full, FullKind, Pending};
 use report_lines::order_line;
 use report_text::Head;
 use report_told::{CallLine, Ended, PendingLine};
@@ -54,6 +56,9 @@ impl Entries {
             (Holds self.new head (entries ++ call_entry line.now ∷ []))
             (AreEntries head (entries ++ call_entry line.now ∷ []) → ⊥)) }
     {
+        if !is_of_rule(self.head.calls, &line.call) {
+            return Ok(false);
+        }
         match line.ended {
             Ended::Answered { reply, steps, seen } => {
                 if !self.packets.end(line.packet)? {
@@ -83,6 +88,9 @@ impl Entries {
         if !self.head.play {
             return Ok(false);
         }
+        if !is_of_rule(self.head.calls, &line.call) {
+            return Ok(false);
+        }
         if !self.packets.wait(line.packet)? {
             return Ok(false);
         }
@@ -103,6 +111,23 @@ impl Entries {
     {
         let found = order_line(bytes, &mut self.order)?;
         Ok(found)
+    }
+}
+
+// Whether the rule makes such a call.
+fn is_of_rule(rule: CallRule, call: &Call) -> bool
+    ensures { MatchBool result (IsOfRule rule call.now) (IsOfRule rule call.now → ⊥) }
+{
+    match call {
+        Call::Insert(_, _) | Call::Remove(_) | Call::Lookup(_) | Call::Tally(_, _) => match rule {
+            CallRule::Sessions => true,
+            CallRule::Flows => false,
+        },
+        Call::Count(_, _, _) => match rule {
+            CallRule::Sessions => false,
+            CallRule::Flows => true,
+        },
+        Call::Put(_, _) => false,
     }
 }
 

@@ -2,7 +2,7 @@
 
 ghost use Rattle.std.specs.Prelude.{◌≡◌, ℕ, ◌+◌, ◌<◌, ◌≤◌, [], ◌∷◌, ◌++◌, decimal, length, slice_index, OnOk, OnErr};
 ghost use Rattle.batch_history.specs.Batches.{gone_on, seen_on, with_counts};
-ghost use Rattle.flow_keys.specs.FlowText.{HasText};
+ghost use Rattle.key_texts.specs.FlowText.{HasText};
 ghost use Rattle.plain_map.specs.Calls.{key_in};
 ghost use Rattle.trace_share.specs.declared.outcome.Outcome.TheVariants.{Answered, Refused};
 ghost use Rattle.report_text.specs.Report.{after_words, amount_words, call_in, call_words, full_words, outcome_line, outcome_on, pending_line, reply_words, short_word, value_in, verb_word};
@@ -122,7 +122,7 @@ fn put_call(out: &mut Line, packet: u32, seat: u32, call: &Call)
     put_amount(out, call);
 }
 
-// Appends the bytes that a tally brings. Another call brings none.
+// Appends the bytes that a tally or a count brings. Another call brings none.
 #[tactic(auto, using(crate::proofs::LineLemmas::puts_none))]
 #[inline(always)]
 fn put_amount(out: &mut Line, call: &Call)
@@ -131,8 +131,8 @@ fn put_amount(out: &mut Line, call: &Call)
     ensures taken { room out.old ≤ room out.new + 24 }
 {
     match call {
-        Call::Tally(_, amount) => put_named(out, b"by", *amount),
-        Call::Insert(_, _) | Call::Remove(_) | Call::Lookup(_) => {}
+        Call::Tally(_, amount) | Call::Count(_, _, amount) => put_named(out, b"by", *amount),
+        Call::Insert(_, _) | Call::Remove(_) | Call::Lookup(_) | Call::Put(_, _) => {}
     }
 }
 
@@ -147,6 +147,8 @@ fn verb_word(call: &Call) -> &'static [u8]
         Call::Remove(_) => b"remove",
         Call::Lookup(_) => b"lookup",
         Call::Tally(_, _) => b"tally",
+        Call::Count(_, _, _) => b"count",
+        Call::Put(_, _) => b"put",
     }
 }
 
@@ -174,14 +176,14 @@ fn value_in(call: &Call) -> u64
     ensures { result ≡ value_in call.now }
 {
     match call {
-        Call::Insert(_, value) => *value,
+        Call::Insert(_, value) | Call::Count(_, value, _) | Call::Put(_, value) => *value,
         Call::Remove(_) | Call::Lookup(_) | Call::Tally(_, _) => 0,
     }
 }
 
 // Appends what a call saw as it began, where the seats had answered so many calls before.
 #[inline(always)]
-pub(crate) fn put_after(out: &mut Line, seats: u32, before: &[u32], seen: &Seen)
+pub fn put_after(out: &mut Line, seats: u32, before: &[u32], seen: &Seen)
     requires seats { seats ≤ 8 }
     requires space { 103 ≤ room out.old }
     ensures puts { Puts (text_in out.old) (after_words seats (seen_on before.now seen.now)) (text_in out.new) }

@@ -1,13 +1,14 @@
 //! The head line.
 
 ghost use Rattle.std.specs.Prelude.{◌≡◌, ◌+◌, ◌≤◌, ◌++◌, length, OnOk, OnErr};
-ghost use Rattle.report_text.specs.Report.{batch_words, head_line, hash_words, mode_word, share_word};
+ghost use Rattle.report_text.specs.Report.{batch_words, head_line, hash_words, mode_word, rule_words, share_word};
 ghost use Rattle.report_text.specs.Lines.{room, Puts, text_in};
 
 use crate::line::Line;
 use crate::parts::Head;
 use crate::pieces::{append, begin_line, end_line, put_named, put_word};
 use hash_bits::Hashing;
+use key_texts::CallRule;
 use std::alloc::AllocError;
 use trace_share::Share;
 
@@ -39,12 +40,29 @@ fn put_head(out: &mut Line, head: &Head)
     put_hashing(out, head.hashing);
     put_word(out, b"share");
     put_word(out, share_word(head.share));
+    put_rule(out, head.calls);
     put_batch(out, head.batch);
     end_line(out);
 }
 
+// Appends which calls packets make, where these are counts.
+#[tactic(auto, using(crate::proofs::LineLemmas::puts_none))]
+fn put_rule(out: &mut Line, rule: CallRule)
+    requires { 12 ≤ room out.old }
+    ensures puts { Puts (text_in out.old) (rule_words rule) (text_in out.new) }
+    ensures taken { room out.old ≤ room out.new + 12 }
+{
+    match rule {
+        CallRule::Sessions => {}
+        CallRule::Flows => {
+            put_word(out, b"calls");
+            put_word(out, b"flows");
+        }
+    }
+}
+
 /// Appends how many packets a batch has, where it is not the common number.
-pub(crate) fn put_batch(out: &mut Line, batch: u32)
+pub fn put_batch(out: &mut Line, batch: u32)
     requires { 17 ≤ room out.old }
     ensures puts { Puts (text_in out.old) (batch_words batch) (text_in out.new) }
     ensures taken { room out.old ≤ room out.new + 17 }

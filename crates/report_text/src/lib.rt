@@ -1,7 +1,6 @@
 //! The lines of the report.
 #![tactic(auto)]
 
-mod adds;
 mod calls;
 mod head;
 mod line;
@@ -12,12 +11,12 @@ mod session;
 mod tail;
 mod trial;
 
-pub use adds::{TotalsTail, add_text, totals_head_text, totals_tail_text};
-pub use calls::{outcome_text, pending_text};
-pub use head::head_text;
+pub use calls::{outcome_text, pending_text, put_after};
+pub use head::{head_text, put_batch};
 pub use line::Line;
 pub use order::order_text;
-pub use parts::{Ending, Head, Tail};
+pub use parts::{Head, Tail};
+pub use pieces::{Number, append, begin_line, end_line, put_named, put_number, put_word};
 pub use session::session_text;
-pub use tail::tail_text;
+pub use tail::{put_input, tail_text};
 pub use trial::{Trial, trial_text};

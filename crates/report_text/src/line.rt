@@ -4,8 +4,8 @@ ghost use Rattle.std.specs.Prelude.{◌≡◌, ◌+◌, ◌≤◌, [], ◌++◌,
 ghost use Rattle.std.specs.Fmt.{decimal};
 ghost use Rattle.report_text.specs.declared.line.TheConstants.{LINE_ROOM};
 
-use flow_keys::{digit_count, write_key};
 use itoa::write_digits;
+use key_texts::{digit_count, write_key};
 use plain_map::Key;
 
 /// How long the text can become.
@@ -22,7 +22,7 @@ pub struct Line {
 }
 
 impl Line {
-    ghost use Rattle.flow_keys.specs.FlowText.{HasText, flow_text};
+    ghost use Rattle.key_texts.specs.FlowText.{HasText, flow_text};
     ghost use Rattle.report_text.specs.Lines.{room, text_in};
 
     /// No text yet.
@@ -41,7 +41,7 @@ impl Line {
     /// Begins again, with no text.
     #[inline(always)]
     #[tactic(auto, unfolding(crate::specs::Lines::room, crate::specs::Lines::text_in))]
-    pub(crate) fn clear(&mut self)
+    pub fn clear(&mut self)
         ensures empty { text_in self.new ≡ [] }
         ensures space { room self.new ≡ LINE_ROOM }
     {

@@ -1,7 +1,7 @@
 //! The pieces of a line. No piece takes memory.
 
 ghost use Rattle.std.specs.Prelude.{◌≡◌, ◌+◌, ◌≤◌, [], ◌∷◌, ◌++◌, decimal, length, OnOk, OnErr};
-ghost use Rattle.flow_keys.specs.FlowText.{HasText, flow_text};
+ghost use Rattle.key_texts.specs.FlowText.{HasText, flow_text};
 ghost use Rattle.report_text.specs.Lines.{room, text_in, Begins, Ends, Puts};
 
 use crate::line::Line;

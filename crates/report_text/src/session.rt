@@ -1,7 +1,7 @@
 //! The line of a session.
 
 ghost use Rattle.std.specs.Prelude.{◌≡◌, ◌≤◌, ◌++◌, OnOk, OnErr};
-ghost use Rattle.flow_keys.specs.FlowText.{HasText};
+ghost use Rattle.key_texts.specs.FlowText.{HasText};
 ghost use Rattle.report_text.specs.Report.{session_line};
 ghost use Rattle.report_text.specs.Lines.{room, text_in};
 

@@ -3,15 +3,15 @@
 ghost use Rattle.std.specs.Prelude.{◌≡◌, ◌+◌, ◌<◌, ◌≤◌, false, [], ◌∷◌, ◌++◌, codes, decimal, length, OnOk, OnErr};
 ghost use Rattle.std.specs.Fmt.{digit_glyph};
 ghost use Rattle.report_text.specs.Report.{capture_words, count_line, ending_words, fault_words, input_line, leaves_line, steps_line, tail_lines};
-ghost use Rattle.report_text.specs.Report.{IsCaptureFault, IsEnding, IsFormatFault};
+ghost use Rattle.capture_faults.specs.Endings.{IsCaptureFault, IsEnding, IsFormatFault};
 ghost use Rattle.report_text.specs.Lines.{hexadecimal, room, Puts, text_in};
 
 use crate::line::Line;
-use crate::parts::{Ending, Tail};
+use crate::parts::Tail;
 use crate::pieces::{
     append, begin_line, end_line, put_digits, put_named, put_number, put_text, put_word,
 };
-use capture_faults::{AnyFault, CaptureFault, MOST_INTERFACES, MOST_OTHERS};
+use capture_faults::{AnyFault, CaptureFault, Ending, MOST_INTERFACES, MOST_OTHERS};
 use std::alloc::AllocError;
 
 // The digits of numbers below 16.
@@ -53,7 +53,7 @@ fn put_leaves(out: &mut Line, tail: &Tail)
 }
 
 // Appends how the input came to its end.
-pub(crate) fn put_input(out: &mut Line, ending: &Ending)
+pub fn put_input(out: &mut Line, ending: &Ending)
     requires format { IsEnding ending.now }
     requires space { 74 ≤ room out.old }
     ensures appended { text_in out.new ≡ text_in out.old ++ input_line ending.now }

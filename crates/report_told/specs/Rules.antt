@@ -10,7 +10,7 @@ use Rattle.step_counts.specs.Made.{IsMadeOf}
 use Rattle.step_counts.specs.StepCounts.{need_of, step_bound}
 use Rattle.plain_map.specs.declared.keys.Pair.{Pair}
 use Rattle.plain_map.specs.declared.calls.Call.{Call}
-use Rattle.plain_map.specs.declared.calls.Call.TheVariants.{Insert, Remove, Lookup, Tally}
+use Rattle.plain_map.specs.declared.calls.Call.TheVariants.{Insert, Remove, Lookup, Tally, Count, Put}
 use Rattle.plain_map.specs.declared.calls.Reply.{Reply}
 use Rattle.plain_map.specs.declared.calls.Reply.TheVariants.{New, Old, NoRoom, Gone, Found, Absent, Sum}
 use Rattle.plain_map.specs.declared.full.Full.{Full}
@@ -20,16 +20,17 @@ use Rattle.plain_map.specs.declared.records.Seen.{Seen}
 use Rattle.plain_map.specs.declared.records.TheConstants.{MOST_SEATS}
 use Rattle.plain_map.specs.Calls.{key_in, is_update}
 use Rattle.plain_map.specs.Places.{IsInKeyOrder}
+use Rattle.plain_map.specs.Updates.{value_limit}
 use Rattle.capture_faults.specs.declared.fault.CaptureFault.{CaptureFault}
 use Rattle.capture_faults.specs.declared.fault.CaptureFault.TheVariants.{ReadFault as NoRead, ShortHeader, Magic, Version, LinkType, RecordLength, Memory}
 use Rattle.capture_faults.specs.declared.any_fault.AnyFault.{AnyFault}
 use Rattle.capture_faults.specs.declared.any_fault.AnyFault.TheVariants.{Capture, ByteOrder, BlockLength, Trailer, SectionVersion, Interface, CapturedLength, Interfaces, Blocks}
 use Rattle.flow_reading.specs.Flows.{IsFlow}
-use Rattle.flow_keys.specs.Flow.{InsertsOnly}
+use Rattle.key_texts.specs.Inserts.{InsertsOnly, IsOfRule}
 use Rattle.report_text.specs.declared.parts.Head.{Head}
 use Rattle.report_text.specs.declared.parts.Tail.{Tail}
-use Rattle.report_text.specs.declared.parts.Ending.{Ending}
-use Rattle.report_text.specs.declared.parts.Ending.TheVariants.{Done, ReadFault, Limit, Fault}
+use Rattle.capture_faults.specs.declared.ending.Ending.{Ending}
+use Rattle.capture_faults.specs.declared.ending.Ending.TheVariants.{Done, ReadFault, Limit, Fault}
 use Rattle.report_told.specs.declared.told.Ended.{Ended}
 use Rattle.report_told.specs.declared.told.Ended.TheVariants.{Answered, Refused}
 use Rattle.report_told.specs.Told.{Entry, call, pending, order, Told}
@@ -57,20 +58,33 @@ IsSettingsOf head s = IsMadeOf s head.seats head.items head.depth head.start
 
 -- A call.
 
--- how many bytes a call brings; only a tally brings any
+-- how many bytes a call brings; only a tally and a count bring any
 abbrev pub amount_in : Call → ℕ
 amount_in (Insert key value) = 0
 amount_in (Remove key) = 0
 amount_in (Lookup key) = 0
 amount_in (Tally key amount) = amount
+amount_in (Count key value amount) = amount
+amount_in (Put key value) = 0
 
--- one of the seats makes this call for a packet; an insert brings the packet's number
+-- what the bytes of a call are below: those of a tally are a number of 64 bits, and a count's can be kept
+abbrev pub amount_limit : Call → ℕ
+amount_limit (Insert key value) = 2 ^ 64
+amount_limit (Remove key) = 2 ^ 64
+amount_limit (Lookup key) = 2 ^ 64
+amount_limit (Tally key amount) = 2 ^ 64
+amount_limit (Count key value amount) = value_limit
+amount_limit (Put key value) = 2 ^ 64
+
+-- one of the seats makes this call for a packet, by the rule of the head; an insert or a count brings the packet's
+-- number
 pub record IsAsked (head : Head) (packet seat : ℕ) (asked : Call) : Type 0 where
   pub packet_fits : packet < 2 ^ 32
   pub seat_is : seat < head.seats
   pub flow : IsFlow (key_in asked)
+  pub rule : IsOfRule head.calls asked
   pub value : InsertsOnly packet asked
-  pub amount : amount_in asked < 2 ^ 64
+  pub amount : amount_in asked < amount_limit asked
 
 abbrev pub IsReply : Reply → Type 0
 IsReply (Old value) = value < 2 ^ 64

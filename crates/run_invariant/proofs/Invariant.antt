@@ -38,7 +38,7 @@ pub record Rests (setup : Setup) (c : Common) (me : ℕ) (used : SeatRows) : Typ
 pub record Flies (setup : Setup) (c : Common) (me : ℕ) (used : SeatRows) (number : ℕ) : Type 0 where
   pub used_is : c.used me ≡ used
   pub some : 1 ≤ number
-  pub few : number < 2 ^ 32
+  pub few : number < setup.shape.limit
 
 -- of its ranges there is left what an update needs that has published so many bucket rows
 pub record Room (setup : Setup) (c : Common) (me spent : ℕ) : Type 0 where

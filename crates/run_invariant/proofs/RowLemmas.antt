@@ -25,9 +25,10 @@ use Rattle.table_model.specs.SeatStates.{Flight}
 use Rattle.table_model.specs.Goes.{answered_by, answered_with}
 use Rattle.table_model.specs.Stores.{bucket_words, made_bucket}
 use Rattle.run_invariant.proofs.Invariant.{Common, Local, Keeps, Flies, IsOpRow, op_words_of, IsRow, HasOp, width, made_words, bits}
+use Rattle.plain_map.specs.Updates.{number_limit}
 
 -- the row that an update stores says its op
-pub op_row_sound : (p number : ℕ) (call : Call) → 1 ≤ number → number < 2 ^ 32 → IsUpdate call →
+pub op_row_sound : (p number : ℕ) (call : Call) → 1 ≤ number → number < number_limit → IsUpdate call →
     IsOpRow p (op_words_of number call) (record { seat = p; number = number; call = call })
 unfolding op_words_of
 op_row_sound p number call some few update =

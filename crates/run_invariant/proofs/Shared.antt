@@ -18,6 +18,7 @@ use Rattle.table_model.specs.Setup.{Setup, IsSetup, seats_of, rules_of}
 use Rattle.table_model.specs.Directories.{DirectoryState, bucket_of}
 use Rattle.table_model.specs.Goes.{bucket_in_words, op_in_words}
 use Rattle.run_invariant.proofs.History.{op_no, row_no, word_no, dir_no, op_room, row_room, word_room, dir_room, width, bits, Common, Line, line}
+use Rattle.plain_map.specs.Updates.{number_limit}
 
 -- ---- what holds of what is shared
 
@@ -148,7 +149,7 @@ pub record IsOpRow (p : ℕ) (words : List ℕ) (op : Op) : Type 0 where
   pub spells : SpellsOp (record { number = op.number; call = op.call }) words
   pub says : op_in_words p words ≡ op
   pub update : IsUpdate op.call
-  pub few : op.number < 2 ^ 32
+  pub few : op.number < number_limit
 
 -- the announced ops
 pub record Calls (setup : Setup) (announced : ℕ → ℕ) (op : ℕ → ℕ → ℕ) (used : ℕ → SeatRows) (op_at : ℕ → ℕ → Op)

@@ -77,7 +77,7 @@ module _ (setup : Setup) (me : ℕ) (c : Common) (account : Account) (flight : F
         (λ op words. IsOpRow p words op) p j (λ n. s.calls.sound p j hp (older p j n hj))
         (λ e f. subst (λ q. IsOpRow q (op_words_of flight.number flight.call)
         (record { seat = me; number = flight.number; call = flight.call })) (sym e) (op_row_sound me flight.number
-        flight.call k.begins.flies.some k.begins.flies.few k.begins.update));
+        flight.call k.begins.flies.some (omega (arith, k.begins.flies.few, s.opened.shape.limited)) k.begins.update));
   }
     where
       older : (p j : ℕ) → (p ≢ me) ⊎ (j ≢ (c.used me).op_rows) →

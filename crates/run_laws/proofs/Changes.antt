@@ -30,6 +30,7 @@ use Rattle.run_invariant.proofs.Change.{IsTry, IsChange, AreFree, Changes, leaf_
 use Rattle.run_laws.proofs.FromLaws.{can_change, few, goes, comes}
 use Rattle.list_laws.proofs.Options.{some_same, none_some}
 use Rattle.list_laws.proofs.Places.{at_index}
+use Rattle.plain_map.specs.Updates.{number_limit}
 
 module _ (setup : Setup) (c : Common) (me dir root bucket fresh : ℕ) (call : Call) (attempt : DirectoryTry)
     (found : List (Option Op)) (loaded : List LoadedBucket) (s : Shared setup c)
@@ -93,14 +94,16 @@ module _ (setup : Setup) (c : Common) (me dir root bucket fresh : ℕ) (call : C
       past (x ∷ xs) zero le = absurd (omega (arith, le))
       past (x ∷ xs) (suc k) le = past xs k (omega (arith, le))
 
-      by : (seat < length found) ⊎ (length found ≤ seat) → IsUpdate op.call × (op.number < 2 ^ 32)
+      by : (seat < length found) ⊎ (length found ≤ seat) → IsUpdate op.call × (op.number < number_limit)
       by (inr ge) = absurd (none_some (sym (past found seat ge) ∙ e))
       by (inl lt) = elim (t.entries seat lt).real [
         | inl none ↦ absurd (none_some (sym none ∙ e))
         | inr some ↦
             let same : c.op_at seat some.0 ≡ op = some_same (sym some.2 ∙ e) in
-            let row = s.calls.sound seat some.0 (omega (arith, lt, t.all)) some.1 in
-            (subst (λ (o : Op). IsUpdate o.call) same row.update, subst (λ (o : Op). o.number < 2 ^ 32) same row.few)
+            let row = s.calls.sound seat some.0 (omega (arith, lt, t.all)) some.1 in (
+              subst (λ (o : Op). IsUpdate o.call) same row.update,
+              subst (λ (o : Op). o.number < number_limit) same row.few,
+            )
       ]
 
   -- and so is what was loaded

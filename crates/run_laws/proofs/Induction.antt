@@ -8,7 +8,7 @@ use Rattle.step_counts.specs.declared.TheConstants.{ITEM_WORDS}
 use Rattle.step_counts.specs.declared.rows.SeatRows.{SeatRows}
 use Rattle.step_counts.specs.StepCounts.{bucket_row_words, directory_row_words, need_of, new_leaves}
 use Rattle.plain_map.specs.declared.calls.Call.{Call}
-use Rattle.plain_map.specs.declared.calls.Call.TheVariants.{Insert, Remove, Lookup, Tally}
+use Rattle.plain_map.specs.declared.calls.Call.TheVariants.{Insert, Remove, Lookup, Tally, Count, Put as Puts}
 use Rattle.plain_map.specs.declared.full.Full.{Full}
 use Rattle.plain_map.specs.declared.full.FullKind.TheVariants.{OpRows, BucketRows, BucketWords, DirRows}
 use Rattle.plain_map.specs.Calls.{key_in, is_update}
@@ -627,6 +627,8 @@ begins_none left need (Insert key value) e u = enough left need e
 begins_none left need (Remove key) e u = enough left need e
 begins_none left need (Lookup key) e u = cc
 begins_none left need (Tally key amount) e u = enough left need e
+begins_none left need (Count key value amount) e u = enough left need e
+begins_none left need (Puts key value) e u = enough left need e
 
 -- a call that may begin and is an update may be announced
 update_is : (call : Call) → IsAskable call → is_update call ≡ true → IsUpdate call
@@ -634,6 +636,8 @@ update_is (Insert key value) a u = a
 update_is (Remove key) a u = tt
 update_is (Lookup key) a u = cc
 update_is (Tally key amount) a u = a
+update_is (Count key value amount) a u = a
+update_is (Puts key value) a u = a
 
 -- the most leaves of a directory change
 most_is : (setup : Setup) → most_leaves setup ≡ new_leaves setup.shape.settings
@@ -642,7 +646,7 @@ most_is setup = refl
 
 -- a call that begins
 pub begun_keeps : (setup : Setup) (c : Common) (me : ℕ) (account : Account) (local : Local) (packet : ℕ) (call : Call)
-    → Rests setup c me account.used → CanBegin account (packet, call) → refusal_of setup me account call ≡ None →
+    → Rests setup c me account.used → CanBegin setup account (packet, call) → refusal_of setup me account call ≡ None →
     Keeps setup c me account.used (begun account packet call) local SeeDone
 begun_keeps setup c me account local packet call k can free = record {
   flies = flies;
@@ -669,7 +673,7 @@ begun_keeps setup c me account local packet call k can free = record {
 act_follows : (laws : BucketLaws) (changes : (setup : Setup) → Changes setup) (setup : Setup) (w : World) (me : ℕ)
     (h : me < seats_of setup) (c : Common) (locals : ℕ → Local) (a : Follows setup w c locals) (account : Account)
     (stand : Stand) (begin : Option (ℕ × Call)) →
-    KeepsStand setup c me account.used (locals me) stand → FitsStand account stand begin →
+    KeepsStand setup c me account.used (locals me) stand → FitsStand setup account stand begin →
     Holds setup (act setup w me account stand begin)
 act_follows laws changes setup w me h c locals a account Idle None k fits = record
     { common = c; locals = locals; follows = a }

@@ -19,7 +19,7 @@ use Rattle.run_laws.proofs.Induction.{Follows, common_after, acts, begun_keeps}
 pub record Begun (setup : Setup) (seat : ℕ) (account : Account) (flight : Flight) (phase : Phase) : Type 0 where
   pub packet : ℕ
   pub call : Call
-  pub can : CanBegin account (packet, call)
+  pub can : CanBegin setup account (packet, call)
   pub free : refusal_of setup seat account call ≡ None
   pub flight_is : flight ≡ begun account packet call
   pub phase_is : phase ≡ SeeDone
@@ -68,7 +68,7 @@ module _ (E : Type 0) (laws : BucketLaws) (changes : (setup : Setup) → Changes
   acted : (w : World) (a : HoldsWith E setup P w) (me : ℕ) (h : me < seats_of setup) (stand : Stand)
       (begin : Option (ℕ × Call)) → (seat_in w me).stand ≡ stand →
       KeepsStand setup a.common me (seat_in w me).account.used (a.locals me) stand →
-      FitsStand (seat_in w me).account stand begin →
+      FitsStand setup (seat_in w me).account stand begin →
       HoldsWith E setup P (act setup w me (seat_in w me).account stand begin)
   acted w a me h Idle None is k fits = a
   acted w a me h Idle (Some begin) is k fits = go (refusal_of setup me (seat_in w me).account begin.1) refl

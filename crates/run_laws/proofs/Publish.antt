@@ -26,6 +26,7 @@ use Rattle.run_invariant.proofs.RowLemmas.{answered, BucketLaws, made_sound, mad
 use Rattle.run_invariant.proofs.Events.{published}
 use Rattle.run_invariant.proofs.Invariant.{Calls, op_no, IsOwn, InRound, Directories, Comes, Common, Descends, Recalls, line, Local, Shared, Rows, Helped, IsRow, Keeps, Moves, Goes, HasOp, Leads, Carried, lead, last, row_room, bits, row_no, made_words}
 use Rattle.list_laws.proofs.Options.{some_same}
+use Rattle.plain_map.specs.Updates.{number_limit}
 
 ruleset writes = (put_is, put_at_is, eqb-true, eqb-false)
 
@@ -63,7 +64,7 @@ module _ (laws : BucketLaws) (setup : Setup) (me : ℕ) (c : Common) (account : 
       | inl z ↦ absurd (grind (arith, z, e))
       | inr r ↦ (let sound = s.calls.sound seat r.0 (omega (arith, k.all)) r.1 in
           let is : c.op_at seat r.0 ≡ op = some_same (sym r.2 ∙ e) in
-          (subst (λ o. IsUpdate o.call) is sound.update, subst (λ (o : Op). o.number < 2 ^ 32) is sound.few))
+          (subst (λ o. IsUpdate o.call) is sound.update, subst (λ (o : Op). o.number < number_limit) is sound.few))
     ]
   ]
 

@@ -151,18 +151,18 @@ module _ (g : Going) where
       }
 
   seen_few_from : (was words : List ℕ) → length was + length words ≤ seats_of g.setup →
-      AllFit (seen_so_far g was) words → All (λ w. w < 2 ^ 32) words
-  seen_few_from was [] h fits = All-nil (λ w. w < 2 ^ 32)
+      AllFit (seen_so_far g was) words → All (λ w. w < g.setup.shape.limit) words
+  seen_few_from was [] h fits = All-nil (λ w. w < g.setup.shape.limit)
   seen_few_from was (w ∷ ws) h fits =
       let one = length-more was w in
       let here = subst (λ (p : Phase). Fits (seeing g was p) w)
       (short_is (seats_of g.setup) (λ _. SeeDone) (λ _. after_seeing g.flight) was (omega (arith, h))) fits.0 in
-      All-cons (λ w. w < 2 ^ 32) w ws here.finds
+      All-cons (λ w. w < g.setup.shape.limit) w ws here.finds
       (seen_few_from (was ++ w ∷ []) ws (omega (arith, h, one))
       (subst (λ (k : Going). AllFit k ws) (seen_next was w (omega (arith, h))) fits.1))
 
   pub seen_few : (words : List ℕ) → length words ≤ seats_of g.setup → AllFit (seen_so_far g []) words →
-      All (λ w. w < 2 ^ 32) words
+      All (λ w. w < g.setup.shape.limit) words
   seen_few words h fits = seen_few_from [] words (omega (arith, h)) fits
 
 -- one step that only counts

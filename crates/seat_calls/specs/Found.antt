@@ -1,16 +1,16 @@
 -- The ops of all seats, found one after the other.
 use Rattle.std.specs.Prelude.{◌≡◌, ◌<◌, ◌^◌, ℕ, List, IfSome, Option, length, All}
 use Rattle.bucket_states.specs.declared.ops.Op.{Op}
-use Rattle.bucket_states.specs.Values.{IsUpdate}
+use Rattle.bucket_states.specs.Values.{number_limit, IsUpdate}
 use Rattle.table_model.specs.declared.rounds.Round.{Round}
 use Rattle.table_model.specs.Fits.{Makes}
 use Rattle.seat_calls.specs.Going.{Going, later}
 use Rattle.seat_calls.specs.Tries.{AnyTry, after_ops}
 
--- an update that can be kept, whose number has 32 bits
+-- an update that can be kept, whose number is below the limit
 pub record IsSmallOp (op : Op) : Type 0 where
   pub update : IsUpdate op.call
-  pub number : op.number < 2 ^ 32
+  pub number : op.number < number_limit
 
 -- so many steps later these ops are found
 pub record HasFound (first now : Going) (round : Round) (attempt : AnyTry) (found : List (Option Op))

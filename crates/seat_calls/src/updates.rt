@@ -98,7 +98,7 @@ pub fn update<S: Steps>(
     let mut op = [0; OP_WORDS];
     write_op(
         &OpRow {
-            number,
+            number: number as u64,
             call: *call,
         },
         &mut op,

@@ -16,7 +16,7 @@ pub fn is_applied(seat: u32, number: u32, bucket: &Bucket) -> bool
     ensures { result ≡ nat_le number (slice_index bucket.now.applied.items seat) }
 {
     match bucket.applied.get(seat as usize) {
-        Some(applied) => number <= *applied,
+        Some(applied) => number as u64 <= *applied,
         None => number == 0,
     }
 }

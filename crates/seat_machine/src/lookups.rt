@@ -42,7 +42,7 @@ impl Machine {
                 self.stage = Stage::FindRoot(Aim::ForLookup);
             } else {
                 let row = OpRow {
-                    number: self.number,
+                    number: self.number as u64,
                     call: self.call,
                 };
                 write_op(&row, &mut self.op);

@@ -8,7 +8,7 @@ use Rattle.step_counts.specs.declared.rows.SeatRows.{SeatRows}
 use Rattle.step_counts.specs.declared.settings.Settings.{Settings}
 use Rattle.step_counts.specs.StepCounts.{need_of}
 use Rattle.plain_map.specs.declared.calls.Call.{Call}
-use Rattle.plain_map.specs.declared.calls.Call.TheVariants.{Insert, Remove, Lookup, Tally}
+use Rattle.plain_map.specs.declared.calls.Call.TheVariants.{Insert, Remove, Lookup, Tally, Count, Put}
 use Rattle.plain_map.specs.declared.full.Full.{Full}
 use Rattle.plain_map.specs.declared.keys.Pair.{Pair}
 use Rattle.plain_map.specs.declared.records.Record.{Record}
@@ -61,6 +61,9 @@ less_refused left need (Insert key value) full is = less_first left need (Insert
 less_refused left need (Remove key) full is = less_first left need (Remove key) full refl is
 less_refused left need (Lookup key) full is = absurd (cc)
 less_refused left need (Tally key amount) full is = less_first left need (Tally key amount) full refl is
+less_refused left need (Count key value amount) full is =
+    less_first left need (Count key value amount) full refl is
+less_refused left need (Put key value) full is = less_first left need (Put key value) full refl is
 
 -- where room decides, it is so of each refused call of a log
 less_in : (rows need : SeatRows) (spent : List SeatRows) (log : List Outcome) → RefusedByRoom rows need [] spent log →

@@ -20,13 +20,14 @@ use Rattle.batch_runner.specs.Promises.{AreRight}
 use Rattle.batch_answers.specs.Answers.{printed_in}
 use Rattle.capture_loop.specs.Input.{packet_limit}
 use Rattle.command_line.specs.declared.plan.Plan.{Plan}
-use Rattle.report_text.specs.declared.parts.Ending.{Ending}
+use Rattle.capture_faults.specs.declared.ending.Ending.{Ending}
 use Rattle.report_text.specs.Report.{Report, report_of}
 use Rattle.step_counts.specs.Ranges.{IsWithin as Within}
 use Rattle.report_told.specs.Rules.{IsEndingTold, IsHead, IsTail, Rise, seed_in, times}
 use Rattle.report_told.specs.Points.{IsShortEnough, rules_told}
 use Rattle.report_told.specs.Verdicts.{Certified}
 use Rattle.report_promises.specs.Good.{GoodIsCertified, HasBegun, IsFitting, IsGood, begun_in, calls_begun, calls_ended}
+use Rattle.mode_parts.specs.Callings.{calling_of}
 use Rattle.mode_parts.specs.PacketCalls.{MakeCalls}
 use Rattle.serve_modes.specs.Served.{AreDone, IsWithin, run_report, tail_of}
 use Rattle.mode_parts.specs.Planned.{IsServiceOf, head_of}
@@ -52,9 +53,9 @@ rules_same plan service asks = λ i. record {
 -- The report of packets that were served is good. What a text can tell is given: of each call, of the head line and of
 -- the last lines.
 pub serve_is_good : (plan : Plan) (service : Service) (packets : List (List ℕ)) (calls : List (ℕ × Call))
-    (batches : List Served) (ending : Ending) → MakeCalls plan.framing 1 packets calls →
+    (batches : List Served) (ending : Ending) → MakeCalls (calling_of plan) 1 packets calls →
     AreDone plan service calls batches →
-    length packets ≤ packet_limit → All IsFitting calls → IsHead (head_of false plan) →
+    length packets ≤ packet_limit → All (IsFitting plan.calls) calls → IsHead (head_of false plan) →
     IsTail (head_of false plan) (tail_of service (length packets) batches ending) →
     IsGood (run_report plan service (length packets) batches ending) (all_calls [] (map (history_in service) batches))
 serve_is_good plan service packets calls batches ending made done few fitting head tail =
@@ -69,17 +70,17 @@ serve_is_good plan service packets calls batches ending made done few fitting he
     record {
       head = head;
       tail = tail;
-      asked = subst (All IsFitting) (sym asked) fitting;
+      asked = subst (All (IsFitting plan.calls)) (sym asked) fitting;
       seats = subst (λ (many : ℕ). All (λ (line : ℕ × Outcome). line.0 < many) lines) done.asks.settings.seats_are
           (seats_all service no_counts [] batches done.served);
       ended = ended_all (head_of false plan) service no_counts [] batches done.served done.asks.settings
           (omega (arith, head.settings.seats_in_range.1, length-replicate {A = ℕ} 8 0));
-      few = omega (arith, few, calls_few plan.framing 1 packets calls made, many_lines lines, ap length asked);
-      under_way = subst (λ (pending : List Pending). All IsFitting (calls_begun pending)) (sym none)
-          (All-nil IsFitting);
+      few = omega (arith, few, calls_few (calling_of plan) 1 packets calls made, many_lines lines, ap length asked);
+      under_way = subst (λ (pending : List Pending). All (IsFitting plan.calls) (calls_begun pending)) (sym none)
+          (All-nil (IsFitting plan.calls));
       begun = subst (All (HasBegun report)) (sym none) (All-nil (HasBegun report));
       rise = subst (λ (cs : List (ℕ × Call)). Rise (map (λ (call : ℕ × Call). call.0) cs)) (sym asked)
-          (calls_rise plan.framing 1 packets calls made);
+          (calls_rise (calling_of plan) 1 packets calls made);
       apart = λ packet some. absurd (omega (
         arith,
         some,
@@ -103,8 +104,8 @@ serve_is_good plan service packets calls batches ending made done few fitting he
 
 -- so its text is certified, where that of each call, of the seed and of the ending can be told
 pub serve_is_certified : GoodIsCertified → (plan : Plan) (service : Service) (packets : List (List ℕ))
-    (calls : List (ℕ × Call)) (batches : List Served) (ending : Ending) → MakeCalls plan.framing 1 packets calls →
-    AreDone plan service calls batches → length packets ≤ packet_limit → All IsFitting calls →
+    (calls : List (ℕ × Call)) (batches : List Served) (ending : Ending) → MakeCalls (calling_of plan) 1 packets calls →
+    AreDone plan service calls batches → length packets ≤ packet_limit → All (IsFitting plan.calls) calls →
     seed_in plan.hashing < 2 ^ 64 → Within 2048 65536 plan.batch → IsEndingTold ending →
     Certified (report_of (run_report plan service (length packets) batches ending))
 serve_is_certified certified plan service packets calls batches ending made done few fitting seed range told =

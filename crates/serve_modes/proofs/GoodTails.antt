@@ -18,7 +18,7 @@ use Rattle.trace_share.specs.declared.outcome.Outcome.{Outcome}
 use Rattle.batch_history.specs.Batches.{answered_then, no_counts}
 use Rattle.capture_loop.specs.Input.{packet_limit}
 use Rattle.command_line.specs.declared.plan.Plan.{Plan}
-use Rattle.report_text.specs.declared.parts.Ending.{Ending}
+use Rattle.capture_faults.specs.declared.ending.Ending.{Ending}
 use Rattle.report_told.specs.Rules.{IsEndingTold, IsTail}
 use Rattle.batch_deals.specs.declared.service.Service.{Service}
 use Rattle.batch_runner.specs.Served.{AreServed, IsServed, Served, depth_in, history_in, leaves_in, setup_of_batch, shape_in}
@@ -26,6 +26,7 @@ use Rattle.batch_runner.specs.Printed.{answers_in, most_steps, outcomes_in}
 use Rattle.batch_deals.proofs.Shallow.{shallow}
 use Rattle.batch_runner.proofs.TotalLemmas.{refused_fit}
 use Rattle.report_promises.specs.Good.{calls_ended}
+use Rattle.mode_parts.specs.Callings.{calling_of}
 use Rattle.mode_parts.specs.PacketCalls.{MakeCalls}
 use Rattle.serve_modes.specs.Served.{AreDone, depth_left, leaves_left, tail_of}
 use Rattle.mode_parts.specs.Planned.{head_of}
@@ -154,7 +155,7 @@ many_outcomes service calls batches asked =
 -- ---- the last lines
 
 pub tail_told : (plan : Plan) (service : Service) (packets : List (List ℕ)) (calls : List (ℕ × Call))
-    (batches : List Served) (ending : Ending) → MakeCalls plan.framing 1 packets calls →
+    (batches : List Served) (ending : Ending) → MakeCalls (calling_of plan) 1 packets calls →
     AreDone plan service calls batches →
     length packets ≤ packet_limit → IsEndingTold ending →
     IsTail (head_of false plan) (tail_of service (length packets) batches ending)
@@ -164,7 +165,7 @@ tail_told plan service packets calls batches ending made done few told =
     let many : length outcomes ≡ length calls = many_outcomes service calls batches
     (asked_all service no_counts [] batches done.served ∙ done.cut.parts) in
     let calls_small : length outcomes ≤ 4000000 = omega
-    (arith, many, few, calls_few plan.framing 1 packets calls made) in
+    (arith, many, few, calls_few (calling_of plan) 1 packets calls made) in
     record {
       leaves = omega (arith, leaves_end service 0 [] batches (omega arith) done.served);
       depth = omega (arith, depth_end service 0 [] batches (omega arith) done.served);

@@ -7,8 +7,8 @@ use Rattle.std.proofs.KnownBytes.{Consumes-nil}
 use Rattle.std.specs.List.{All, AllByRecursion, flat_map}
 use Rattle.std.proofs.lemmas.List.{length-map, length-take-le, nil_from_length}
 use Rattle.plain_map.specs.declared.calls.Call.{Call}
-use Rattle.report_text.specs.declared.parts.Ending.{Ending}
-use Rattle.report_text.specs.declared.parts.Ending.TheVariants.{Done, ReadFault, Limit, Fault}
+use Rattle.capture_faults.specs.declared.ending.Ending.{Ending}
+use Rattle.capture_faults.specs.declared.ending.Ending.TheVariants.{Done, ReadFault, Limit, Fault}
 use Rattle.report_text.specs.Report.{report_of}
 use Rattle.batch_deals.specs.declared.service.Service.{Service}
 use Rattle.batch_runner.specs.Served.{Served}
@@ -22,7 +22,8 @@ use Rattle.step_counts.specs.Ranges.{IsWithin}
 use Rattle.report_told.specs.Rules.{IsEndingTold, seed_in}
 use Rattle.report_told.specs.Verdicts.{Certified}
 use Rattle.report_promises.specs.Good.{GoodIsCertified}
-use Rattle.packet_heads.specs.declared.framing.Framing.{Framing}
+use Rattle.mode_parts.specs.Callings.{calling_of}
+use Rattle.mode_parts.specs.declared.calling.Calling.{Calling}
 use Rattle.packet_heads.specs.Links.{number_in}
 use Rattle.mode_parts.specs.declared.status.Status.TheVariants as status
 use Rattle.serve_modes.specs.Batches.{AreOfBatches, IsOfBatch, batch_count}
@@ -45,43 +46,43 @@ abbrev all_in : List Served → List (ℕ × Call)
 all_in served = flat_map (λ (calls : List (ℕ × Call)). calls) (calls_in served)
 
 -- packets behind packets make the calls of both
-MakeCalls-append : (framing : Framing) (packets : List (List ℕ)) (n : ℕ) (calls : List (ℕ × Call))
+MakeCalls-append : (calling : Calling) (packets : List (List ℕ)) (n : ℕ) (calls : List (ℕ × Call))
     (others : List (List ℕ))
-    (more : List (ℕ × Call)) → MakeCalls framing n packets calls → MakeCalls framing (n + length packets) others more →
-    MakeCalls framing n (packets ++ others) (calls ++ more)
-MakeCalls-append framing [] n calls others more none behind =
+    (more : List (ℕ × Call)) → MakeCalls calling n packets calls → MakeCalls calling (n + length packets) others more →
+    MakeCalls calling n (packets ++ others) (calls ++ more)
+MakeCalls-append calling [] n calls others more none behind =
     let same : n + 0 ≡ n = omega arith in
-    subst (λ (l : List (ℕ × Call)). MakeCalls framing n others (l ++ more)) (sym none)
-    (subst (λ (k : ℕ). MakeCalls framing k others more) same behind)
-MakeCalls-append framing (packet ∷ packets) n calls others more made behind =
+    subst (λ (l : List (ℕ × Call)). MakeCalls calling n others (l ++ more)) (sym none)
+    (subst (λ (k : ℕ). MakeCalls calling k others more) same behind)
+MakeCalls-append calling (packet ∷ packets) n calls others more made behind =
     let same : n + length (packet ∷ packets) ≡ suc n + length packets = omega arith in (
       made.0,
       made.1 ++ more,
       made.2,
-      MakeCalls-append framing packets (suc n) made.1 others more made.3
-          (subst (λ (k : ℕ). MakeCalls framing k others more) same behind),
+      MakeCalls-append calling packets (suc n) made.1 others more made.3
+          (subst (λ (k : ℕ). MakeCalls calling k others more) same behind),
       ap (λ (l : List (ℕ × Call)). l ++ more) made.4 ∙ append_assoc (numbered n made.0) made.1 more,
     )
 
 -- all packets make all calls
-calls_made : (framing : Framing) (batches : List (List (List ℕ))) (before : ℕ) (served : List Served) →
-    AreServedOf framing batches before served →
-    MakeCalls framing (before + 1) (joined batches) (all_in served)
-calls_made framing [] before served none = ap all_in none
-calls_made framing (batch ∷ batches) before served are =
+calls_made : (calling : Calling) (batches : List (List (List ℕ))) (before : ℕ) (served : List Served) →
+    AreServedOf calling batches before served →
+    MakeCalls calling (before + 1) (joined batches) (all_in served)
+calls_made calling [] before served none = ap all_in none
+calls_made calling (batch ∷ batches) before served are =
     let same : before + length batch + 1 ≡ before + 1 + length batch = omega arith in
-    subst (λ (s : List Served). MakeCalls framing (before + 1) (batch ++ joined batches) (all_in s)) (sym are.2)
-    (MakeCalls-append framing batch (before + 1) are.0.calls (joined batches) (all_in are.1) are.3
-    (subst (λ (k : ℕ). MakeCalls framing k (joined batches) (all_in are.1)) same
-    (calls_made framing batches (before + length batch) are.1 are.5)))
+    subst (λ (s : List Served). MakeCalls calling (before + 1) (batch ++ joined batches) (all_in s)) (sym are.2)
+    (MakeCalls-append calling batch (before + 1) are.0.calls (joined batches) (all_in are.1) are.3
+    (subst (λ (k : ℕ). MakeCalls calling k (joined batches) (all_in are.1)) same
+    (calls_made calling batches (before + length batch) are.1 are.5)))
 
 -- there are as many batches of calls
-same_count : (framing : Framing) (batches : List (List (List ℕ))) (before : ℕ) (served : List Served) →
-    AreServedOf framing batches before served →
+same_count : (calling : Calling) (batches : List (List (List ℕ))) (before : ℕ) (served : List Served) →
+    AreServedOf calling batches before served →
     length served ≡ length batches
-same_count framing [] before served none = ap length none
-same_count framing (batch ∷ batches) before served are =
-    ap length are.2 ∙ ap suc (same_count framing batches (before + length batch) are.1 are.5)
+same_count calling [] before served none = ap length none
+same_count calling (batch ∷ batches) before served are =
+    ap length are.2 ∙ ap suc (same_count calling batches (before + length batch) are.1 are.5)
 
 -- whole batches, but for the last
 abbrev AreCut : (size : ℕ) → List (List (List ℕ)) → Type 0
@@ -118,30 +119,30 @@ batch_at size j before batch batches first others whole few full between many ne
     subst (λ (n : ℕ). All (IsOfBatch size n) (slice_index_or (calls_in others) m [])) same
     (next (full some) m (omega (arith, inside)))
 
-batch_of : (size : ℕ) (framing : Framing) (batches : List (List (List ℕ))) (j before : ℕ) (served : List Served) →
-    AreServedOf framing batches before served → size * j ≡ before → AreCut size batches → (k : ℕ) →
+batch_of : (size : ℕ) (calling : Calling) (batches : List (List (List ℕ))) (j before : ℕ) (served : List Served) →
+    AreServedOf calling batches before served → size * j ≡ before → AreCut size batches → (k : ℕ) →
     k < length (calls_in served) → All (IsOfBatch size (j + k)) (slice_index_or (calls_in served) k [])
-batch_of size framing [] j before served none whole cut k within =
+batch_of size calling [] j before served none whole cut k within =
     absurd (omega (arith, within, ap (λ (s : List Served). length (calls_in s)) none))
-batch_of size framing (batch ∷ batches) j before served are whole cut k within =
+batch_of size calling (batch ∷ batches) j before served are whole cut k within =
     subst (λ (s : List Served). All (IsOfBatch size (j + k)) (slice_index_or (calls_in s) k [])) (sym are.2)
     (batch_at size j before batch batches are.0 are.1 whole cut.0 cut.1 are.4
-    (same_count framing batches (before + length batch) are.1 are.5)
+    (same_count calling batches (before + length batch) are.1 are.5)
     (λ full m inside.
-    batch_of size framing batches (suc j) (before + length batch) are.1 are.5
+    batch_of size calling batches (suc j) (before + length batch) are.1 are.5
     (batch_more size j before whole ∙ ap (λ (n : ℕ). before + n) (sym full)) cut.2 m inside) k
     (subst (λ (s : List Served). k < length (calls_in s)) are.2 within))
 
-cut_of : (size : ℕ) (framing : Framing) (batches : List (List (List ℕ))) (served : List Served) →
-    AreServedOf framing batches 0 served → AreCut size batches →
+cut_of : (size : ℕ) (calling : Calling) (batches : List (List (List ℕ))) (served : List Served) →
+    AreServedOf calling batches 0 served → AreCut size batches →
     AreOfBatches size (all_in served) (calls_in served)
-cut_of size framing batches served are cut =
+cut_of size calling batches served are cut =
     record {
       parts = refl;
       each = λ k within.
           let same : 0 + k ≡ k = omega arith in
           subst (λ (n : ℕ). All (IsOfBatch size n) (slice_index_or (calls_in served) k [])) same
-          (batch_of size framing batches 0 0 served are (mul-zero size) cut k within);
+          (batch_of size calling batches 0 0 served are (mul-zero size) cut k within);
     }
 
 whole_length : (size : ℕ) (batches : List (List (List ℕ))) → AllByRecursion (IsWhole size) batches →
@@ -187,17 +188,17 @@ module _ (law : ServedArePromised) (plan : Plan) (range : IsWithin 2048 65536 pl
   done service batches served is cut =
       record {
         asks = is.asks;
-        cut = cut_of plan.batch plan.framing batches served is.of cut;
+        cut = cut_of plan.batch (calling_of plan) batches served is.of cut;
         served = is.each;
         promised = law service served is.each;
       }
 
   made : (packets : List (List ℕ)) (batches : List (List (List ℕ))) (served : List Served) →
-      joined batches ≡ packets → AreServedOf plan.framing batches 0 served →
-      MakeCalls plan.framing 1 packets (all_in served)
+      joined batches ≡ packets → AreServedOf (calling_of plan) batches 0 served →
+      MakeCalls (calling_of plan) 1 packets (all_in served)
   made packets batches served is are =
-      subst (λ (ps : List (List ℕ)). MakeCalls plan.framing 1 ps (all_in served)) is
-      (calls_made plan.framing batches 0 served are)
+      subst (λ (ps : List (List ℕ)). MakeCalls (calling_of plan) 1 ps (all_in served)) is
+      (calls_made (calling_of plan) batches 0 served are)
 
   cut_batches : (packets : List (List ℕ)) (batches : List (List (List ℕ))) → AreBatches plan.batch packets batches →
       AreCut plan.batch batches
@@ -208,13 +209,13 @@ module _ (law : ServedArePromised) (plan : Plan) (range : IsWithin 2048 65536 pl
   pub served_at : (packets : List (List ℕ)) (batches : List (List (List ℕ))) (service : Service)
       (served : List Served) →
       AreBatches plan.batch packets batches → IsServedSo plan service batches served →
-      (calls : List (ℕ × Call)) × MakeCalls plan.framing 1 packets calls × AreDone plan service calls served
+      (calls : List (ℕ × Call)) × MakeCalls (calling_of plan) 1 packets calls × AreDone plan service calls served
       × (length served ≡ batch_count plan.batch (length packets))
   served_at packets batches service served cut is = (
     all_in served,
     made packets batches served cut.all is.of,
     done service batches served is (cut_batches packets batches cut),
-    same_count plan.framing batches 0 served is.of
+    same_count (calling_of plan) batches 0 served is.of
         ∙ all_count plan.batch packets batches (omega (arith, range.0)) cut,
   )
 
@@ -230,7 +231,7 @@ module _ (law : ServedArePromised) (plan : Plan) (range : IsWithin 2048 65536 pl
           lines.0,
           lines.1,
           done lines.0 batches lines.1 lines.2 (cut_whole plan.batch batches whole.each),
-          ap (λ (n : ℕ). plan.batch * n) (same_count plan.framing batches 0 lines.1 lines.2.of)
+          ap (λ (n : ℕ). plan.batch * n) (same_count (calling_of plan) batches 0 lines.1 lines.2.of)
               ∙ whole_length plan.batch batches whole.each ∙ ap length whole.parts,
           lines.3,
         ),
@@ -286,14 +287,14 @@ module _ (law : ServedArePromised) (plan : Plan) (range : IsWithin 2048 65536 pl
     certified_at bytes left ending text told reports =
         let packets : List (List ℕ) = reports.0 in
         let calls : List (ℕ × Call) = reports.2.0 in
-        let makes : MakeCalls plan.framing 1 packets calls = reports.2.1 in
+        let makes : MakeCalls (calling_of plan) 1 packets calls = reports.2.1 in
         let report = reports.2.2 in
         subst Certified (sym report.4)
         (serve_is_certified good plan report.0 packets calls report.1 ending makes report.2
-        (few_served bytes left packets ending reports.1) (calls_fit plan.framing 1 packets calls makes) seed
+        (few_served bytes left packets ending reports.1) (calls_fit (calling_of plan) 1 packets calls makes) seed
         range told)
 
-  module _ (read_failed : Type 0) (bytes : List ℕ) (left before after : Option (List ℕ)) where
+  module _ (can_end : Ending → Type 0) (bytes : List ℕ) (left before after : Option (List ℕ)) where
     put_whole : GoodIsCertified → seed_in plan.hashing < 2 ^ 64 → (ending : Ending) → IsEndingTold ending →
         PutsInput plan.batch (number_in plan.framing.link) (IsWholeReport plan) bytes left before after ending →
         PutsReport plan bytes left before after ending
@@ -302,19 +303,19 @@ module _ (law : ServedArePromised) (plan : Plan) (range : IsWithin 2048 65536 pl
         (puts.0, (reports, certified_at good seed bytes left ending puts.0 told reports), puts.2)
 
     of_ok : GoodIsCertified → seed_in plan.hashing < 2 ^ 64 → (ending : Ending) → IsEndingTold ending →
-        LoopLeaves plan.batch (number_in plan.framing.link) (IsLines plan) (IsWholeReport plan) read_failed bytes left
+        LoopLeaves plan.batch (number_in plan.framing.link) (IsLines plan) (IsWholeReport plan) can_end bytes left
         before
         after (Ok ending) →
-        Leaves plan read_failed bytes left before after (status_of ending)
+        Leaves plan can_end bytes left before after (status_of ending)
     of_ok good seed (Done rest) told leaves = (rest, put_whole good seed (Done rest) told leaves.1)
     of_ok good seed ReadFault told leaves = put_whole good seed ReadFault told leaves.1
     of_ok good seed (Limit limit) told leaves = (limit, put_whole good seed (Limit limit) told leaves.1)
     of_ok good seed (Fault found) told leaves = put_whole good seed (Fault found) told leaves.1
 
-    of_not_put : LoopLeaves plan.batch (number_in plan.framing.link) (IsLines plan) (IsWholeReport plan) read_failed
+    of_not_put : LoopLeaves plan.batch (number_in plan.framing.link) (IsLines plan) (IsWholeReport plan) can_end
         bytes left
         before after (Err NotPut) →
-        Leaves plan read_failed bytes left before after status.WriteFault
+        Leaves plan can_end bytes left before after status.WriteFault
     of_not_put (inl ended) =
         inl (
           ended.0,
@@ -323,10 +324,10 @@ module _ (law : ServedArePromised) (plan : Plan) (range : IsWithin 2048 65536 pl
         )
     of_not_put (inr begun) = inr (begun.0, begun.1, (begun.2.0, front_of begun.0 begun.2.0 begun.2.1, begun.2.2))
 
-    of_memory : LoopLeaves plan.batch (number_in plan.framing.link) (IsLines plan) (IsWholeReport plan) read_failed
+    of_memory : LoopLeaves plan.batch (number_in plan.framing.link) (IsLines plan) (IsWholeReport plan) can_end
         bytes left
         before after (Err Memory) →
-        Leaves plan read_failed bytes left before after status.Memory
+        Leaves plan can_end bytes left before after status.Memory
     of_memory (inl kept) = inl kept
     of_memory (inr (inl ended)) =
         let told = ended.2.1 in
@@ -338,27 +339,27 @@ module _ (law : ServedArePromised) (plan : Plan) (range : IsWithin 2048 65536 pl
     of_memory (inr (inr begun)) =
         inr (inr (begun.0, begun.1, (begun.2.0, front_of begun.0 begun.2.0 begun.2.1, begun.2.2)))
 
-  module _ (read_failed : Type 0) (first left before after : Option (List ℕ)) where
+  module _ (can_end : Ending → Type 0) (first left before after : Option (List ℕ)) where
     ok_at : GoodIsCertified → seed_in plan.hashing < 2 ^ 64 → (ending : Ending) → IsEndingTold ending →
-        LoopLeavesAll plan.batch (IsLines plan) (IsWholeReport plan) read_failed (number_in plan.framing.link) first
+        LoopLeavesAll plan.batch (IsLines plan) (IsWholeReport plan) can_end (number_in plan.framing.link) first
         left before
         after (Ok ending) →
-        (bytes : List ℕ) → first ≡ Some bytes → Leaves plan read_failed bytes left before after (status_of ending)
+        (bytes : List ℕ) → first ≡ Some bytes → Leaves plan can_end bytes left before after (status_of ending)
     ok_at good seed ending told leaves bytes is =
-        of_ok read_failed bytes left before after good seed ending told (leaves.told bytes is)
+        of_ok can_end bytes left before after good seed ending told (leaves.told bytes is)
 
     ok_all : GoodIsCertified → seed_in plan.hashing < 2 ^ 64 → (ending : Ending) → IsEndingTold ending →
-        LoopLeavesAll plan.batch (IsLines plan) (IsWholeReport plan) read_failed (number_in plan.framing.link) first
+        LoopLeavesAll plan.batch (IsLines plan) (IsWholeReport plan) can_end (number_in plan.framing.link) first
         left before
         after (Ok ending) →
-        LeavesAll plan read_failed first left before after (status_of ending)
+        LeavesAll plan can_end first left before after (status_of ending)
     ok_all good seed (Done rest) told leaves =
         record {
           told = ok_at good seed (Done rest) told leaves;
           took = (
             leaves.took.0,
             leaves.took.1,
-            of_ok read_failed leaves.took.0 (Some []) before after good seed (Done rest) told leaves.took.2,
+            of_ok can_end leaves.took.0 (Some []) before after good seed (Done rest) told leaves.took.2,
           );
         }
     ok_all good seed ReadFault told leaves =
@@ -367,7 +368,7 @@ module _ (law : ServedArePromised) (plan : Plan) (range : IsWithin 2048 65536 pl
           took = (
             leaves.took.0,
             leaves.took.1,
-            of_ok read_failed leaves.took.0 (Some []) before after good seed ReadFault told leaves.took.2,
+            of_ok can_end leaves.took.0 (Some []) before after good seed ReadFault told leaves.took.2,
           );
         }
     ok_all good seed (Limit limit) told leaves =
@@ -376,7 +377,7 @@ module _ (law : ServedArePromised) (plan : Plan) (range : IsWithin 2048 65536 pl
           took = (
             leaves.took.0,
             leaves.took.1,
-            of_ok read_failed leaves.took.0 (Some []) before after good seed (Limit limit) told leaves.took.2,
+            of_ok can_end leaves.took.0 (Some []) before after good seed (Limit limit) told leaves.took.2,
           );
         }
     ok_all good seed (Fault found) told leaves =
@@ -385,35 +386,35 @@ module _ (law : ServedArePromised) (plan : Plan) (range : IsWithin 2048 65536 pl
           took = (
             leaves.took.0,
             leaves.took.1,
-            of_ok read_failed leaves.took.0 (Some []) before after good seed (Fault found) told leaves.took.2,
+            of_ok can_end leaves.took.0 (Some []) before after good seed (Fault found) told leaves.took.2,
           );
         }
 
     pub leaves_all : GoodIsCertified → seed_in plan.hashing < 2 ^ 64 → (result : Result Ending Stop) →
         IfOk result IsEndingTold →
-        LoopLeavesAll plan.batch (IsLines plan) (IsWholeReport plan) read_failed (number_in plan.framing.link) first
+        LoopLeavesAll plan.batch (IsLines plan) (IsWholeReport plan) can_end (number_in plan.framing.link) first
         left before
         after result →
-        LeavesAll plan read_failed first left before after (status_by result)
+        LeavesAll plan can_end first left before after (status_by result)
     leaves_all good seed (Ok ending) told leaves = ok_all good seed ending told leaves
     leaves_all good seed (Err NotPut) told leaves =
         record {
-          told = λ bytes is. of_not_put read_failed bytes left before after (leaves.told bytes is);
+          told = λ bytes is. of_not_put can_end bytes left before after (leaves.told bytes is);
           took = (
             leaves.took.0,
             leaves.took.1,
-            of_not_put read_failed leaves.took.0 (Some []) before after leaves.took.2,
+            of_not_put can_end leaves.took.0 (Some []) before after leaves.took.2,
           );
         }
     leaves_all good seed (Err Memory) told leaves =
         record {
-          told = λ bytes is. of_memory read_failed bytes left before after (leaves.told bytes is);
+          told = λ bytes is. of_memory can_end bytes left before after (leaves.told bytes is);
           took = (
             leaves.took.0,
             (
               leaves.took.1.0,
               leaves.took.1.1,
-              of_memory read_failed leaves.took.1.0 (Some []) before after leaves.took.1.2,
+              of_memory can_end leaves.took.1.0 (Some []) before after leaves.took.1.2,
             ),
           );
         }
@@ -430,16 +431,16 @@ reads_by (Err Memory) before after failed = failed
 reads_by (Err NotPut) before after failed = failed
 
 -- nothing was read, and nothing put
-pub leaves_nothing : (plan : Plan) (read_failed : Type 0) (first left before after : Option (List ℕ)) →
-    Keeps before after → LeavesAll plan read_failed first left before after status.Memory
-leaves_nothing plan read_failed first left before after kept =
+pub leaves_nothing : (plan : Plan) (can_end : Ending → Type 0) (first left before after : Option (List ℕ)) →
+    Keeps before after → LeavesAll plan can_end first left before after status.Memory
+leaves_nothing plan can_end first left before after kept =
     record { told = λ bytes told. inl kept; took = (first, ([], Consumes-nil first, inl kept)) }
 
 -- memory ran out before anything was read
-pub leaves_none : (plan : Plan) (read_failed : Type 0) (first left before after : Option (List ℕ))
+pub leaves_none : (plan : Plan) (can_end : Ending → Type 0) (first left before after : Option (List ℕ))
     (result : Result Ending Stop) → IsErr result × IsErrAnd result (λ (stop : Stop). stop ≡ Memory) →
-    Keeps before after → LeavesAll plan read_failed first left before after (status_by result)
-leaves_none plan read_failed first left before after (Ok ending) is kept = absurd (cc)
-leaves_none plan read_failed first left before after (Err stop) is kept =
-    subst (λ (s : Stop). LeavesAll plan read_failed first left before after (status_by (Err s))) (sym is.1)
-    (leaves_nothing plan read_failed first left before after kept)
+    Keeps before after → LeavesAll plan can_end first left before after (status_by result)
+leaves_none plan can_end first left before after (Ok ending) is kept = absurd (cc)
+leaves_none plan can_end first left before after (Err stop) is kept =
+    subst (λ (s : Stop). LeavesAll plan can_end first left before after (status_by (Err s))) (sym is.1)
+    (leaves_nothing plan can_end first left before after kept)

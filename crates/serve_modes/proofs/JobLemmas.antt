@@ -3,7 +3,7 @@ use Rattle.std.proofs.Common.{◌≡◌, ℕ, ◌+◌, List, Result, Ok, Err, []
 use Rattle.std.specs.List.{flat_map}
 use Rattle.std.specs.Prelude.{OnOk, false}
 use Rattle.std.proofs.lemmas.List.Elements.{All-weaker}
-use Rattle.flow_keys.specs.FlowText.{HasText}
+use Rattle.key_texts.specs.FlowText.{HasText}
 use Rattle.plain_map.specs.Calls.{key_in}
 use Rattle.trace_share.specs.declared.deals.Share.{Share}
 use Rattle.trace_share.specs.Deal.{dealt}
@@ -14,14 +14,15 @@ use Rattle.batch_runner.specs.declared.workers.SeatWorker.{SeatWorker}
 use Rattle.batch_deals.specs.declared.dealing.Dealt.{Dealt}
 use Rattle.batch_deals.specs.Dealt.{IsDealt, shares_of}
 use Rattle.plain_map.specs.declared.calls.Call.{Call}
-use Rattle.report_text.specs.declared.parts.Ending.{Ending}
+use Rattle.capture_faults.specs.declared.ending.Ending.{Ending}
 use Rattle.report_text.specs.Report.{batch_lines, head_line, report_of, session_line, tail_lines}
 use Rattle.batch_deals.specs.declared.service.Service.{Service}
 use Rattle.batch_runner.specs.Served.{Served}
 use Rattle.batch_runner.specs.Printed.{lines_of}
 use Rattle.command_line.specs.declared.plan.Plan.{Plan}
+use Rattle.mode_parts.specs.Callings.{calling_of}
 use Rattle.serve_modes.specs.declared.serving.Serving.{Serving}
-use Rattle.packet_heads.specs.declared.framing.Framing.{Framing}
+use Rattle.mode_parts.specs.declared.calling.Calling.{Calling}
 use Rattle.mode_parts.specs.PacketCalls.{MakeCalls}
 use Rattle.serve_modes.specs.Progress.{HasServed, HasTexts}
 use Rattle.mode_parts.specs.Reading.{AreBetween, IsBetween}
@@ -45,27 +46,27 @@ joined-more (first ∷ batches) batch =
     ∙ sym (append_assoc first (joined batches) batch)
 
 -- one more was served
-pub served_more : (framing : Framing) (batches : List (List (List ℕ))) (before : ℕ) (served : List Served)
+pub served_more : (calling : Calling) (batches : List (List (List ℕ))) (before : ℕ) (served : List Served)
     (batch : List (List ℕ))
-    (one : Served) (many : ℕ) → AreServedOf framing batches before served → many ≡ before + length (joined batches) →
-    MakeCalls framing (many + 1) batch one.calls → AreBetween many (many + length batch) one.calls →
-    AreServedOf framing (batches ++ batch ∷ []) before (served ++ one ∷ [])
-served_more framing [] before served batch one many none is make between =
+    (one : Served) (many : ℕ) → AreServedOf calling batches before served → many ≡ before + length (joined batches) →
+    MakeCalls calling (many + 1) batch one.calls → AreBetween many (many + length batch) one.calls →
+    AreServedOf calling (batches ++ batch ∷ []) before (served ++ one ∷ [])
+served_more calling [] before served batch one many none is make between =
     let same : many ≡ before = omega (arith, is) in (
       one,
       [],
       ap (λ (s : List Served). s ++ one ∷ []) none,
-      subst (λ (n : ℕ). MakeCalls framing (n + 1) batch one.calls) same make,
+      subst (λ (n : ℕ). MakeCalls calling (n + 1) batch one.calls) same make,
       subst (λ (n : ℕ). AreBetween n (n + length batch) one.calls) same between,
       refl,
     )
-served_more framing (first ∷ batches) before served batch one many are is make between = (
+served_more calling (first ∷ batches) before served batch one many are is make between = (
   are.0,
   are.1 ++ one ∷ [],
   ap (λ (s : List Served). s ++ one ∷ []) are.2,
   are.3,
   are.4,
-  served_more framing batches (before + length first) are.1 batch one many are.5
+  served_more calling batches (before + length first) are.1 batch one many are.5
       (omega (arith, is, length-append first (joined batches))) make between,
 )
 
@@ -83,7 +84,7 @@ pub done_more : {K : Type 0} {holds : K → List Outcome → Type 0} {room : K �
     (workers : List (SeatWorker K)) (many : ℕ) (one : Served) (text text_then : List ℕ) →
     (done : HasDone old plan batches put) → old.packets ≡ before →
     HasOpenedFor holds room old t workers many before packets → one.calls ≡ old.calls.items →
-    new.service ≡ old.service → new.framing ≡ old.framing →
+    new.service ≡ old.service → new.calling ≡ old.calling →
     new.packets ≡ old.packets + many → HasServed old.service new.progress (done.served ++ one ∷ []) →
     text_then ≡ text ++ batch_lines old.service.settings.seats (lines_of old.service old.progress.before one) →
     (lines : List ℕ) × (text_then ≡ text ++ lines) × HasDone new plan (batches ++ packets ∷ []) (put ++ lines)
@@ -103,9 +104,9 @@ done_more plan old new batches put before packets t workers many one text text_t
         asks = subst (IsServiceOf plan) (sym service) done.asks;
         framed = framed ∙ done.framed;
         has = subst (λ (s : Service). HasServed s new.progress (done.served ++ one ∷ [])) (sym service) has;
-        of = served_more plan.framing batches 0 done.served packets one before done.of behind
-            (subst (λ (f : Framing). MakeCalls f (before + 1) packets one.calls) done.framed
-            (subst (MakeCalls old.framing (before + 1) packets) (sym calls) opened.make))
+        of = served_more (calling_of plan) batches 0 done.served packets one before done.of behind
+            (subst (λ (f : Calling). MakeCalls f (before + 1) packets one.calls) done.framed
+            (subst (MakeCalls old.calling (before + 1) packets) (sym calls) opened.make))
             (subst (AreBetween before (before + length packets)) (sym calls) opened.between);
         count = omega (
           arith,
@@ -121,7 +122,7 @@ done_more plan old new batches put before packets t workers many one text text_t
 
 -- before any batch
 pub done_none : (job : Serving) (plan : Plan) (text : List ℕ) → job.packets ≡ 0 → IsServiceOf plan job.service →
-    job.framing ≡ plan.framing → HasServed job.service job.progress [] → text ≡ head_line (head_of false plan) →
+    job.calling ≡ calling_of plan → HasServed job.service job.progress [] → text ≡ head_line (head_of false plan) →
     HasDone job plan [] text
 done_none job plan text none asks framed has is =
     record {

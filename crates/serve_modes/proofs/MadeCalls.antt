@@ -19,13 +19,14 @@ use Rattle.plain_map.specs.declared.keys.Key.{Key}
 use Rattle.flow_keys.specs.Flow.{call_by, flow_key, has_flag}
 use Rattle.pcap_reader.specs.Capture.{Saved}
 use Rattle.pcap_reader.specs.Made.{drawn, flags_in, flow_in, frame_in, made_frame, made_saved, sides_in, tcp_frame, udp_flows, udp_frame}
+use Rattle.mode_parts.specs.Callings.{plain_calling}
 use Rattle.mode_parts.specs.PacketCalls.{MakesCall, MakeCalls, numbered}
 use Rattle.serve_modes.proofs.TrialCounts.{HasNoTally, is_tally}
 
 -- TCP without payload, or UDP
 abbrev HasNoPayload : Protocol → Type 0
 HasNoPayload (Tcp flags payload) = payload ≡ 0
-HasNoPayload Udp = Unit {0}
+HasNoPayload (Udp payload) = Unit {0}
 
 -- such a packet makes no tally
 no_tally_of : (protocol : Protocol) (key : Key) (packet : ℕ) → HasNoPayload protocol →
@@ -39,7 +40,7 @@ no_tally_of (Tcp flags payload) key packet none =
     by true asks = refl
     by false true = refl
     by false false = refl
-no_tally_of Udp key packet none = refl
+no_tally_of (Udp payload) key packet none = refl
 
 -- an IPv4 packet in a frame without a tag
 carried_plain : (frame : List ℕ) → 14 ≤ length frame → big_from 12 2 frame ≡ 0x0800 →
@@ -66,7 +67,7 @@ tcp_none flags draw heads has =
         read.1
         ∙ ap (λ (h : ℕ).
         payload_behind (slice_index packet (h + 12) / 16) (count_behind (big_from 2 2 packet) h)) is
-    fields head Udp is read = tt
+    fields head (Udp payload) is read = tt
 
 -- a made UDP frame is no TCP's
 udp_none : (draw : ℕ) (heads : Heads) →
@@ -82,7 +83,7 @@ udp_none draw heads has =
 
     by_number : (protocol : Protocol) → 17 ≡ number_of protocol → HasNoPayload protocol
     by_number (Tcp own payload) is = absurd (omega (arith, is))
-    by_number Udp is = tt
+    by_number (Udp payload) is = tt
 
 -- whichever frame is drawn
 frame_none : (draw : ℕ) (heads : Heads) → HasHeads plain_framing (frame_in draw) heads → HasNoPayload heads.protocol
@@ -102,7 +103,7 @@ IsMadeFrame number packet = (place : ℕ) × (packet ≡ made_frame number place
 
 -- makes no tally
 made_none : (number k : ℕ) (packet : List ℕ) (made : Option Call) → IsMadeFrame number packet →
-    MakesCall plain_framing k packet made → HasNoTally (numbered k made)
+    MakesCall plain_calling k packet made → HasNoTally (numbered k made)
 made_none number k packet (Some call) is makes =
     let heads : Heads = makes.0 in
     let none = frame_none (drawn number is.0) heads
@@ -113,7 +114,7 @@ made_none number k packet None is makes = All-nil _
 
 -- and so none of their calls is one
 pub made_calls : (number k : ℕ) (packets : List (List ℕ)) (calls : List (ℕ × Call)) →
-    All (IsMadeFrame number) packets → MakeCalls plain_framing k packets calls → HasNoTally calls
+    All (IsMadeFrame number) packets → MakeCalls plain_calling k packets calls → HasNoTally calls
 made_calls number k [] calls are makes = subst HasNoTally (sym makes) (All-nil _)
 made_calls number k (packet ∷ packets) calls are (made, others, here, rest, is) =
     subst HasNoTally (sym is)

@@ -13,7 +13,7 @@ use Rattle.plain_map.specs.PlainObject.{Sessions, pairs_of}
 use Rattle.plain_map.specs.History.{Placed, answered, call_in, pending, sessions_after}
 use Rattle.plain_map.specs.Asked.{keys_asked, SessionsAreAsked}
 use Rattle.plain_map.proofs.AskedLemmas.{All-unmap}
-use Rattle.flow_keys.specs.FlowText.{HasText}
+use Rattle.key_texts.specs.FlowText.{HasText}
 use Rattle.trace_share.specs.declared.outcome.Outcome.{Outcome}
 use Rattle.trace_share.specs.declared.outcome.Outcome.TheVariants.{Answered, Refused}
 use Rattle.trace_share.specs.Outcomes.{asked_in, records_in}

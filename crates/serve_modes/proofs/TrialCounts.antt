@@ -8,7 +8,7 @@ use Rattle.std.proofs.lemmas.List.Elements.{All-append, All-head, All-map, All-n
 use Rattle.std.proofs.lemmas.List.Sorted.{All-permutation, sum_by-IsPermutation}
 use Rattle.std.proofs.lemmas.List.Sums.{sum_by-append, sum_by-cons}
 use Rattle.plain_map.specs.declared.calls.Call.{Call}
-use Rattle.plain_map.specs.declared.calls.Call.TheVariants.{Insert, Remove, Lookup, Tally}
+use Rattle.plain_map.specs.declared.calls.Call.TheVariants.{Insert, Remove, Lookup, Tally, Count, Put}
 use Rattle.plain_map.specs.declared.calls.Reply.{Reply}
 use Rattle.plain_map.specs.declared.calls.Reply.TheVariants.{New, Old, NoRoom, Gone, Found, Absent, Sum}
 use Rattle.plain_map.specs.declared.keys.Key.{Key}
@@ -16,7 +16,7 @@ use Rattle.plain_map.specs.declared.keys.Pair.{Pair}
 use Rattle.plain_map.specs.declared.records.Record.{Record}
 use Rattle.plain_map.specs.declared.rules.Rules.{Rules}
 use Rattle.plain_map.specs.Keys.{Session, key_cmp, pair_of}
-use Rattle.plain_map.specs.PlainObject.{Sessions, found_in, gone_from, grown, has_room, insert_reply, inserted, map_after, new_session, pairs_of, reply_of, sum_of, tallied}
+use Rattle.plain_map.specs.PlainObject.{Sessions, count_reply, counted_session, found_in, gone_from, grown, has_room, insert_reply, inserted, map_after, new_session, pairs_of, reply_of, revalued, revised, sum_of, tallied}
 use Rattle.plain_map.specs.History.{Legal, Placed, answered, pending, sessions_after}
 use Rattle.plain_map.proofs.KeyLemmas.{keys_total}
 use Rattle.trace_share.specs.declared.outcome.Outcome.{Outcome}
@@ -39,9 +39,10 @@ use Rattle.serve_modes.specs.Headline.{AddsUp, tried_of}
 
 -- ---- the replies
 
--- a tally, and the reply that only a tally has
+-- a tally or a count, and the reply that only these have
 abbrev pub is_tally : Call → Bool
 is_tally (Tally key amount) = true
+is_tally (Count key value amount) = true
 is_tally _ = false
 
 abbrev is_sum : Reply → Bool
@@ -187,6 +188,28 @@ tally_changes m key amount (Some value) is =
     omega (arith, same)
 tally_changes m key amount None is = refl
 
+-- a session more that is there changes how many there are by none
+same_many : (m : Sessions) (key : Key) (held new : Session) → get m key ≡ Some held → len (insert m key new) ≡ len m
+same_many m key held new is =
+    len-insert keys_total m key new ∙ ap (λ (o : Option Session). cond (is_some o) (len m) (len m + 1)) is
+
+one_more : (m : Sessions) (key : Key) (new : Session) → get m key ≡ None → len (insert m key new) ≡ len m + 1
+one_more m key new is =
+    len-insert keys_total m key new ∙ ap (λ (o : Option Session). cond (is_some o) (len m) (len m + 1)) is
+
+count_changes : (m : Sessions) (key : Key) (new : Session) (change : Session → Session) (amount : ℕ)
+    (held : Option Session) (room : Bool) → get m key ≡ held →
+    Changes m (revised m key new change held room) (count_reply amount held room)
+count_changes m key new change amount (Some old) room is = omega (arith, same_many m key old (change old) is)
+count_changes m key new change amount None true is = omega (arith, one_more m key new is)
+count_changes m key new change amount None false is = refl
+
+put_changes : (m : Sessions) (key : Key) (new : Session) (change : Session → Session) (held : Option Session)
+    (room : Bool) → get m key ≡ held → Changes m (revised m key new change held room) (insert_reply held room)
+put_changes m key new change (Some old) room is = omega (arith, same_many m key old (change old) is)
+put_changes m key new change None true is = omega (arith, one_more m key new is)
+put_changes m key new change None false is = refl
+
 call_changes : (rules : Rules) (m : Sessions) (call : Call) →
     Changes m (map_after rules m call) (reply_of rules m call)
 unfolding map_after reply_of
@@ -195,8 +218,13 @@ call_changes rules m (Insert key value) =
 call_changes rules m (Remove key) = remove_changes m key (get m key) refl
 call_changes rules m (Lookup key) = lookup_changes m (get m key)
 call_changes rules m (Tally key amount) = tally_changes m key amount (get m key) refl
+call_changes rules m (Count key value amount) =
+    count_changes m key (counted_session value amount) (λ held. grown held amount) amount (get m key)
+    (has_room rules m key) refl
+call_changes rules m (Put key value) =
+    put_changes m key (new_session value) (λ held. revalued held value) (get m key) (has_room rules m key) refl
 
--- a call that is no tally has no sum as its reply
+-- a call that is no tally and no count has no sum as its reply
 no_sum : (rules : Rules) (m : Sessions) (call : Call) → is_tally call ≡ false → is_sum (reply_of rules m call) ≡ false
 unfolding reply_of
 no_sum rules m (Insert key value) other = inserted_no (get m key) (has_room rules m key)
@@ -216,6 +244,13 @@ no_sum rules m (Lookup key) other = found_no (get m key)
     found_no (Some old) = refl
     found_no None = refl
 no_sum rules m (Tally key amount) other = absurd (cc)
+no_sum rules m (Count key value amount) other = absurd (cc)
+no_sum rules m (Put key value) other = put_no (get m key) (has_room rules m key)
+  where
+    put_no : (held : Option Session) (room : Bool) → is_sum (insert_reply held room) ≡ false
+    put_no (Some old) room = refl
+    put_no None true = refl
+    put_no None false = refl
 
 -- so a legal order of answered calls leaves as many as it began, without those that it ended
 order_changes : (rules : Rules) (m : Sessions) (order : List Placed) → All IsAnswered order → Legal rules m order →

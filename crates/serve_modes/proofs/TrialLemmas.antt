@@ -3,23 +3,23 @@ use Rattle.std.proofs.Common.{◌≡◌, ◌≤◌, ℕ, List, [], length, map, 
 use Rattle.std.specs.List.{All, range_with_len}
 use Rattle.std.proofs.lemmas.List.{length-map}
 use Rattle.std.proofs.lemmas.List.FromFn.{length-range_with_len}
-use Rattle.edge_traits.specs.Edge.{Rose}
 use Rattle.pcap_reader.specs.Capture.{Capture, Saved}
 use Rattle.pcap_reader.specs.Made.{HoldsMade, made_capture, made_saved}
 use Rattle.capture_faults.specs.declared.any_fault.AnyFault.{AnyFault}
-use Rattle.packet_heads.specs.declared.framing.Framing.{Framing}
+use Rattle.mode_parts.specs.Callings.{calling_of, plain_calling}
+use Rattle.mode_parts.specs.declared.calling.Calling.{Calling}
 use Rattle.packet_heads.specs.Links.{number_in}
-use Rattle.packet_heads.specs.Heads.{plain_framing}
 use Rattle.pcapng_reader.specs.Input.{Input, IsPcapng, packets_in}
 use Rattle.pcapng_reader.specs.Laws.{HasOneInput}
 use Rattle.pcapng_reader.proofs.InputFacts.{no_pcapng}
-use Rattle.report_text.specs.declared.parts.Ending.{Ending}
-use Rattle.report_text.specs.declared.parts.Ending.TheVariants.{Done, ReadFault, Limit, Fault}
+use Rattle.capture_faults.specs.declared.ending.Ending.{Ending}
+use Rattle.capture_faults.specs.declared.ending.Ending.TheVariants.{Done, ReadFault, Limit, Fault}
 use Rattle.step_counts.specs.Ranges.{IsWithin}
 use Rattle.command_line.specs.declared.plan.Plan.{Plan}
-use Rattle.capture_loop.specs.Leaves.{IsLoopReport, Leaves, PutsInput, ReportsInput}
+use Rattle.capture_loop.specs.Leaves.{EndsBy, IsLoopReport, Leaves, PutsInput, ReportsInput}
 use Rattle.capture_loop.specs.Input.{HoldsPackets, Serves, packet_limit}
 use Rattle.mode_parts.specs.PacketCalls.{MakeCalls}
+use Rattle.mode_parts.proofs.ExactLemmas.{one_more}
 use Rattle.serve_modes.specs.Served.{ServedArePromised}
 use Rattle.serve_modes.specs.Headline.{IsTrial}
 use Rattle.serve_modes.specs.Trying.{IsNoText, IsTrialOf}
@@ -27,10 +27,9 @@ use Rattle.serve_modes.proofs.HeadlineLemmas.{served_at}
 use Rattle.serve_modes.proofs.MadeCalls.{IsMadeFrame, made_calls, made_frames}
 use Rattle.serve_modes.proofs.TrialCounts.{trial-adds_up}
 
--- a count that stays at 0 has not risen
-pub none_rose : Rose 0 0 → ⊥
-none_rose (inl more) = absurd (omega (arith, more))
-none_rose (inr most) = absurd (omega (arith, most))
+-- no read failed where none is counted
+pub none_failed : EndsBy 0 0 ReadFault → ⊥
+none_failed is = one_more 0 0 (refl, omega arith) is
 
 -- a fault is no ending without one
 is_ending : (ending : Result ℕ AnyFault) (fault : AnyFault) → ending ≡ Err fault → ending ≡ Ok 0 → ⊥
@@ -104,16 +103,16 @@ frames_made number made packets one law held =
 
 -- what the loop over its batches puts is its trial
 pub IsTrial-put :
-    (plan : Plan) (read_failed : Type 0) (left : Option (List ℕ)) (ending : Ending) (put : List ℕ) →
+    (plan : Plan) (can_end : Ending → Type 0) (left : Option (List ℕ)) (ending : Ending) (put : List ℕ) →
     HasOneInput 1 (made_capture plan.number plan.packets) → HoldsMade plan.number plan.packets →
-    plan.packets ≤ packet_limit → (read_failed → ⊥) → ServedArePromised → plan.rows ≡ None →
-    plan.framing ≡ plain_framing → IsWithin 2048 65536 plan.batch →
-    Leaves plan.batch (number_in plan.framing.link) (IsNoText plan) (IsTrialOf plan) read_failed
+    plan.packets ≤ packet_limit → (can_end ReadFault → ⊥) → ServedArePromised → plan.rows ≡ None →
+    calling_of plan ≡ plain_calling → IsWithin 2048 65536 plan.batch →
+    Leaves plan.batch (number_in plan.framing.link) (IsNoText plan) (IsTrialOf plan) can_end
     (made_capture plan.number plan.packets) left (Some [])
     (Some put) (Ok ending) →
     IsTrial plan put
-IsTrial-put plan read_failed left ending put one law few none_failed promised none plain range leaves =
-    let link : number_in plan.framing.link ≡ 1 = ap (λ (f : Framing). number_in f.link) plain in
+IsTrial-put plan can_end left ending put one law few no_fault promised none plain range leaves =
+    let link : number_in plan.framing.link ≡ 1 = ap (λ (c : Calling). number_in c.framing.link) plain in
     let bytes : List ℕ = made_capture plan.number plan.packets in
     let puts :
     PutsInput plan.batch (number_in plan.framing.link) (IsTrialOf plan) bytes left (Some []) (Some put) ending =
@@ -124,7 +123,7 @@ IsTrial-put plan read_failed left ending put one law few none_failed promised no
     let report : IsLoopReport plan.batch (IsTrialOf plan) packets ending puts.0 = input.2 in
     let trial : IsTrialOf plan report.0 ending puts.0 = report.2 in
     let holds =
-    made_packets plan.number plan.packets left packets ending one law few (λ is. none_failed (leaves.0 is))
+    made_packets plan.number plan.packets left packets ending one law few (λ is. no_fault (subst can_end is leaves.0))
     (subst (λ (n : ℕ). Serves n bytes left packets ending) link input.1) in
     let at = served_at promised plan range packets report.0 trial.0 trial.1 report.1 trial.2 in
     let frames = frames_made plan.number plan.packets packets one law holds in (
@@ -138,6 +137,6 @@ IsTrial-put plan read_failed left ending put one law few none_failed promised no
       at.3,
       trial-adds_up trial.0 trial.1 trial.2.each (promised trial.0 trial.1 trial.2.each) plan at.0 at.2.cut
           (made_calls plan.number 1 packets at.0 frames
-          (subst (λ (f : Framing). MakeCalls f 1 packets at.0) plain at.1)) (trial.2.asks.rows ∙ none),
+          (subst (λ (f : Calling). MakeCalls f 1 packets at.0) plain at.1)) (trial.2.asks.rows ∙ none),
       puts.2 ∙ trial.3,
     )

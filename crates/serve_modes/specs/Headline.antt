@@ -5,8 +5,8 @@ use Rattle.hash_bits.specs.declared.hashing.Hashing.{Hashing}
 use Rattle.hash_bits.specs.declared.hashing.Hashing.TheVariants.{Mix, Ports}
 use Rattle.plain_map.specs.declared.calls.Call.{Call}
 use Rattle.pcap_reader.specs.Made.{made_capture}
-use Rattle.report_text.specs.declared.parts.Ending.{Ending}
-use Rattle.report_text.specs.declared.parts.Ending.TheVariants.{Done, ReadFault, Limit, Fault}
+use Rattle.capture_faults.specs.declared.ending.Ending.{Ending}
+use Rattle.capture_faults.specs.declared.ending.Ending.TheVariants.{Done, ReadFault, Limit, Fault}
 use Rattle.report_text.specs.Report.{report_of}
 use Rattle.report_told.specs.Verdicts.{Certified}
 use Rattle.report_text.specs.declared.trial.Trial.{Trial}
@@ -18,6 +18,7 @@ use Rattle.batch_runner.specs.Printed.{outcomes_in}
 use Rattle.batch_runner.specs.Totals.{totals_of}
 use Rattle.command_line.specs.declared.plan.Plan.{Plan}
 use Rattle.packet_heads.specs.Links.{number_in}
+use Rattle.mode_parts.specs.Callings.{calling_of}
 use Rattle.mode_parts.specs.declared.status.Status.{Status}
 use Rattle.mode_parts.specs.declared.status.Status.TheVariants as status
 use Rattle.serve_modes.specs.Batches.{batch_count}
@@ -44,17 +45,19 @@ IsFrontOf plan packets calls text =
 
 abbrev pub IsReport : Plan → List (List ℕ) → Ending → List ℕ → Type 0
 IsReport plan packets ending text =
-    (calls : List (ℕ × Call)) × MakeCalls plan.framing 1 packets calls × IsReportOf plan (length packets) calls ending
+    (calls : List (ℕ × Call)) × MakeCalls (calling_of plan) 1 packets calls
+    × IsReportOf plan (length packets) calls ending
     text
 
 abbrev pub IsFront : Plan → List (List ℕ) → List ℕ → Type 0
 IsFront plan packets text =
-    (calls : List (ℕ × Call)) × MakeCalls plan.framing 1 packets calls × IsFrontOf plan (length packets) calls text
+    (calls : List (ℕ × Call)) × MakeCalls (calling_of plan) 1 packets calls × IsFrontOf plan (length packets) calls text
 
 -- the text is the head line and the lines of all batches of these packets
 abbrev pub IsTold : Plan → List (List ℕ) → List ℕ → Type 0
 IsTold plan packets text =
-    (calls : List (ℕ × Call)) × MakeCalls plan.framing 1 packets calls × (service : Service) × (batches : List Served)
+    (calls : List (ℕ × Call)) × MakeCalls (calling_of plan) 1 packets calls × (service : Service)
+    × (batches : List Served)
     × AreDone plan service calls batches × (length batches ≡ batch_count plan.batch (length packets))
     × (text ≡ lines_so_far plan service batches)
 
@@ -79,42 +82,43 @@ PutsReport plan bytes left before after ending =
 
 -- A front of the report was put, where the ending is known, and otherwise of the lines of the batches so far. That
 -- a read failed is told only where one did.
-abbrev pub PutsSome : Plan → Type 0 → List ℕ → Option (List ℕ) → Option (List ℕ) → Option (List ℕ) → Type 0
-PutsSome plan read_failed bytes left before after =
-    ((ending : Ending) × IsMet read_failed ending × PutsFront before after (Reports plan bytes left ending))
+abbrev pub PutsSome : Plan → (Ending → Type 0) → List ℕ → Option (List ℕ) → Option (List ℕ) → Option (List ℕ) → Type 0
+PutsSome plan can_end bytes left before after =
+    ((ending : Ending) × IsMet can_end ending × PutsFront before after (Reports plan bytes left ending))
     ⊎ ((packets : List (List ℕ)) × Begins (number_in plan.framing.link) bytes left packets × PutsFront before after
     (IsFront plan packets))
 
 -- Where memory ran out, nothing was put, or the lines of all batches of an input whose ending is known, or those of the
 -- batches so far. More of the input may have been read.
-abbrev pub PutsLess : Plan → Type 0 → List ℕ → Option (List ℕ) → Option (List ℕ) → Option (List ℕ) → Type 0
-PutsLess plan read_failed bytes left before after =
+abbrev pub PutsLess : Plan → (Ending → Type 0) → List ℕ → Option (List ℕ) → Option (List ℕ) → Option (List ℕ) → Type 0
+PutsLess plan can_end bytes left before after =
     Keeps before after
-    ⊎ (((ending : Ending) × IsMet read_failed ending × PutsWhole before after (Tells plan bytes left ending))
+    ⊎ (((ending : Ending) × IsMet can_end ending × PutsWhole before after (Tells plan bytes left ending))
     ⊎ ((packets : List (List ℕ)) × IsFirst (number_in plan.framing.link) bytes packets × PutsWhole before after
     (IsFront plan packets)))
 
 -- What `serve` leaves that ended so: of the input's bytes these are left, and the sink had taken `before` and has taken
 -- `after`.
-abbrev pub Leaves : Plan → Type 0 → List ℕ → Option (List ℕ) → Option (List ℕ) → Option (List ℕ) → Status → Type 0
-Leaves plan read_failed bytes left before after status.Done =
+abbrev pub Leaves : Plan → (can_end : Ending → Type 0) → List ℕ → (left before after : Option (List ℕ)) → Status →
+    Type 0
+Leaves plan can_end bytes left before after status.Done =
     (rest : ℕ) × PutsReport plan bytes left before after (Done rest)
-Leaves plan read_failed bytes left before after (status.BadCapture fault) =
+Leaves plan can_end bytes left before after (status.BadCapture fault) =
     PutsReport plan bytes left before after (Fault fault)
-Leaves plan read_failed bytes left before after status.Limit =
+Leaves plan can_end bytes left before after status.Limit =
     (limit : ℕ) × PutsReport plan bytes left before after (Limit limit)
-Leaves plan read_failed bytes left before after status.ReadFault = PutsReport plan bytes left before after ReadFault
-Leaves plan read_failed bytes left before after status.WriteFault = PutsSome plan read_failed bytes left before after
-Leaves plan read_failed bytes left before after status.Memory = PutsLess plan read_failed bytes left before after
-Leaves plan read_failed bytes left before after status.Usage = ⊥
+Leaves plan can_end bytes left before after status.ReadFault = PutsReport plan bytes left before after ReadFault
+Leaves plan can_end bytes left before after status.WriteFault = PutsSome plan can_end bytes left before after
+Leaves plan can_end bytes left before after status.Memory = PutsLess plan can_end bytes left before after
+Leaves plan can_end bytes left before after status.Usage = ⊥
 
 -- So it is for the bytes of a source, where they are told, and for those that were taken of it, as of a source that
 -- told just these: so these decide which answer it is. Of a source that tells nothing the second fact says only that
 -- there are some such bytes.
-pub record LeavesAll (plan : Plan) (read_failed : Type 0) (first left before after : Option (List ℕ))
+pub record LeavesAll (plan : Plan) (can_end : Ending → Type 0) (first left before after : Option (List ℕ))
     (answer : Status) : Type 0 where
-  pub told : (bytes : List ℕ) → first ≡ Some bytes → Leaves plan read_failed bytes left before after answer
-  pub took : TookFor answer first left (λ taken. Leaves plan read_failed taken (Some []) before after answer)
+  pub told : (bytes : List ℕ) → first ≡ Some bytes → Leaves plan can_end bytes left before after answer
+  pub took : TookFor answer first left (λ taken. Leaves plan can_end taken (Some []) before after answer)
 
 -- ---- `trial`
 
@@ -164,7 +168,7 @@ abbrev pub IsTrial : Plan → List ℕ → Type 0
 IsTrial plan text =
     (packets : List (List ℕ)) × (calls : List (ℕ × Call)) × (service : Service) × (batches : List Served)
     × HoldsPackets (number_in plan.framing.link) (made_capture plan.number plan.packets) packets (Ok 0) × MakeCalls
-    plan.framing 1 packets calls
+    (calling_of plan) 1 packets calls
     × AreDone plan service calls batches × (length batches ≡ batch_count plan.batch (length packets))
     × AddsUp (tried_of plan batches) × (text ≡ trial_lines (tried_of plan batches))
 

@@ -2,7 +2,7 @@
 use Rattle.std.specs.Prelude.{◌≡◌, ◌≤◌, ℕ, List, [], All}
 use Rattle.plain_map.specs.declared.calls.Call.{Call}
 use Rattle.plain_map.specs.Calls.{key_in}
-use Rattle.flow_keys.specs.FlowText.{HasText}
+use Rattle.key_texts.specs.FlowText.{HasText}
 use Rattle.batch_deals.specs.declared.service.Service.{Service}
 use Rattle.batch_deals.specs.Opens.{CanOpen, rules_of}
 use Rattle.batch_runner.specs.Served.{Served, AreServed, pairs_left}

@@ -4,7 +4,7 @@ use Rattle.plain_map.specs.declared.calls.Call.{Call}
 use Rattle.step_counts.specs.StepCounts.{step_bound}
 use Rattle.trace_share.specs.declared.outcome.Outcome.{Outcome}
 use Rattle.report_text.specs.declared.parts.Tail.{Tail}
-use Rattle.report_text.specs.declared.parts.Ending.{Ending}
+use Rattle.capture_faults.specs.declared.ending.Ending.{Ending}
 use Rattle.report_text.specs.Report.{Report, batch_lines, head_line}
 use Rattle.batch_deals.specs.declared.service.Service.{Service}
 use Rattle.batch_runner.specs.declared.totals.Totals.{Totals}

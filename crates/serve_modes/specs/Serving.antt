@@ -3,7 +3,7 @@ use Rattle.std.specs.Prelude.{◌≡◌, ◌≤◌, ℕ, ◌+◌, ◌^◌, List,
 use Rattle.std.specs.Option.{ForSome}
 use Rattle.std.specs.declared.alloc.Global.{Global}
 use Rattle.word_rows.specs.Shape.{AreBelow}
-use Rattle.report_text.specs.declared.parts.Ending.{Ending}
+use Rattle.capture_faults.specs.declared.ending.Ending.{Ending}
 use Rattle.report_text.specs.Report.{report_of}
 use Rattle.shared_table.specs.Values.{TableValue}
 use Rattle.trace_share.specs.declared.outcome.Outcome.{Outcome}
@@ -13,8 +13,9 @@ use Rattle.batch_runner.specs.declared.workers.SeatWorker.{SeatWorker}
 use Rattle.batch_runner.specs.Opened.{IsOpened}
 use Rattle.batch_runner.specs.Served.{AreServed, Served}
 use Rattle.command_line.specs.declared.plan.Plan.{Plan}
+use Rattle.mode_parts.specs.Callings.{calling_of}
 use Rattle.serve_modes.specs.declared.serving.Serving.{Serving}
-use Rattle.packet_heads.specs.declared.framing.Framing.{Framing}
+use Rattle.mode_parts.specs.declared.calling.Calling.{Calling}
 use Rattle.mode_parts.specs.PacketCalls.{MakeCalls}
 use Rattle.serve_modes.specs.Progress.{HasServed, IsGoing}
 use Rattle.mode_parts.specs.Reading.{AreBetween}
@@ -27,19 +28,19 @@ abbrev pub joined : List (List (List ℕ)) → List (List ℕ)
 joined batches = flat_map (λ batch. batch) batches
 
 -- behind so many packets, the calls of each of these batches of packets were served as a batch
-abbrev pub AreServedOf : Framing → List (List (List ℕ)) → (before : ℕ) → List Served → Type 0
-AreServedOf framing [] before served = served ≡ []
-AreServedOf framing (batch ∷ batches) before served =
-    (first : Served) × (others : List Served) × (served ≡ first ∷ others) × MakeCalls framing (before + 1) batch
+abbrev pub AreServedOf : Calling → List (List (List ℕ)) → (before : ℕ) → List Served → Type 0
+AreServedOf calling [] before served = served ≡ []
+AreServedOf calling (batch ∷ batches) before served =
+    (first : Served) × (others : List Served) × (served ≡ first ∷ others) × MakeCalls calling (before + 1) batch
     first.calls
-    × AreBetween before (before + length batch) first.calls × AreServedOf framing batches (before + length batch) others
+    × AreBetween before (before + length batch) first.calls × AreServedOf calling batches (before + length batch) others
 
 -- these batches of packets were served so, as the plan says
 pub record IsServedSo (plan : Plan) (service : Service) (batches : List (List (List ℕ))) (served : List Served) :
     Type 0 where
   pub asks : IsServiceOf plan service
   pub each : AreServed service [] served
-  pub of : AreServedOf plan.framing batches 0 served
+  pub of : AreServedOf (calling_of plan) batches 0 served
 
 -- the text is the head line and the lines of these batches
 abbrev pub IsLines : Plan → List (List (List ℕ)) → List ℕ → Type 0
@@ -66,9 +67,9 @@ pub record IsServing (job : Serving) (many : ℕ) : Type 0 where
 pub record HasDone (job : Serving) (plan : Plan) (batches : List (List (List ℕ))) (put : List ℕ) : Type 0 where
   pub served : List Served
   pub asks : IsServiceOf plan job.service
-  pub framed : job.framing ≡ plan.framing
+  pub framed : job.calling ≡ calling_of plan
   pub has : HasServed job.service job.progress served
-  pub of : AreServedOf plan.framing batches 0 served
+  pub of : AreServedOf (calling_of plan) batches 0 served
   pub count : job.packets ≡ length (joined batches)
   pub text : put ≡ lines_so_far plan job.service served
 
@@ -81,7 +82,7 @@ pub record HasOpenedFor {K : Type 0} (holds : K → List Outcome → Type 0) (ro
     (t : TableValue) (workers : List (SeatWorker K)) (many before : ℕ) (packets : List (List ℕ)) : Type 0 where
   pub count : many ≡ length packets
   pub few : length packets ≤ 65536
-  pub make : MakeCalls job.framing (before + 1) packets job.calls.items
+  pub make : MakeCalls job.calling (before + 1) packets job.calls.items
   pub between : AreBetween before (before + length packets) job.calls.items
   pub opens : IsOpened holds room job.service job.progress.pairs.items job.calls.items t workers
 

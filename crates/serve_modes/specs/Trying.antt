@@ -1,6 +1,6 @@
 -- `trial` as a job of the loop over batches: what was served is what `serve` would serve, and only its counts are told.
 use Rattle.std.specs.Prelude.{◌≡◌, ℕ, List, []}
-use Rattle.report_text.specs.declared.parts.Ending.{Ending}
+use Rattle.capture_faults.specs.declared.ending.Ending.{Ending}
 use Rattle.report_text.specs.Trials.{trial_lines}
 use Rattle.shared_table.specs.Values.{TableValue}
 use Rattle.batch_deals.specs.declared.service.Service.{Service}

@@ -1,6 +1,6 @@
 -- What holds of the text of a trial: there is none before the end, and the three lines can follow.
 use Rattle.std.proofs.Common.{ℕ, List, ◌++◌, ap}
-use Rattle.report_text.specs.declared.parts.Ending.{Ending}
+use Rattle.capture_faults.specs.declared.ending.Ending.{Ending}
 use Rattle.report_text.specs.Trials.{trial_lines}
 use Rattle.command_line.specs.declared.plan.Plan.{Plan}
 use Rattle.serve_modes.specs.declared.trying.Trying.{Trying}

@@ -4,8 +4,10 @@ ghost use Rattle.std.specs.Prelude.{◌≡◌, ◌≤◌, ◌<◌, ◌^◌, ◌+
 ghost use Rattle.std.specs.List.{AllZip};
 ghost use Rattle.std.specs.Option.{ForSome};
 ghost use Rattle.edge_traits.specs.Edge.{Rose};
+ghost use Rattle.capture_loop.specs.Leaves.{EndsBy};
 ghost use Rattle.word_rows.specs.Shape.{AreBelow};
-ghost use Rattle.report_text.specs.Report.{IsEnding, head_line};
+ghost use Rattle.report_text.specs.Report.{head_line};
+ghost use Rattle.capture_faults.specs.Endings.{IsEnding};
 ghost use Rattle.report_told.specs.Rules.{IsEndingTold};
 ghost use Rattle.trace_share.specs.Work.{IsLogOf};
 ghost use Rattle.batch_deals.specs.Dealt.{IsDealt};
@@ -20,7 +22,8 @@ ghost use Rattle.mode_parts.specs.PacketCalls.{MakeCalls};
 ghost use Rattle.serve_modes.specs.Progress.{HasServed};
 ghost use Rattle.serve_modes.specs.Headline.{LeavesAll};
 ghost use Rattle.mode_parts.specs.Statuses.{MarksFor, ReadsFailed, WritesFailed, status_by};
-ghost use Rattle.packet_heads.specs.Links.{number_in, way_of};
+ghost use Rattle.packet_heads.specs.Links.{number_in};
+ghost use Rattle.mode_parts.specs.Callings.{calling_of, calling_way};
 ghost use Rattle.mode_parts.specs.Planned.{IsServiceOf, head_of};
 ghost use Rattle.serve_modes.specs.Serving.{CallWorker, HasDone, HasOpened, IsLines, IsServing, IsWholeReport};
 
@@ -31,14 +34,14 @@ use batch_deals::{Dealt, Service, deal_batch};
 use batch_runner::{
     Asked, OpenBatch, SeatWorker, Workspace, close_printed, open_batch, served_laws,
 };
+use capture_faults::Ending;
 use capture_loop::{Job, MOST_BATCH, Means, Opened, PACKET_LIMIT, Piles, Stop, run_job};
 use command_line::Plan;
 use edge_traits::{Gate, Sink, Source};
-use mode_parts::{CallPile, Status, head_of, put_sessions, service_of};
-use packet_heads::Framing;
+use mode_parts::{CallPile, Calling, Status, calling_of, head_of, put_sessions, service_of};
 use plain_map::{Call, session_laws};
 use report_promises::{ending_fits, head_fits, promise_laws};
-use report_text::{Ending, head_text, tail_text};
+use report_text::{head_text, tail_text};
 use shared_table::Directory;
 use std::alloc::{AllocError, Global};
 use std::mem;
@@ -52,8 +55,8 @@ const LINE_ROOM: usize = 220;
 #[derive(Drop)]
 pub(crate) struct Serving {
     pub service: Service,
-    /// How packets are framed.
-    pub framing: Framing,
+    /// How packets are framed, and which calls they make.
+    pub calling: Calling,
     pub workspace: Workspace,
     pub progress: Progress,
     /// How many packets were served.
@@ -67,21 +70,21 @@ impl Serving {
     pub fn new(
         alloc: Global,
         service: Service,
-        framing: Framing,
+        calling: Calling,
         batch: u32,
     ) -> Result<Serving, AllocError>
         requires given { ForSome service.rows (AreBelow (2 ^ 32)) }
         ensures going { IfOk result (λ serving. IsServing serving 0) }
         ensures done { IfOk result (λ serving. (plan : APlan) (text : List ℕ) → IsServiceOf plan service →
-            framing ≡ plan.framing → text ≡ head_line (head_of false plan) → HasDone serving plan [] text) }
+            calling ≡ calling_of plan → text ≡ head_line (head_of false plan) → HasDone serving plan [] text) }
         ensures served { IfOk result (λ serving. HasServed service serving.progress []) }
         ensures service { IfOk result (λ serving. serving.service ≡ service) }
-        ensures framing { IfOk result (λ serving. serving.framing ≡ framing) }
+        ensures calling { IfOk result (λ serving. serving.calling ≡ calling) }
     {
         let calls = Vec::with_capacity(alloc, batch as usize)?;
         Ok(Serving {
             service,
-            framing,
+            calling,
             workspace: Workspace::new(alloc),
             progress: Progress::new(alloc),
             packets: 0,
@@ -93,14 +96,14 @@ impl Serving {
     pub fn dealt_of(&self, pile: &mut CallPile) -> Result<Dealt, AllocError>
         requires few { length pile.old.calls.items ≤ MOST_BATCH }
         requires dealt { ForSome pile.old.dealt (IsDealt pile.old.service pile.old.calls.items) }
-        requires way { way_of pile.old.framing ≡ way_of self.now.framing }
+        requires way { calling_way pile.old.calling ≡ calling_way self.now.calling }
         ensures dealt { IfOk result (IsDealt self.now.service pile.old.calls.items) }
         ensures calls { pile.new.calls ≡ pile.old.calls }
         ensures packets { pile.new.packets ≡ pile.old.packets }
-        ensures framing { pile.new.framing ≡ pile.old.framing }
+        ensures calling { pile.new.calling ≡ pile.old.calling }
         ensures made { OnOk result ((number : ℕ) (packets : List (List ℕ)) →
-            MakeCalls pile.old.framing number packets pile.old.calls.items →
-            MakeCalls self.now.framing number packets pile.old.calls.items) }
+            MakeCalls pile.old.calling number packets pile.old.calls.items →
+            MakeCalls self.now.calling number packets pile.old.calls.items) }
     {
         let dealt = mem::replace(&mut pile.dealt, None);
         if let Some(dealt) = dealt {
@@ -128,7 +131,7 @@ impl Job<Plan> for Serving {
 
     ghost report = { IsWholeReport };
 
-    ghost way = { λ serving. way_of serving.framing };
+    ghost way = { λ serving. calling_way serving.calling };
 
     ghost going = { IsServing };
 
@@ -168,7 +171,7 @@ impl Job<Plan> for Serving {
             × IsServing self.old before × HasOpened self.old made.shared started made.kept before packets
             × AllZip (HasWorked IsLogOf) started made.workers.items × (length packets ≤ MOST_BATCH)
             × (before + length packets ≤ PACKET_LIMIT) }
-        ensures way { OnOk result (way_of self.new.framing ≡ way_of self.old.framing) }
+        ensures way { OnOk result (calling_way self.new.calling ≡ calling_way self.old.calling) }
         ensures going { OnOk result ((started : List CallWorker) (before : ℕ) (packets : List (List ℕ)) →
             IsServing self.old before → HasOpened self.old made.shared started made.kept before packets →
             AllZip (HasWorked IsLogOf) started made.workers.items → IsServing self.new (before + length packets)) }
@@ -234,7 +237,7 @@ pub fn serve<R: Threads + Sync, S: Source, K: Sink, G: Gate + Sync>(
 ) -> Status
     requires range { IsInRange plan.now }
     requires batch { means.now.batch ≡ plan.now.batch }
-    ensures leaves { LeavesAll plan.now (Rose (S.faults source.old) (S.faults source.new)) (S.left source.old)
+    ensures leaves { LeavesAll plan.now (EndsBy (S.failed source.old) (S.failed source.new)) (S.left source.old)
         (S.left source.new) (K.put sink.old) (K.put sink.new) result }
     ensures read_fault { result ≡ Status.ReadFault → Rose (S.faults source.old) (S.faults source.new) }
     ensures write_fault { result ≡ Status.WriteFault → Rose (K.faults sink.old) (K.faults sink.new) }
@@ -263,7 +266,7 @@ fn serve_input<R: Threads + Sync, S: Source, K: Sink, G: Gate + Sync>(
 ) -> Result<Ending, Stop>
     requires range { IsInRange plan.now }
     requires batch { means.now.batch ≡ plan.now.batch }
-    ensures leaves { LeavesAll plan.now (Rose (S.faults source.old) (S.faults source.new)) (S.left source.old)
+    ensures leaves { LeavesAll plan.now (EndsBy (S.failed source.old) (S.failed source.new)) (S.left source.old)
         (S.left source.new) (K.put sink.old) (K.put sink.new) (status_by result) }
     ensures read_fault { result ≡ Ok Ending.ReadFault → Rose (S.faults source.old) (S.faults source.new) }
     ensures write_fault { OnNotPut result (Rose (K.faults sink.old) (K.faults sink.new)) }
@@ -277,17 +280,18 @@ fn serve_input<R: Threads + Sync, S: Source, K: Sink, G: Gate + Sync>(
     promise_laws();
     let service = service_of(plan);
     let alloc = means.alloc;
+    let calling = calling_of(plan);
     let batch = means.batch as usize;
     let mut text = Vec::with_capacity(alloc, batch * LINE_ROOM)?;
     let head = head_of(false, plan);
     head_fits(&head, &service.settings);
     head_text(&mut text, &head)?;
     let mut piles = Piles {
-        now: CallPile::with_room(alloc, service, plan.framing, batch)?,
-        next: CallPile::with_room(alloc, service, plan.framing, batch)?,
+        now: CallPile::with_room(alloc, service, calling, batch)?,
+        next: CallPile::with_room(alloc, service, calling, batch)?,
         beyond: *beyond,
     };
-    let mut serving = Serving::new(alloc, service, plan.framing, means.batch)?;
+    let mut serving = Serving::new(alloc, service, calling, means.batch)?;
     let answer = run_job::<R, S, K, G, Plan, Serving>(
         means,
         plan.framing.link.number(),

@@ -5,7 +5,8 @@ ghost use Rattle.serve_modes.specs.Served.{tail_with};
 
 use crate::progress::Progress;
 use batch_deals::Service;
-use report_text::{Ending, Tail};
+use capture_faults::Ending;
+use report_text::Tail;
 use step_counts::bound;
 
 /// What the last lines tell.

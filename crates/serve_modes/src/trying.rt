@@ -10,8 +10,7 @@ ghost use Rattle.batch_runner.specs.Totals.{IsTotalOf};
 ghost use Rattle.capture_loop.specs.declared.job.TheConstants.{MOST_BATCH, PACKET_LIMIT};
 ghost use Rattle.command_line.specs.declared.plan.Plan.{Plan as APlan};
 ghost use Rattle.command_line.specs.Words.{IsInRange};
-ghost use Rattle.packet_heads.specs.Heads.{plain_framing};
-ghost use Rattle.packet_heads.specs.Links.{way_of};
+ghost use Rattle.mode_parts.specs.Callings.{calling_of, calling_way, plain_calling};
 ghost use Rattle.serve_modes.specs.Headline.{IsTrial, LeavesTried, seed_of, trial_of};
 ghost use Rattle.mode_parts.specs.Statuses.{WritesFailed};
 ghost use Rattle.mode_parts.specs.Planned.{IsServiceOf};
@@ -21,14 +20,15 @@ use crate::laws::serving_laws;
 use crate::serving::Serving;
 use batch_deals::{Dealt, Service};
 use batch_runner::{Asked, OpenBatch, SeatWorker, Totals, close_counted, open_batch};
+use capture_faults::Ending;
 use capture_loop::{Job, MOST_BATCH, Means, Opened, PACKET_LIMIT, Piles, run_job};
 use command_line::Plan;
 use edge_traits::{Failed, Gate, MemorySink, Sink, write_all};
 use hash_bits::Hashing;
-use mode_parts::{CallPile, Status, service_of};
+use mode_parts::{CallPile, Status, calling_of, service_of};
 use pcap_reader::{MadeSource, made_capture_law};
 use pcapng_reader::one_input;
-use report_text::{Ending, Trial, trial_text};
+use report_text::{Trial, trial_text};
 use shared_table::Directory;
 use std::alloc::{AllocError, Global};
 use std::mem;
@@ -54,9 +54,9 @@ impl Trying {
         requires asks { IsServiceOf plan.now service }
         ensures going { IfOk result (λ trying. IsTrying trying 0) }
         ensures none { IfOk result (λ trying. HasTried trying plan.now [] []) }
-        ensures framing { IfOk result (λ trying. trying.serving.framing ≡ plan.now.framing) }
+        ensures calling { IfOk result (λ trying. trying.serving.calling ≡ calling_of plan.now) }
     {
-        let serving = Serving::new(alloc, service, plan.framing, plan.batch)?;
+        let serving = Serving::new(alloc, service, calling_of(plan), plan.batch)?;
         Ok(Trying {
             serving,
             number: plan.number,
@@ -113,7 +113,7 @@ impl Job<Plan> for Trying {
 
     ghost report = { IsTrialOf };
 
-    ghost way = { λ trying. way_of trying.serving.framing };
+    ghost way = { λ trying. calling_way trying.serving.calling };
 
     ghost going = { IsTrying };
 
@@ -154,7 +154,7 @@ impl Job<Plan> for Trying {
             × IsTrying self.old before × HasOpenedTrial self.old made.shared started made.kept before packets
             × AllZip (HasWorked IsTotalOf) started made.workers.items × (length packets ≤ MOST_BATCH)
             × (before + length packets ≤ PACKET_LIMIT) }
-        ensures way { OnOk result (way_of self.new.serving.framing ≡ way_of self.old.serving.framing) }
+        ensures way { OnOk result (calling_way self.new.serving.calling ≡ calling_way self.old.serving.calling) }
         ensures going { OnOk result ((started : List CountWorker) (before : ℕ) (packets : List (List ℕ)) →
             IsTrying self.old before → HasOpenedTrial self.old made.shared started made.kept before packets →
             AllZip (HasWorked IsTotalOf) started made.workers.items → IsTrying self.new (before + length packets)) }
@@ -205,7 +205,7 @@ pub fn try_plan<R: Threads + Sync, K: Sink, G: Gate + Sync>(
 ) -> Status
     requires range { IsInRange plan.now }
     requires batch { means.now.batch ≡ plan.now.batch }
-    ensures leaves { plan.now.rows ≡ None → plan.now.framing ≡ plain_framing →
+    ensures leaves { plan.now.rows ≡ None → calling_of plan.now ≡ plain_calling →
         LeavesTried plan.now (K.put sink.old) (K.put sink.new) result }
     ensures no_usage { result ≡ Status.Usage → ⊥ }
     ensures no_read { result ≡ Status.ReadFault → ⊥ }
@@ -230,17 +230,18 @@ fn text_of<R: Threads + Sync, G: Gate + Sync>(
     requires range { IsInRange plan.now }
     requires batch { means.now.batch ≡ plan.now.batch }
     ensures { IfOk result
-        (λ text. plan.now.rows ≡ None → plan.now.framing ≡ plain_framing → IsTrial plan.now text.put) }
+        (λ text. plan.now.rows ≡ None → calling_of plan.now ≡ plain_calling → IsTrial plan.now text.put) }
 {
     one_input();
     made_capture_law();
     serving_laws();
     let service = service_of(plan);
     let alloc = means.alloc;
+    let calling = calling_of(plan);
     let batch = means.batch as usize;
     let mut piles = Piles {
-        now: CallPile::with_room(alloc, service, plan.framing, batch)?,
-        next: CallPile::with_room(alloc, service, plan.framing, batch)?,
+        now: CallPile::with_room(alloc, service, calling, batch)?,
+        next: CallPile::with_room(alloc, service, calling, batch)?,
         beyond: None,
     };
     let mut trying = Trying::new(alloc, plan, service)?;

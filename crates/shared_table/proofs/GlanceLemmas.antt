@@ -136,7 +136,8 @@ module _ (setup : Setup) (first last : List Event) (key : Key) (g : Going) (t : 
         });
         steps = subst (λ (x : Call). g.flight.steps < most_steps (settings_of g.setup) x) (sym t.call_is)
             (omega (arith, few));
-        number = omega (arith, t.number_is);
+        number = subst (λ (c : Setup). g.flight.number < c.shape.limit) (sym t.setup_is)
+            (omega (arith, t.number_is, t.countable));
         small = omega (arith, few);
       }
 
@@ -170,6 +171,7 @@ module _ (setup : Setup) (first last : List Event) (key : Key) (g : Going) (t : 
       pub glances_next : Glances setup first last key (goes g n)
       glances_next = record {
         setup_is = t.setup_is;
+        countable = t.countable;
         seat_is = t.seat_is;
         used_is = used_same g.setup first last key g.seat g.account.used g.flight n g.phase t.sees ∙ t.used_is;
         number_is = t.number_is;
@@ -187,6 +189,7 @@ pub glances_on : (setup : Setup) (first last more : List Event) (key : Key) (g :
     Glances setup first last key g → Glances setup first (last ++ more) key g
 glances_on setup first last more key g t = record {
   setup_is = t.setup_is;
+  countable = t.countable;
   seat_is = t.seat_is;
   used_is = t.used_is;
   number_is = t.number_is;
@@ -196,10 +199,11 @@ glances_on setup first last more key g t = record {
 }
 
 -- it begins at the root
-pub glances_first : (setup : Setup) (events : List Event) (key : Key) →
+pub glances_first : (setup : Setup) (events : List Event) (key : Key) → 1 < setup.shape.limit →
     Glances setup events events key (start_of setup key)
-glances_first setup events key = record {
+glances_first setup events key countable = record {
   setup_is = refl;
+  countable = countable;
   seat_is = refl;
   used_is = refl;
   number_is = refl;
@@ -262,7 +266,7 @@ module _ (setup : Setup) (key : Key) (known now : List Event) where
   begun : (times : List (List Event)) (more : List ℕ) → length times ≡ length more →
       Glances setup (began_at known times) now key (goes_by (start_of setup key) more) →
       Glances setup (began_at known (times ++ now ∷ [])) now key (goes_by (start_of setup key) more)
-  begun [] [] e g = glances_first setup now key
+  begun [] [] e g = glances_first setup now key g.countable
   begun [] (word ∷ more) e g = absurd (omega (arith, e))
   begun (time ∷ times) more e g = g
 
@@ -518,5 +522,5 @@ begins_glancing key since plan table_id token table size one opened run is = rec
   as_many = refl;
   later = [];
   after = sym (append-nil (front_of plan token.me).known);
-  at = glances_first (plain plan) (front_of plan token.me).known key;
+  at = glances_first (plain plan) (front_of plan token.me).known key (omega arith);
 }

@@ -1,5 +1,5 @@
 -- A reader that goes the way of a lookup: where it stands, by the words that it has found since it began.
-use Rattle.std.specs.Prelude.{◌≡◌, ℕ, ◌+◌, List, [], ◌∷◌, ◌++◌, drop, length}
+use Rattle.std.specs.Prelude.{◌≡◌, ◌<◌, ℕ, ◌+◌, List, [], ◌∷◌, ◌++◌, drop, length}
 use Rattle.atomic_table.specs.Seated.{TableId}
 use Rattle.plain_map.specs.declared.keys.Key.{Key}
 use Rattle.plain_map.specs.declared.calls.Call.TheVariants.{Lookup}
@@ -82,6 +82,7 @@ IsPaced setup phase loads = ⊥
 -- so it looks a key up in this run, from the first events to the last
 pub record Glances (setup : Setup) (first last : List Event) (key : Key) (g : Going) : Type 0 where
   pub setup_is : g.setup ≡ setup
+  pub countable : 1 < setup.shape.limit
   pub seat_is : g.seat ≡ 0
   pub used_is : g.account.used ≡ no_rows
   pub number_is : g.flight.number ≡ 1

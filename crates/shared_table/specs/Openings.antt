@@ -5,13 +5,13 @@ use Rattle.hash_bits.specs.declared.hashing.Hashing.{Hashing}
 use Rattle.step_counts.specs.declared.rows.SeatRows.{SeatRows}
 use Rattle.step_counts.specs.declared.settings.Settings.{Settings}
 use Rattle.bucket_states.specs.Parts.{HasDistinctKeys}
-use Rattle.word_rows.specs.Shape.{IsShape, AreBelow}
+use Rattle.word_rows.specs.Shape.{IsShape, AreBelow, record_limit}
 use Rattle.table_model.specs.Setup.{Setup, IsPair}
 
 -- a table of these settings, with these ranges, hashing and first pairs
 abbrev pub setup_of : Settings → Hashing → List SeatRows → List Pair → Setup
 setup_of settings hashing ranges first = record {
-  shape = record { settings = settings; ranges = ranges };
+  shape = record { settings = settings; ranges = ranges; limit = record_limit };
   hashing = hashing;
   first = first;
 }

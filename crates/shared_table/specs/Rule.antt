@@ -2,7 +2,7 @@
 use Rattle.std.specs.Prelude.{◌≡◌, ℕ, ◌<◌, List, [], ◌∷◌, ◌++◌, All, map}
 use Rattle.atomic_table.specs.Table.{State, Me, Step}
 use Rattle.plain_map.specs.declared.calls.Call.{Call}
-use Rattle.word_rows.specs.Shape.{Shape}
+use Rattle.word_rows.specs.Shape.{Shape, record_limit}
 use Rattle.table_model.specs.declared.events.Event.{Event}
 use Rattle.table_model.specs.Setup.{Setup, seats_of}
 use Rattle.table_model.specs.declared.events.Ask.{Ask}
@@ -26,7 +26,7 @@ pub record Holds (setup : Setup) (s : State (Unit {0}) View) : Type 0 where
 -- what a table was opened with, as the definitions see it
 abbrev pub plain : Plan → Setup
 plain plan = record {
-  shape = record { settings = plan.settings; ranges = plan.rows.items };
+  shape = record { settings = plan.settings; ranges = plan.rows.items; limit = record_limit };
   hashing = plan.hashing;
   first = plan.first.items;
 }

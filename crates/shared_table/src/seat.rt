@@ -9,7 +9,7 @@
 ghost use Rattle.std.specs.Prelude.{◌≡◌, ◌<◌, ◌≤◌, ◌^◌, IfOk, None, OnErr};
 ghost use Rattle.std.specs.Result.{result_err};
 ghost use Rattle.step_counts.specs.StepCounts.{step_bound};
-ghost use Rattle.plain_map.specs.declared.calls.Call.TheVariants.{Insert, Lookup, Remove, Tally};
+ghost use Rattle.plain_map.specs.declared.calls.Call.TheVariants.{Count, Insert, Lookup, Put, Remove, Tally};
 ghost use Rattle.plain_map.specs.Calls.{key_in};
 ghost use Rattle.plain_map.specs.Serving.{CanCount, IsAskable};
 ghost use Rattle.plain_map.specs.Updates.{IsUpdate, value_limit};
@@ -126,6 +126,58 @@ impl Seat {
         ensures bounded { IfOk result (λ made. made.steps ≤ step_bound (settings_of self.old.holding.setup)) }
     {
         self.answer(directory, packet, &Call::Tally(key, bytes))
+    }
+
+    /// Adds bytes to the session of a key, and inserts the key with this value and these bytes where it is not there:
+    /// `New`, `NoRoom`, or `Sum` with the total, which stops at 2^61 - 1.
+    ///
+    /// `Full` comes exactly where fewer of a range are left than an update may need; then nothing happened.
+    ///
+    /// **Steps:** at most `step_counts::bound` of the table's settings; it waits for nobody and takes no memory.
+    pub fn count(
+        &mut self,
+        directory: &Directory,
+        packet: u32,
+        key: Key,
+        value: u64,
+        bytes: u64,
+    ) -> Result<Record, Full>
+        requires seat { IsOf directory.now self.old }
+        requires value { value < value_limit }
+        requires bytes { bytes < value_limit }
+        requires countable { CanCount (account_of self.old).records }
+        ensures same { IsSame self.old self.new }
+        ensures refused { result_err result ≡ refused_at self.old (Count key value bytes) }
+        ensures unanswered { OnErr result (self.new ≡ self.old) }
+        ensures answered { IfOk result (Answers packet (Count key value bytes) self.old self.new) }
+        ensures bounded { IfOk result (λ made. made.steps ≤ step_bound (settings_of self.old.holding.setup)) }
+    {
+        self.answer(directory, packet, &Call::Count(key, value, bytes))
+    }
+
+    /// Gives a key this value, whether it is there or not: `New`, `NoRoom`, or `Old` with the value that it had. Its
+    /// bytes stay.
+    ///
+    /// `Full` comes exactly where fewer of a range are left than an update may need; then nothing happened.
+    ///
+    /// **Steps:** at most `step_counts::bound` of the table's settings; it waits for nobody and takes no memory.
+    pub fn put(
+        &mut self,
+        directory: &Directory,
+        packet: u32,
+        key: Key,
+        value: u64,
+    ) -> Result<Record, Full>
+        requires seat { IsOf directory.now self.old }
+        requires value { value < value_limit }
+        requires countable { CanCount (account_of self.old).records }
+        ensures same { IsSame self.old self.new }
+        ensures refused { result_err result ≡ refused_at self.old (Put key value) }
+        ensures unanswered { OnErr result (self.new ≡ self.old) }
+        ensures answered { IfOk result (Answers packet (Put key value) self.old self.new) }
+        ensures bounded { IfOk result (λ made. made.steps ≤ step_bound (settings_of self.old.holding.setup)) }
+    {
+        self.answer(directory, packet, &Call::Put(key, value))
     }
 
     /// Looks a key up. It is never refused, and takes no memory.

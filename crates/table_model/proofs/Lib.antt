@@ -4,3 +4,4 @@ mod RarePaths
 mod Moments
 mod PlayedStatements
 mod ScheduledPlays
+mod PlayedCounts

@@ -13,12 +13,12 @@ use Rattle.std.specs.List.{list_all, range_with_len}
 use Rattle.plain_map.specs.declared.rules.Rules.{Rules}
 use Rattle.std.specs.Prelude.{nat_lt}
 use Rattle.std.specs.Option.{option_map_or}
-use Rattle.plain_map.specs.declared.calls.Call.TheVariants.{Insert, Remove, Lookup, Tally}
+use Rattle.plain_map.specs.declared.calls.Call.TheVariants.{Insert, Remove, Lookup, Tally, Count, Put}
 use Rattle.plain_map.specs.declared.keys.Pair.{Pair}
-use Rattle.plain_map.specs.PlainObject.{found_in, gone_from, insert_reply, new_session, sum_of}
+use Rattle.plain_map.specs.PlainObject.{count_reply, counted_session, found_in, gone_from, grown, insert_reply, new_session, revalued, sum_of}
 use Rattle.plain_map.specs.Keys.{pair_of}
 use Rattle.word_rows.specs.Shape.{Shape}
-use Rattle.bucket_states.specs.Items.{value_at, tallied_in, without, appended}
+use Rattle.bucket_states.specs.Items.{value_at, tallied_in, without, appended, revised_in}
 use Rattle.plain_map.specs.History.{Placed, answered, pending, seat_of, number_of, call_in}
 use Rattle.table_model.specs.Setup.{rules_of, classmates}
 use Rattle.table_model.specs.Order.{is_next, is_call, effects_of}
@@ -90,6 +90,8 @@ plain_reply rules pairs (Insert key value) = insert_reply (value_at key pairs) (
 plain_reply rules pairs (Remove key) = option_map_or gone_from (value_at key pairs) Absent
 plain_reply rules pairs (Lookup key) = option_map_or found_in (value_at key pairs) Absent
 plain_reply rules pairs (Tally key amount) = option_map_or (sum_of amount) (value_at key pairs) Absent
+plain_reply rules pairs (Count key value amount) = count_reply amount (value_at key pairs) (plain_room rules pairs key)
+plain_reply rules pairs (Put key value) = insert_reply (value_at key pairs) (plain_room rules pairs key)
 
 abbrev pub plain_after : Rules → List Pair → Call → List Pair
 plain_after rules pairs (Insert key value) =
@@ -97,6 +99,10 @@ plain_after rules pairs (Insert key value) =
 plain_after rules pairs (Remove key) = without key pairs
 plain_after rules pairs (Lookup key) = pairs
 plain_after rules pairs (Tally key amount) = tallied_in key amount pairs
+plain_after rules pairs (Count key value amount) = revised_in pairs key (counted_session value amount)
+    (λ held. grown held amount) (value_at key pairs) (plain_room rules pairs key)
+plain_after rules pairs (Put key value) = revised_in pairs key (new_session value) (λ held. revalued held value)
+    (value_at key pairs) (plain_room rules pairs key)
 
 -- whether an order is legal, by comparing each reply
 abbrev pub has_reply : Rules → List Pair → Placed → Bool

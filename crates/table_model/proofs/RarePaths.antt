@@ -9,7 +9,7 @@ use Rattle.hash_bits.specs.Spread.{spread}
 use Rattle.hash_bits.specs.Prefix.{first_bits}
 use Rattle.hash_bits.specs.declared.hashing.Hashing.TheVariants.{Ports}
 use Rattle.plain_map.specs.declared.calls.Call.TheVariants.{Insert, Remove}
-use Rattle.word_rows.specs.Shape.{number_after}
+use Rattle.word_rows.specs.Shape.{record_limit, number_after}
 use Rattle.word_rows.specs.Blocks.{blocks}
 use Rattle.bucket_states.specs.Items.{prefix_of, reply_in, items_after, overflows}
 use Rattle.bucket_states.specs.Change.{after_op, change}
@@ -41,6 +41,7 @@ third_look_shows_applied_setup = record {
   shape = record {
     settings = third_look_shows_applied_settings;
     ranges = map (automatic_rows_of third_look_shows_applied_settings) (1 ∷ 2 ∷ []);
+    limit = record_limit;
   };
   hashing = Ports 0;
   first = [];
@@ -75,6 +76,7 @@ third_look_shows_frozen_setup = record {
   shape = record {
     settings = third_look_shows_frozen_settings;
     ranges = map (automatic_rows_of third_look_shows_frozen_settings) (3 ∷ 1 ∷ []);
+    limit = record_limit;
   };
   hashing = Ports 0;
   first = [];
@@ -110,6 +112,7 @@ helpers_change_applies_setup = record {
   shape = record {
     settings = helpers_change_applies_settings;
     ranges = map (automatic_rows_of helpers_change_applies_settings) (1 ∷ 2 ∷ []);
+    limit = record_limit;
   };
   hashing = Ports 0;
   first = [];
@@ -144,6 +147,7 @@ second_round_finds_applied_setup = record {
   shape = record {
     settings = second_round_finds_applied_settings;
     ranges = map (automatic_rows_of second_round_finds_applied_settings) (2 ∷ 1 ∷ []);
+    limit = record_limit;
   };
   hashing = Ports 0;
   first = [];
@@ -178,6 +182,7 @@ second_root_leaves_round_setup = record {
   shape = record {
     settings = second_root_leaves_round_settings;
     ranges = map (automatic_rows_of second_root_leaves_round_settings) (2 ∷ 3 ∷ []);
+    limit = record_limit;
   };
   hashing = Ports 0;
   first = [];
@@ -213,6 +218,7 @@ second_root_exchange_happens_setup = record {
   shape = record {
     settings = second_root_exchange_happens_settings;
     ranges = map (automatic_rows_of second_root_exchange_happens_settings) (2 ∷ 3 ∷ []);
+    limit = record_limit;
   };
   hashing = Ports 0;
   first = [];
@@ -248,6 +254,7 @@ two_lost_root_exchanges_setup = record {
   shape = record {
     settings = two_lost_root_exchanges_settings;
     ranges = map (automatic_rows_of two_lost_root_exchanges_settings) (2 ∷ 3 ∷ []);
+    limit = record_limit;
   };
   hashing = Ports 0;
   first = [];
@@ -283,6 +290,7 @@ last_look_shows_applied_setup = record {
   shape = record {
     settings = last_look_shows_applied_settings;
     ranges = map (automatic_rows_of last_look_shows_applied_settings) (3 ∷ 1 ∷ []);
+    limit = record_limit;
   };
   hashing = Ports 0;
   first = [];
@@ -318,6 +326,7 @@ root_exchange_in_round_two_setup = record {
   shape = record {
     settings = root_exchange_in_round_two_settings;
     ranges = map (automatic_rows_of root_exchange_in_round_two_settings) (3 ∷ 1 ∷ []);
+    limit = record_limit;
   };
   hashing = Ports 0;
   first = [];
@@ -353,6 +362,7 @@ number_in_two_leaves_setup = record {
   shape = record {
     settings = number_in_two_leaves_settings;
     ranges = map (automatic_rows_of number_in_two_leaves_settings) (2 ∷ 1 ∷ []);
+    limit = record_limit;
   };
   hashing = Ports 0;
   first = [];
@@ -387,6 +397,7 @@ two_buckets_in_one_change_setup = record {
   shape = record {
     settings = two_buckets_in_one_change_settings;
     ranges = map (automatic_rows_of two_buckets_in_one_change_settings) (2 ∷ 2 ∷ []);
+    limit = record_limit;
   };
   hashing = Ports 0;
   first = [];

@@ -9,7 +9,7 @@ use Rattle.hash_bits.specs.Prefix.{first_bits}
 use Rattle.hash_bits.specs.declared.hashing.Hashing.TheVariants.{Ports}
 use Rattle.plain_map.specs.declared.calls.Call.TheVariants.{Insert, Remove, Lookup}
 use Rattle.plain_map.specs.declared.calls.Reply.TheVariants.{New, NoRoom, Gone, Found, Absent}
-use Rattle.word_rows.specs.Shape.{number_after}
+use Rattle.word_rows.specs.Shape.{record_limit, number_after}
 use Rattle.word_rows.specs.Blocks.{blocks}
 use Rattle.bucket_states.specs.Items.{prefix_of, reply_in, items_after, overflows}
 use Rattle.bucket_states.specs.Change.{after_op, change}
@@ -41,6 +41,7 @@ one_insert_setup = record {
   shape = record {
     settings = one_insert_settings;
     ranges = map (automatic_rows_of one_insert_settings) (1 ∷ []);
+    limit = record_limit;
   };
   hashing = Ports 0;
   first = [];
@@ -81,6 +82,7 @@ third_insert_splits_setup = record {
   shape = record {
     settings = third_insert_splits_settings;
     ranges = map (automatic_rows_of third_insert_splits_settings) (3 ∷ []);
+    limit = record_limit;
   };
   hashing = Ports 0;
   first = [];
@@ -121,6 +123,7 @@ three_of_one_class_setup = record {
   shape = record {
     settings = three_of_one_class_settings;
     ranges = map (automatic_rows_of three_of_one_class_settings) (3 ∷ []);
+    limit = record_limit;
   };
   hashing = Ports 0;
   first = [];
@@ -161,6 +164,7 @@ other_seat_answers_setup = record {
   shape = record {
     settings = other_seat_answers_settings;
     ranges = map (automatic_rows_of other_seat_answers_settings) (1 ∷ 1 ∷ []);
+    limit = record_limit;
   };
   hashing = Ports 0;
   first = [];
@@ -201,6 +205,7 @@ lookup_of_a_split_bucket_setup = record {
   shape = record {
     settings = lookup_of_a_split_bucket_settings;
     ranges = map (automatic_rows_of lookup_of_a_split_bucket_settings) (1 ∷ 2 ∷ []);
+    limit = record_limit;
   };
   hashing = Ports 0;
   first = [];
@@ -243,6 +248,7 @@ lookup_after_insert_setup = record {
   shape = record {
     settings = lookup_after_insert_settings;
     ranges = map (automatic_rows_of lookup_after_insert_settings) (0 ∷ 1 ∷ []);
+    limit = record_limit;
   };
   hashing = Ports 0;
   first = [];
@@ -283,6 +289,7 @@ remove_makes_room_setup = record {
   shape = record {
     settings = remove_makes_room_settings;
     ranges = map (automatic_rows_of remove_makes_room_settings) (5 ∷ []);
+    limit = record_limit;
   };
   hashing = Ports 0;
   first = [];
@@ -325,6 +332,7 @@ seats_in_turn_setup = record {
   shape = record {
     settings = seats_in_turn_settings;
     ranges = map (automatic_rows_of seats_in_turn_settings) (1 ∷ 1 ∷ []);
+    limit = record_limit;
   };
   hashing = Ports 0;
   first = [];
@@ -365,6 +373,7 @@ other_seat_answers_a_stopped_one_setup = record {
   shape = record {
     settings = other_seat_answers_a_stopped_one_settings;
     ranges = map (automatic_rows_of other_seat_answers_a_stopped_one_settings) (1 ∷ 1 ∷ []);
+    limit = record_limit;
   };
   hashing = Ports 0;
   first = [];
@@ -405,6 +414,7 @@ no_depth_to_split_setup = record {
   shape = record {
     settings = no_depth_to_split_settings;
     ranges = map (automatic_rows_of no_depth_to_split_settings) (2 ∷ []);
+    limit = record_limit;
   };
   hashing = Ports 0;
   first = [];
@@ -445,6 +455,7 @@ lost_exchange_was_helped_setup = record {
   shape = record {
     settings = lost_exchange_was_helped_settings;
     ranges = map (automatic_rows_of lost_exchange_was_helped_settings) (1 ∷ 1 ∷ []);
+    limit = record_limit;
   };
   hashing = Ports 0;
   first = [];
@@ -485,6 +496,7 @@ opening_of_three_setup = record {
   shape = record {
     settings = opening_of_three_settings;
     ranges = map (automatic_rows_of opening_of_three_settings) ([]);
+    limit = record_limit;
   };
   hashing = Ports 0;
   first = [];
@@ -520,6 +532,7 @@ words_at_opening_setup = record {
   shape = record {
     settings = words_at_opening_settings;
     ranges = record { op_rows = 1; bucket_rows = 4; bucket_words = 2; directory_rows = 1 } ∷ [];
+    limit = record_limit;
   };
   hashing = Ports 0;
   first = [];
@@ -555,6 +568,7 @@ words_after_insert_setup = record {
   shape = record {
     settings = words_after_insert_settings;
     ranges = record { op_rows = 1; bucket_rows = 4; bucket_words = 2; directory_rows = 1 } ∷ [];
+    limit = record_limit;
   };
   hashing = Ports 0;
   first = [];

@@ -34,7 +34,7 @@ IsOpSoFar words = OP_WORDS ≤ length words → (row : OpRow) × SpellsOp row wo
 
 -- the word that is found in a phase is what a table holds there
 abbrev pub Finds : Setup → Phase → (word : ℕ) → Type 0
-Finds setup SeeDone word = word < 2 ^ 32
+Finds setup SeeDone word = word < setup.shape.limit
 Finds setup (FindDepth aim root) word = word ≤ (settings_of setup).depth
 Finds setup (LookCount row) word = word ≤ (settings_of setup).items
 Finds setup (TryRow round turn first row words) word = IsRowSoFar setup (more words word)
@@ -71,7 +71,7 @@ most_steps settings call = if is_update call then step_bound settings else looku
 pub record Counts (setup : Setup) (used : SeatRows) (flight : Flight) : Type 0 where
   pub used_few : AreBelow (2 ^ 62) used
   pub steps : flight.steps < most_steps (settings_of setup) flight.call
-  pub number : flight.number < 2 ^ 32
+  pub number : flight.number < setup.shape.limit
   pub small : flight.steps < 2 ^ 62
 
 -- the step is on a word of the table, finds what a table holds there, and leads to where a row can be spelled

@@ -48,7 +48,7 @@ unfoldable pub apply : Rules → (seat : ℕ) → Op → List NewLeaf → List N
 apply rules seat op leaves =
     at_leaf rules (key_in op.call) (λ leaf. record leaf { bucket = answered rules leaf.bucket seat op } ∷ []) leaves
 
--- the call inserts a new key, and the leaf of its key has no place and can be split
+-- the call brings a new key, and the leaf of its key has no place and can be split
 abbrev pub must_split : Rules → Call → List NewLeaf → Bool
 must_split rules call leaves =
     list_any (λ leaf. is_in rules (key_in call) leaf.bucket

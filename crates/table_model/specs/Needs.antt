@@ -9,7 +9,7 @@ use Rattle.step_counts.specs.declared.rows.SeatRows.{SeatRows}
 use Rattle.step_counts.specs.declared.settings.Settings.{Settings}
 use Rattle.step_counts.specs.StepCounts.{new_leaves, automatic_rows_of}
 use Rattle.plain_map.specs.declared.calls.Call.{Call}
-use Rattle.plain_map.specs.declared.calls.Call.TheVariants.{Insert, Remove, Lookup, Tally}
+use Rattle.plain_map.specs.declared.calls.Call.TheVariants.{Insert, Remove, Lookup, Tally, Count, Put}
 use Rattle.plain_map.specs.declared.keys.Key.{Key}
 use Rattle.plain_map.specs.declared.rules.Rules.{Rules}
 use Rattle.bucket_states.specs.Items.{prefix_of, same_key}
@@ -46,14 +46,16 @@ crowded rules start keys = sum_by (crowded_at rules keys) (range_with_len start 
 abbrev pub splits_for : Rules → (start : ℕ) → (first inserted : List Key) → ℕ
 splits_for rules start first inserted = crowded rules start (first ++ inserted) - crowded rules start first
 
--- the key of an insert
+-- the key of a call that brings it where it is not there
 abbrev pub inserted_by : Call → List Key
 inserted_by (Insert key value) = key ∷ []
 inserted_by (Remove key) = []
 inserted_by (Lookup key) = []
 inserted_by (Tally key amount) = []
+inserted_by (Count key value amount) = key ∷ []
+inserted_by (Put key value) = key ∷ []
 
--- the keys of the inserts that these events give
+-- the keys that the calls which these events give may bring
 abbrev pub inserted_in : List Event → List Key
 inserted_in events = flat_map (λ event. option_map_or (λ begin. inserted_by begin.1) event.begin []) events
 
@@ -101,8 +103,8 @@ FewArePublished =
 abbrev pub IsAmongKeys : List Key → Key → Type 0
 IsAmongKeys keys key = list_any (same_key key) keys ≡ true
 
--- so where the ranges are for so many updates of each seat, and for inserts of these keys, no call is refused before
--- its seat has made as many updates
+-- so where the ranges are for so many updates of each seat, and for calls that bring these keys, no call is refused
+-- before its seat has made as many updates
 abbrev pub BatchRowsSuffice : Type 0
 BatchRowsSuffice =
     (setup : Setup) (keys : List Key) (updates : List ℕ) (events : List Event) (seat : ℕ) (call : Call) →

@@ -164,7 +164,7 @@ pub record IsPlayable (begin : ℕ × Call) : Type 0 where
 pub record CanPlay (setup : Setup) (calls : List (List (ℕ × Call))) : Type 0 where
   pub opened : IsSetup setup
   pub playable : All (λ own. All IsPlayable own) calls
-  pub few : All (λ own. length own ≤ 2 ^ 32 - 1) calls
+  pub few : All (λ own. length own ≤ setup.shape.limit - 1) calls
 
 -- a play is a run, and leaves its world
 abbrev pub PlaysAreRuns : Type 0

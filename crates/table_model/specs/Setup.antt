@@ -1,5 +1,5 @@
 -- What a table is opened with.
-use Rattle.std.specs.Prelude.{◌≡◌, ℕ, ◌+◌, ◌^◌, ◌<◌, ◌≤◌, ◌==◌, List, ◌∷◌, ◌++◌, length, count_by, All}
+use Rattle.std.specs.Prelude.{◌≡◌, ℕ, ◌+◌, ◌<◌, ◌≤◌, ◌==◌, List, ◌∷◌, ◌++◌, length, count_by, All}
 use Rattle.hash_bits.specs.declared.hashing.Hashing.{Hashing}
 use Rattle.step_counts.specs.declared.settings.Settings.{Settings}
 use Rattle.step_counts.specs.declared.rows.SeatRows.{SeatRows}
@@ -66,7 +66,7 @@ pub record IsFirstWithoutRoom (rules : Rules) (first : List Pair) (place : ℕ) 
 -- a table can be opened so: it has ranges for each seat, and its first pairs have distinct keys and find room
 pub record IsSetup (setup : Setup) : Type 0 where
   pub shape : IsShape setup.shape
-  pub ranges : All (AreBelow (2 ^ 32)) setup.shape.ranges
+  pub ranges : All (AreBelow setup.shape.limit) setup.shape.ranges
   pub pairs : All IsPair setup.first
   pub distinct : HasDistinctKeys setup.first
   pub room : HaveRoom (rules_of setup) setup.first

@@ -33,7 +33,7 @@ phase_in (InFlight flight phase) = phase
 
 -- an idle seat may begin the call, and it is not refused
 abbrev pub MayStep : Setup → (seat : ℕ) → ℕ × Call → Account → Stand → Type 0
-MayStep setup seat asked account Idle = (refusal_of setup seat account asked.1 ≡ None) × CanBegin account asked
+MayStep setup seat asked account Idle = (refusal_of setup seat account asked.1 ≡ None) × CanBegin setup account asked
 MayStep setup seat asked account (InFlight flight phase) = Unit {0}
 
 -- the event of that step

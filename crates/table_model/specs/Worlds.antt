@@ -1,12 +1,12 @@
 -- The words and the seats of a table after any list of events. An event is one step of one seat: one load, store or
 -- compare-and-exchange of one word. All interleavings of the seats are such lists.
-use Rattle.std.specs.Prelude.{ℕ, ◌^◌, ◌<◌, ◌==◌, nat_lt, if◌then◌else◌, List, [], ◌∷◌, ◌++◌, Option, Some, None, IsSome, IsNone, IfSome, replicate, slice_index, slice_index_or, slice_set, fold, count_by}
+use Rattle.std.specs.Prelude.{ℕ, ◌-◌, ◌^◌, ◌<◌, ◌==◌, nat_lt, if◌then◌else◌, List, [], ◌∷◌, ◌++◌, length, Option, Some, None, IsSome, IsNone, IfSome, replicate, slice_index, slice_index_or, slice_set, fold, count_by}
 use Rattle.step_counts.specs.StepCounts.{need_of}
 use Rattle.plain_map.specs.declared.calls.Call.{Call}
 use Rattle.plain_map.specs.declared.full.Full.{Full}
 use Rattle.plain_map.specs.Calls.{key_in}
 use Rattle.plain_map.specs.Room.{left_of, refusal}
-use Rattle.plain_map.specs.Serving.{IsAskable, CanCount}
+use Rattle.plain_map.specs.Serving.{IsAskable}
 use Rattle.word_rows.specs.Shape.{Shape, sizes_of}
 use Rattle.word_rows.specs.declared.addresses.Address.{Address}
 use Rattle.word_rows.specs.declared.addresses.Address.TheVariants.{DirectoryWord}
@@ -106,21 +106,21 @@ abbrev pub world_after : Setup → List Event → World
 world_after setup events = fold (happens setup) (opening_world setup) events
 
 -- a call that a seat may begin: it can be kept, and its number fits
-pub record CanBegin (account : Account) (begin : ℕ × Call) : Type 0 where
+pub record CanBegin (setup : Setup) (account : Account) (begin : ℕ × Call) : Type 0 where
   pub packet : begin.0 < 2 ^ 32
   pub key : IsKey (key_in begin.1)
   pub value : IsAskable begin.1
-  pub count : CanCount account.records
+  pub count : length account.records < setup.shape.limit - 1
 
 -- a call is given exactly where the seat is idle, and it may begin
-abbrev pub FitsStand : Account → Stand → Option (ℕ × Call) → Type 0
-FitsStand account Idle begin = IsSome begin × IfSome begin (CanBegin account)
-FitsStand account (InFlight flight phase) begin = IsNone begin
+abbrev pub FitsStand : Setup → Account → Stand → Option (ℕ × Call) → Type 0
+FitsStand setup account Idle begin = IsSome begin × IfSome begin (CanBegin setup account)
+FitsStand setup account (InFlight flight phase) begin = IsNone begin
 
 -- an event that may come in this world
 pub record IsEvent (setup : Setup) (world : World) (event : Event) : Type 0 where
   pub seat : event.seat < seats_of setup
-  pub begin : FitsStand (seat_in world event.seat).account (seat_in world event.seat).stand event.begin
+  pub begin : FitsStand setup (seat_in world event.seat).account (seat_in world event.seat).stand event.begin
 
 -- events that may come one after the other
 abbrev pub AreEvents : Setup → World → List Event → Type 0

@@ -17,7 +17,7 @@ use Rattle.sim_steps.specs.Layout.{AreSettings}
 use Rattle.sim_steps.specs.Program.{step_bound}
 use Rattle.sim_steps.specs.Totals.{AreSmall, IsAdd, adds_of, length_of}
 use Rattle.sim_steps.specs.Order.{Entry, adds_in, how_many}
-use Rattle.report_text.specs.Adds.{added_on}
+use Rattle.totals_runner.specs.Adds.{added_on}
 use Rattle.list_laws.proofs.Cuts.{cut_at, zero_at}
 use Rattle.list_laws.proofs.Places.{All-right, All-left}
 use Rattle.totals_runner.specs.PacketAdds.{add_of, adds_by, seat_for}

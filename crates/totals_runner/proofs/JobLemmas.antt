@@ -6,7 +6,7 @@ use Rattle.sim_steps.specs.declared.adds.Add.{Add}
 use Rattle.sim_totals.specs.Values.{TableValue}
 use Rattle.packet_adders.specs.declared.workers.AddWorker.{AddWorker}
 use Rattle.packet_adders.specs.Work.{IsDone}
-use Rattle.report_text.specs.Adds.{add_batch_lines, totals_head}
+use Rattle.totals_runner.specs.Adds.{add_batch_lines, totals_head}
 use Rattle.totals_runner.specs.declared.batch.Dealt.{Dealt}
 use Rattle.totals_runner.specs.declared.frames.Frames.{Frames}
 use Rattle.packet_heads.specs.declared.framing.Framing.{Framing}

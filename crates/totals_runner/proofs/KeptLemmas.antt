@@ -20,7 +20,7 @@ use Rattle.packet_heads.specs.declared.framing.Framing.{Framing}
 use Rattle.packet_adders.specs.declared.frames.Frame.{Frame}
 use Rattle.plain_map.specs.declared.records.CallId.{CallId}
 use Rattle.report_text.specs.Report.{order_lines}
-use Rattle.report_text.specs.Adds.{add_batch_lines, add_line, added_on}
+use Rattle.totals_runner.specs.Adds.{add_batch_lines, add_line, added_on}
 use Rattle.totals_runner.specs.declared.counting.Counting.{Counting}
 use Rattle.totals_runner.specs.PacketAdds.{MakeAdds, adds_by, seat_for}
 use Rattle.sim_totals.specs.Rule.{no_add}

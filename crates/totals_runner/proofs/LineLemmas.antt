@@ -7,7 +7,7 @@ use Rattle.std.proofs.lemmas.List.{flat_map_more, get_or_at, get_or-map, get_or_
 use Rattle.std.proofs.lemmas.List.Elements.{filter-append}
 use Rattle.std.proofs.lemmas.List.Sums.{fold_push, length-filter, sum_by_push}
 use Rattle.sim_steps.specs.declared.adds.Added.{Added}
-use Rattle.report_text.specs.Adds.{add_line, added_on}
+use Rattle.totals_runner.specs.Adds.{add_line, added_on}
 use Rattle.list_laws.proofs.Cuts.{cut_at}
 use Rattle.totals_runner.specs.Batch.{AreInTurn}
 

@@ -20,7 +20,7 @@ use Rattle.totals_runner.proofs.Lists.{filter-map, permuted_by_class, sum_by-map
 -- a packet's class is one of three
 class_small : (protocol : Protocol) → class_in protocol < 3
 class_small (Tcp flags payload) = omega arith
-class_small Udp = omega arith
+class_small (Udp payload) = omega arith
 
 pub has_class_small : (framing : Framing) (packet : List ℕ) (class : ℕ) → HasClass framing packet class → class < 3
 has_class_small framing packet class (inl has) = (let few = class_small has.0.protocol in omega (arith, has.2, few))

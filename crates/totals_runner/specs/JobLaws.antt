@@ -2,9 +2,9 @@
 use Rattle.std.proofs.Common.{◌≡◌, ℕ, List, ◌++◌, ap, subst, ◌∙◌, append_assoc}
 use Rattle.std.specs.Prelude.{flat_map}
 use Rattle.sim_steps.specs.Program.{step_bound}
-use Rattle.report_text.specs.declared.adds.TotalsTail.{TotalsTail}
-use Rattle.report_text.specs.declared.parts.Ending.{Ending}
-use Rattle.report_text.specs.Adds.{add_batch_lines, totals_head, totals_report, totals_tail}
+use Rattle.totals_runner.specs.declared.adds.TotalsTail.{TotalsTail}
+use Rattle.capture_faults.specs.declared.ending.Ending.{Ending}
+use Rattle.totals_runner.specs.Adds.{add_batch_lines, totals_head, totals_report, totals_tail}
 use Rattle.totals_runner.specs.declared.counting.Asked.{Asked}
 use Rattle.totals_runner.specs.declared.counting.Counting.{Counting}
 use Rattle.totals_runner.specs.Counted.{AreCounted}

@@ -1,3 +1,4 @@
+pub mod Adds
 pub mod PacketAdds
 pub mod Counted
 pub mod Printed

@@ -7,7 +7,7 @@ use Rattle.sim_steps.specs.declared.adds.Add.{Add}
 use Rattle.sim_steps.specs.declared.adds.Added.{Added}
 use Rattle.sim_steps.specs.Order.{Entry}
 use Rattle.batch_history.specs.Batches.{with_counts}
-use Rattle.report_text.specs.Adds.{AddBatch, added_on}
+use Rattle.totals_runner.specs.Adds.{AddBatch, added_on}
 use Rattle.totals_runner.specs.PacketAdds.{adds_by}
 use Rattle.sim_totals.specs.Rule.{no_add}
 use Rattle.totals_runner.specs.Counted.{Counted}

@@ -2,8 +2,8 @@
 -- Source: this project's own.
 use Rattle.std.specs.Prelude.{◌≡◌, ℕ, ◌+◌, ◌≤◌, List, [], ◌∷◌, ◌++◌, length, flat_map, All}
 use Rattle.sim_steps.specs.Program.{step_bound}
-use Rattle.report_text.specs.declared.parts.Ending.{Ending}
-use Rattle.report_text.specs.Adds.{add_batch_lines, totals_head, totals_report}
+use Rattle.capture_faults.specs.declared.ending.Ending.{Ending}
+use Rattle.totals_runner.specs.Adds.{add_batch_lines, totals_head, totals_report}
 use Rattle.packet_heads.specs.declared.framing.Framing.{Framing}
 use Rattle.totals_runner.specs.declared.counting.Asked.{Asked}
 use Rattle.totals_runner.specs.declared.counting.Counting.{Counting}

@@ -50,7 +50,7 @@ impl Counting {
     ghost use Rattle.std.specs.List.{AllZip};
     ghost use Rattle.packet_adders.specs.Work.{IsDone, IsReady};
     ghost use Rattle.packet_adders.specs.declared.workers.AddWorker.{AddWorker as AWorker};
-    ghost use Rattle.report_text.specs.Adds.{add_batch_lines};
+    ghost use Rattle.totals_runner.specs.Adds.{add_batch_lines};
     ghost use Rattle.totals_runner.specs.Counted.{Counted};
     ghost use Rattle.totals_runner.specs.Frames.{HasFrames};
     ghost use Rattle.totals_runner.specs.Opened.{IsOpened};

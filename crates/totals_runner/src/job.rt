@@ -6,12 +6,13 @@ ghost use Rattle.packet_adders.specs.Work.{IsDone};
 ghost use Rattle.totals_runner.specs.declared.counting.Asked.{Asked as AnAsked};
 ghost use Rattle.packet_adders.specs.declared.workers.AddWorker.{AddWorker as AWorker};
 
+use crate::adds::{TotalsTail, totals_tail_text};
 use crate::batch::Dealt;
 use crate::counting::{Asked, Counting};
 use crate::frames::Frames;
+use capture_faults::Ending;
 use capture_loop::{Job, MOST_BATCH, Opened, PACKET_LIMIT};
 use packet_adders::AddWorker;
-use report_text::{Ending, TotalsTail, totals_tail_text};
 use sim_totals::{TotalsTable, step_bound};
 use std::alloc::{AllocError, Global};
 use std::thread::Threads;

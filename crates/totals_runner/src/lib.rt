@@ -1,6 +1,7 @@
 //! Batches of packets, each added by adders in threads on a table of its own.
 #![tactic(auto)]
 
+mod adds;
 mod batch;
 mod counting;
 mod dealing;

@@ -3,11 +3,12 @@
 ghost use Rattle.std.specs.Prelude.{◌≡◌, ◌++◌, ◌≤◌, ℕ, List, All, IfOk, OnOk, flat_map, fold, length, map, max, slice_index_or};
 ghost use Rattle.plain_map.specs.declared.records.CallId.{CallId as ACallId};
 ghost use Rattle.sim_steps.specs.declared.adds.Added.{Added as AnAdded};
-ghost use Rattle.report_text.specs.Adds.{add_line, added_on};
+ghost use Rattle.totals_runner.specs.Adds.{add_line, added_on};
 ghost use Rattle.totals_runner.specs.Batch.{AreInTurn, IsEntry, id_in};
 
+use crate::adds::add_text;
 use plain_map::{CallId, MOST_SEATS};
-use report_text::{Line, add_text};
+use report_text::Line;
 use sim_totals::Added;
 use std::alloc::{AllocError, Global};
 

@@ -3,17 +3,18 @@
 ghost use Rattle.std.specs.Prelude.{◌≡◌, ◌<◌, ◌≤◌, Ok};
 ghost use Rattle.edge_traits.specs.Edge.{Rose};
 ghost use Rattle.capture_loop.specs.Input.{StopsAt, packet_limit};
-ghost use Rattle.capture_loop.specs.Leaves.{LoopLeavesAll, Marks, RunReads, RunWrites};
+ghost use Rattle.capture_loop.specs.Leaves.{EndsBy, LoopLeavesAll, Marks, RunReads, RunWrites};
 ghost use Rattle.capture_loop.specs.declared.job.TheConstants.{MOST_BATCH};
 ghost use Rattle.capture_loop.specs.Looping.{OnNotPut};
 ghost use Rattle.packet_heads.specs.Links.{number_in};
 ghost use Rattle.totals_runner.specs.Told.{IsTotalsLines, IsTotalsReport};
 
+use crate::adds::totals_head_text;
 use crate::counting::{Asked, Counting};
 use crate::frames::Frames;
+use capture_faults::Ending;
 use capture_loop::{Means, Piles, Stop, run_job};
 use edge_traits::{Gate, Sink, Source};
-use report_text::{Ending, totals_head_text};
 use std::thread::Threads;
 
 /// Counts the packets of the source's input as is asked, batch by batch, each by the adder of its seat in a thread of
@@ -30,7 +31,7 @@ pub fn count_input<R: Threads + Sync, S: Source, K: Sink, G: Gate + Sync>(
     requires batch { (0 < asked.now.batch) × (asked.now.batch ≤ MOST_BATCH) }
     requires so_many { means.now.batch ≡ asked.now.batch }
     ensures leaves { LoopLeavesAll asked.now.batch (IsTotalsLines asked.now) (IsTotalsReport asked.now)
-        (Rose (S.faults source.old) (S.faults source.new)) (number_in asked.now.framing.link)
+        (EndsBy (S.failed source.old) (S.failed source.new)) (number_in asked.now.framing.link)
         (S.left source.old) (S.left source.new) (K.put sink.old) (K.put sink.new) result }
 
     // Where the first packet starts that is not counted, exactly if there were more than are taken.

@@ -4,8 +4,8 @@ use Rattle.std.specs.Io.KnownBytes.{Keeps}
 use Rattle.capture_faults.specs.declared.any_fault.AnyFault.{AnyFault}
 use Rattle.pcapng_reader.specs.Input.{Input}
 use Rattle.pcapng_reader.specs.Laws.{HasOneInput}
-use Rattle.report_text.specs.declared.parts.Ending.{Ending}
-use Rattle.report_text.specs.declared.parts.Ending.TheVariants.{Done, ReadFault, Limit, Fault}
+use Rattle.capture_faults.specs.declared.ending.Ending.{Ending}
+use Rattle.capture_faults.specs.declared.ending.Ending.TheVariants.{Done, ReadFault, Limit, Fault}
 use Rattle.capture_loop.specs.declared.stop.Stop.{Stop}
 use Rattle.capture_loop.specs.declared.stop.Stop.TheVariants.{Memory, NotPut}
 use Rattle.capture_loop.specs.Input.{packet_limit}
@@ -21,47 +21,47 @@ use Rattle.trace_runner.specs.Totalled.{LeavesTotals, asked_of}
 use Rattle.mode_parts.proofs.ExactLemmas.{few_packets, many_packets, same_status}
 
 -- the input of the bytes is one, and decides the answer
-pub totals_exact : (size link : ℕ) (lines : Lines) (report : Reports) (read_failed : Type 0) (bytes : List ℕ)
+pub totals_exact : (size link : ℕ) (lines : Lines) (report : Reports) (can_end : Ending → Type 0) (bytes : List ℕ)
     (left before after : Option (List ℕ)) (end : Result Ending Stop) (answer : Status) (packets : List (List ℕ))
     (ending : Result ℕ AnyFault) → answer ≡ status_by end → HasOneInput link bytes → Input link bytes packets ending →
     (answer ≡ status.ReadFault → ⊥) → (answer ≡ status.WriteFault → ⊥) →
-    Leaves size link lines report read_failed bytes left before after end →
+    Leaves size link lines report can_end bytes left before after end →
     (answer ≡ status_for packets ending) ⊎ (answer ≡ status.Memory)
-totals_exact size link lines report read_failed bytes left before after (Ok (Done rest)) answer packets ending is one
+totals_exact size link lines report can_end bytes left before after (Ok (Done rest)) answer packets ending is one
     input
     no_read no_write leaves =
     let held = leaves.1.1.1.holds.0 in
     inl (is ∙ few_packets packet_limit leaves.1.1.0 (Ok rest) held.1
     ∙ same_status link packet_limit bytes leaves.1.1.0 packets (Ok rest) ending one held.0 input)
-totals_exact size link lines report read_failed bytes left before after (Ok (Fault fault)) answer packets ending is one
+totals_exact size link lines report can_end bytes left before after (Ok (Fault fault)) answer packets ending is one
     input
     no_read no_write leaves =
     let held = leaves.1.1.1.holds in
     inl (is ∙ few_packets packet_limit leaves.1.1.0 (Err fault) held.1
     ∙ same_status link packet_limit bytes leaves.1.1.0 packets (Err fault) ending one held.0 input)
-totals_exact size link lines report read_failed bytes left before after (Ok (Limit limit)) answer packets ending is one
+totals_exact size link lines report can_end bytes left before after (Ok (Limit limit)) answer packets ending is one
     input
     no_read no_write leaves =
     let held = leaves.1.1.1.holds.0 in
     inl (is ∙ many_packets packet_limit held.0 held.1 held.3
     ∙ same_status link packet_limit bytes held.0 packets held.1 ending one held.2 input)
-totals_exact size link lines report read_failed bytes left before after (Ok ReadFault) answer packets ending is one
+totals_exact size link lines report can_end bytes left before after (Ok ReadFault) answer packets ending is one
     input
     no_read no_write leaves =
     absurd (no_read is)
-totals_exact size link lines report read_failed bytes left before after (Err Memory) answer packets ending is one input
+totals_exact size link lines report can_end bytes left before after (Err Memory) answer packets ending is one input
     no_read no_write leaves =
     inr is
-totals_exact size link lines report read_failed bytes left before after (Err NotPut) answer packets ending is one input
+totals_exact size link lines report can_end bytes left before after (Err NotPut) answer packets ending is one input
     no_read no_write leaves =
     absurd (no_write is)
 
 -- memory ran out before anything was read or put
-pub totals_nothing : (plan : Plan) (read_failed : Type 0) (first left before after : Option (List ℕ)) →
-    Keeps before after → LeavesTotals plan read_failed first left before after status.Memory
-totals_nothing plan read_failed first left before after keeps = (
+pub totals_nothing : (plan : Plan) (can_end : Ending → Type 0) (first left before after : Option (List ℕ)) →
+    Keeps before after → LeavesTotals plan can_end first left before after status.Memory
+totals_nothing plan can_end first left before after keeps = (
   Err Memory,
   refl,
-  leaves_nothing plan.batch (IsTotalsLines (asked_of plan)) (IsTotalsReport (asked_of plan)) read_failed
+  leaves_nothing plan.batch (IsTotalsLines (asked_of plan)) (IsTotalsReport (asked_of plan)) can_end
       (number_in plan.framing.link) first left before after keeps,
 )

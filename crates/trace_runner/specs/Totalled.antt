@@ -1,6 +1,6 @@
 -- What `totals` leaves.
 use Rattle.std.specs.Prelude.{◌≡◌, List, ℕ, Option, Result}
-use Rattle.report_text.specs.declared.parts.Ending.{Ending}
+use Rattle.capture_faults.specs.declared.ending.Ending.{Ending}
 use Rattle.capture_loop.specs.declared.stop.Stop.{Stop}
 use Rattle.capture_loop.specs.Leaves.{LoopLeavesAll}
 use Rattle.command_line.specs.declared.plan.Plan.{Plan}
@@ -16,8 +16,8 @@ asked_of plan = record { seats = plan.seats; framing = plan.framing; batch = pla
 
 -- The run ended so, by its input or before, and what is put is the report of the packets that were counted then, by as
 -- many seats as the plan says, or a part of it.
-abbrev pub LeavesTotals : Plan → Type 0 → (first left before after : Option (List ℕ)) → Status → Type 0
-LeavesTotals plan read_failed first left before after answer =
+abbrev pub LeavesTotals : Plan → (Ending → Type 0) → (first left before after : Option (List ℕ)) → Status → Type 0
+LeavesTotals plan can_end first left before after answer =
     (end : Result Ending Stop) × (answer ≡ status_by end)
-    × LoopLeavesAll plan.batch (IsTotalsLines (asked_of plan)) (IsTotalsReport (asked_of plan)) read_failed
+    × LoopLeavesAll plan.batch (IsTotalsLines (asked_of plan)) (IsTotalsReport (asked_of plan)) can_end
     (number_in plan.framing.link) first left before after end

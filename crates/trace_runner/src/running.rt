@@ -2,6 +2,7 @@
 
 ghost use Rattle.std.specs.Prelude.{◌≡◌, ◌≤◌, ◌⊎◌, ℕ, List, map, string_bytes, Some, None, Result};
 ghost use Rattle.edge_traits.specs.Edge.{Rose};
+ghost use Rattle.capture_loop.specs.Leaves.{EndsBy};
 ghost use Rattle.pcapng_reader.specs.Input.{Input};
 ghost use Rattle.capture_faults.specs.declared.any_fault.AnyFault.{AnyFault};
 ghost use Rattle.command_line.specs.declared.plan.Plan.{Plan as APlan};
@@ -9,9 +10,9 @@ ghost use Rattle.command_line.specs.declared.plan.Mode.TheVariants.{Check, Make,
 ghost use Rattle.command_line.specs.Words.{IsInRange, reads};
 ghost use Rattle.serve_modes.specs.Headline.{LeavesAll, LeavesTried};
 ghost use Rattle.trace_runner.specs.Made.{LeavesMade};
-ghost use Rattle.packet_heads.specs.Heads.{plain_framing};
+ghost use Rattle.mode_parts.specs.Callings.{calling_of, plain_calling};
 ghost use Rattle.packet_heads.specs.Links.{number_in};
-ghost use Rattle.mode_parts.specs.Statuses.{MarksFor, ReadsFailed, WritesFailed, status_for, status_up_to};
+ghost use Rattle.mode_parts.specs.Statuses.{MarksFor, NoneFailed, ReadsFailed, WritesFailed, status_for, status_up_to};
 ghost use Rattle.capture_loop.specs.Input.{StopsAt, packet_limit};
 ghost use Rattle.trace_runner.specs.Beyond.{ReadsNoPackets};
 ghost use Rattle.trace_runner.specs.Judged.{LeavesVerdict, status_of_text};
@@ -54,28 +55,28 @@ pub fn run<R: Threads + Sync, S: Source, K: Sink, G: Gate + Sync>(
     // the plain map's replies. So it is for the bytes that the source tells, and for those of them that were taken,
     // which decide the answer. Of a source that tells nothing it says only that some bytes have such a report.
     ensures headline { (plan : APlan) → reads (map string_bytes words.now) ≡ Some plan → plan.mode ≡ Serve →
-        LeavesAll plan (Rose (S.faults source.old) (S.faults source.new)) (S.left source.old) (S.left source.new)
+        LeavesAll plan (EndsBy (S.failed source.old) (S.failed source.new)) (S.left source.old) (S.left source.new)
         (K.put sink.old) (K.put sink.new) result }
 
-    // Where nothing fails, the input that the bytes are decides which answer it is, want of memory apart.
+    // If no read and no write fails, the bytes alone decide which answer it is, want of memory apart.
     ensures exact { (plan : APlan) (bytes : List ℕ) (packets : List (List ℕ)) (ending : Result ℕ AnyFault) →
         reads (map string_bytes words.now) ≡ Some plan → plan.mode ≡ Serve →
         S.left source.old ≡ Some bytes → Input (number_in plan.framing.link) bytes packets ending →
-        ¬ Rose (S.faults source.old) (S.faults source.new) →
-        ¬ Rose (K.faults sink.old) (K.faults sink.new) →
+        NoneFailed (S.failed source.old) (S.failed source.new) →
+        NoneFailed (K.failed sink.old) (K.failed sink.new) →
         (result ≡ status_for packets ending) ⊎ (result ≡ Status.Memory) }
 
     // `play`: what is put is the report of one play of the input's calls, by the schedule and the stops of the words.
     ensures played { (plan : APlan) → reads (map string_bytes words.now) ≡ Some plan → plan.mode ≡ Play →
-        LeavesPlayed plan (Rose (S.faults source.old) (S.faults source.new)) (S.left source.old) (S.left source.new)
+        LeavesPlayed plan (EndsBy (S.failed source.old) (S.failed source.new)) (S.left source.old) (S.left source.new)
         (K.put sink.old) (K.put sink.new) result }
 
     // Where nothing fails, here too the input decides.
     ensures exact_play { (plan : APlan) (bytes : List ℕ) (packets : List (List ℕ)) (ending : Result ℕ AnyFault) →
         reads (map string_bytes words.now) ≡ Some plan → plan.mode ≡ Play →
         S.left source.old ≡ Some bytes → Input (number_in plan.framing.link) bytes packets ending →
-        ¬ Rose (S.faults source.old) (S.faults source.new) →
-        ¬ Rose (K.faults sink.old) (K.faults sink.new) →
+        NoneFailed (S.failed source.old) (S.failed source.new) →
+        NoneFailed (K.failed sink.old) (K.failed sink.new) →
         (result ≡ status_up_to play_limit packets ending) ⊎ (result ≡ Status.Memory) }
 
     // Where the first packet starts that is not served: it is told exactly if there are more than are taken.
@@ -102,15 +103,15 @@ pub fn run<R: Threads + Sync, S: Source, K: Sink, G: Gate + Sync>(
     // `totals`: what is put is the report of the input's packets, in one order of all adds with the counts of the plain
     // totals.
     ensures totals { (plan : APlan) → reads (map string_bytes words.now) ≡ Some plan → plan.mode ≡ Totals →
-        LeavesTotals plan (Rose (S.faults source.old) (S.faults source.new)) (S.left source.old) (S.left source.new)
+        LeavesTotals plan (EndsBy (S.failed source.old) (S.failed source.new)) (S.left source.old) (S.left source.new)
         (K.put sink.old) (K.put sink.new) result }
 
     // Where nothing fails, here too the input decides.
     ensures exact_totals { (plan : APlan) (bytes : List ℕ) (packets : List (List ℕ)) (ending : Result ℕ AnyFault) →
         reads (map string_bytes words.now) ≡ Some plan → plan.mode ≡ Totals →
         S.left source.old ≡ Some bytes → Input (number_in plan.framing.link) bytes packets ending →
-        ¬ Rose (S.faults source.old) (S.faults source.new) →
-        ¬ Rose (K.faults sink.old) (K.faults sink.new) →
+        NoneFailed (S.failed source.old) (S.failed source.new) →
+        NoneFailed (K.failed sink.old) (K.failed sink.new) →
         (result ≡ status_for packets ending) ⊎ (result ≡ Status.Memory) }
 
     // `check`: what is put is the line of the verdict that the text deserves; so it is `check yes` exactly if the text
@@ -121,8 +122,8 @@ pub fn run<R: Threads + Sync, S: Source, K: Sink, G: Gate + Sync>(
     // Where nothing fails, the text decides, and a limit of its length.
     ensures exact_check { (plan : APlan) (text : List ℕ) → reads (map string_bytes words.now) ≡ Some plan →
         plan.mode ≡ Check → S.left source.old ≡ Some text →
-        ¬ Rose (S.faults source.old) (S.faults source.new) →
-        ¬ Rose (K.faults sink.old) (K.faults sink.new) →
+        NoneFailed (S.failed source.old) (S.failed source.new) →
+        NoneFailed (K.failed sink.old) (K.failed sink.new) →
         (result ≡ status_of_text text) ⊎ (result ≡ Status.Memory) }
 
     // The words ask for no plan, and then nothing is read or put, whatever the answer.
@@ -168,17 +169,17 @@ fn run_plan<R: Threads + Sync, S: Source, K: Sink, G: Gate + Sync>(
     requires range { IsInRange plan.now }
     requires batch { means.now.batch ≡ plan.now.batch }
     ensures headline { plan.now.mode ≡ Serve →
-        LeavesAll plan.now (Rose (S.faults source.old) (S.faults source.new)) (S.left source.old)
+        LeavesAll plan.now (EndsBy (S.failed source.old) (S.failed source.new)) (S.left source.old)
         (S.left source.new) (K.put sink.old) (K.put sink.new) result }
     ensures played { plan.now.mode ≡ Play →
-        LeavesPlayed plan.now (Rose (S.faults source.old) (S.faults source.new)) (S.left source.old)
+        LeavesPlayed plan.now (EndsBy (S.failed source.old) (S.failed source.new)) (S.left source.old)
         (S.left source.new) (K.put sink.old) (K.put sink.new) result }
     ensures made { plan.now.mode ≡ Make →
         LeavesMade plan.now (K.put sink.old) (K.put sink.new) result × (source.new ≡ source.old) }
-    ensures tried { plan.now.mode ≡ Trial → plan.now.rows ≡ None → plan.now.framing ≡ plain_framing →
+    ensures tried { plan.now.mode ≡ Trial → plan.now.rows ≡ None → calling_of plan.now ≡ plain_calling →
         LeavesTried plan.now (K.put sink.old) (K.put sink.new) result × (source.new ≡ source.old) }
     ensures totals { plan.now.mode ≡ Totals →
-        LeavesTotals plan.now (Rose (S.faults source.old) (S.faults source.new)) (S.left source.old)
+        LeavesTotals plan.now (EndsBy (S.failed source.old) (S.failed source.new)) (S.left source.old)
         (S.left source.new) (K.put sink.old) (K.put sink.new) result }
     ensures checked { plan.now.mode ≡ Check →
         LeavesVerdict (S.left source.old) (S.left source.new) (K.put sink.old) (K.put sink.new) result }

@@ -2,6 +2,7 @@
 
 ghost use Rattle.std.specs.Prelude.{◌≡◌, ◌≤◌};
 ghost use Rattle.edge_traits.specs.Edge.{Rose};
+ghost use Rattle.capture_loop.specs.Leaves.{EndsBy};
 ghost use Rattle.command_line.specs.Words.{IsInRange};
 ghost use Rattle.mode_parts.specs.Statuses.{MarksFor, ReadsFailed, WritesFailed};
 ghost use Rattle.capture_loop.specs.Input.{StopsAt, packet_limit};
@@ -25,7 +26,7 @@ pub(crate) fn count<R: Threads + Sync, S: Source, K: Sink, G: Gate + Sync>(
 ) -> Status
     requires range { IsInRange plan.now }
     requires batch { means.now.batch ≡ plan.now.batch }
-    ensures leaves { LeavesTotals plan.now (Rose (S.faults source.old) (S.faults source.new)) (S.left source.old)
+    ensures leaves { LeavesTotals plan.now (EndsBy (S.failed source.old) (S.failed source.new)) (S.left source.old)
         (S.left source.new) (K.put sink.old) (K.put sink.new) result }
     ensures read_fault { result ≡ Status.ReadFault → Rose (S.faults source.old) (S.faults source.new) }
     ensures write_fault { result ≡ Status.WriteFault → Rose (K.faults sink.old) (K.faults sink.new) }

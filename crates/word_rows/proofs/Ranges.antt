@@ -13,7 +13,7 @@ use Rattle.step_counts.specs.StepCounts.{bucket_row_words, directory_row_words}
 use Rattle.plain_map.specs.declared.full.FullKind.{FullKind}
 use Rattle.plain_map.specs.declared.full.FullKind.TheVariants.{OpRows, BucketRows, BucketWords, DirRows}
 use Rattle.plain_map.specs.Room.{no_rows}
-use Rattle.word_rows.specs.Shape.{Shape, IsShape, AreBelow, Owns, of_kind, by_kind, opening_rows, number_after, first_number, sizes_of, count_of}
+use Rattle.word_rows.specs.Shape.{Shape, IsShape, AreBelow, Owns, record_limit, of_kind, by_kind, opening_rows, number_after, first_number, sizes_of, count_of}
 use Rattle.word_rows.specs.Places.{word_count}
 
 -- the sum of a prefix and of the element after it are within the sum of a longer prefix
@@ -62,9 +62,9 @@ in_range shape kind number seat hs h own =
     (omega (arith, range_after_opening shape kind seat), omega (arith, range_within shape kind seat inside))
 
 -- fewer numbers come after fewer ranges
-pub prefix_few : (settings : Settings) (ranges : List SeatRows) (k : ℕ) →
-    AreBelow (2 ^ 36) (by_kind (number_after settings ranges)) →
-    AreBelow (2 ^ 36) (by_kind (number_after settings (take k ranges)))
+pub prefix_few : (settings : Settings) (ranges : List SeatRows) (k : ℕ) {most : ℕ} →
+    AreBelow most (by_kind (number_after settings ranges)) →
+    AreBelow most (by_kind (number_after settings (take k ranges)))
 unfolding number_after
 prefix_few settings ranges k h = record {
   op_rows = omega (arith, h.op_rows, sum_by-take-le (of_kind OpRows) ranges k);
@@ -74,58 +74,67 @@ prefix_few settings ranges k h = record {
 }
 
 -- small ranges of at most 8 seats are few numbers
-sum_few : (f : SeatRows → ℕ) (ranges : List SeatRows) → length ranges ≤ 8 → All (λ rows. f rows ≤ 2 ^ 32) ranges →
-    sum_by f ranges ≤ 8 * 2 ^ 32
-sum_few f ranges few small =
-    let most : sum_by f ranges ≤ length ranges * 2 ^ 32 = sum_by-le f (2 ^ 32) ranges small in
-    omega (arith, most, mul-le-mul_right (2 ^ 32) few)
+sum_few : (most : ℕ) (f : SeatRows → ℕ) (ranges : List SeatRows) → length ranges ≤ 8 →
+    All (λ rows. f rows ≤ most) ranges →
+    sum_by f ranges ≤ 8 * most
+sum_few most f ranges few small =
+    let sum : sum_by f ranges ≤ length ranges * most = sum_by-le f most ranges small in
+    omega (arith, sum, mul-le-mul_right most few)
 
 -- a directory has at most 4,096 places
 places_few : (settings : Settings) → 2 ^ settings.depth ≤ 2 ^ 12
 places_few settings = let inside : settings.depth ≤ 12 = omega arith in pow_mono inside
 
 -- small ranges end at small numbers
-pub ranges_few : (settings : Settings) (ranges : List SeatRows) → length ranges ≡ settings.seats →
-    All (AreBelow (2 ^ 32)) ranges → AreBelow (2 ^ 36) (by_kind (number_after settings ranges))
+pub ranges_few : (limit : ℕ) (settings : Settings) (ranges : List SeatRows) → length ranges ≡ settings.seats →
+    record_limit ≤ limit → All (AreBelow limit) ranges →
+    AreBelow (16 * limit) (by_kind (number_after settings ranges))
 unfolding number_after
-ranges_few settings ranges each small =
+ranges_few limit settings ranges each long small =
     let few : length ranges ≤ 8 = omega arith in
     record {
-      op_rows = omega (arith, sum_few (of_kind OpRows) ranges few (λ k d h. omega (arith, (small k d h).op_rows)));
+      op_rows = omega (
+        arith,
+        sum_few limit (of_kind OpRows) ranges few (λ k d h. omega (arith, (small k d h).op_rows)),
+      );
       bucket_rows = omega (
         arith,
         places_few settings,
-        sum_few (of_kind BucketRows) ranges few (λ k d h. omega (arith, (small k d h).bucket_rows)),
+        sum_few limit (of_kind BucketRows) ranges few (λ k d h. omega (arith, (small k d h).bucket_rows)),
       );
       bucket_words = omega (
         arith,
         places_few settings,
-        sum_few (of_kind BucketWords) ranges few
+        sum_few limit (of_kind BucketWords) ranges few
             (λ k d h. omega (arith, (small k d h).bucket_words)),
       );
       directory_rows = omega (
         arith,
-        sum_few (of_kind DirRows) ranges few
+        sum_few limit (of_kind DirRows) ranges few
             (λ k d h. omega (arith, (small k d h).directory_rows)),
       );
     }
 
 -- a table's words have small numbers
-pub words_few : (shape : Shape) → IsShape shape → word_count shape < 2 ^ 52
-words_few shape h =
+pub words_few : (shape : Shape) → IsShape shape → shape.limit ≤ record_limit → word_count shape < 2 ^ 52
+words_few shape h short =
     let row : bucket_row_words shape.settings ≤ 2 ^ 10 = omega arith in
     let directory : directory_row_words shape.settings ≤ 2 ^ 13 = omega (arith, places_few shape.settings) in
-    let rows : count_of shape BucketRows ≤ 2 ^ 36 = omega (arith, h.few.bucket_rows) in
-    let directories : count_of shape DirRows ≤ 2 ^ 36 = omega (arith, h.few.directory_rows) in
-    omega (arith, h.few.op_rows, h.few.bucket_words, mul-le-mul rows row, mul-le-mul directories directory)
+    let rows : count_of shape BucketRows ≤ 2 ^ 36 = omega (arith, h.few.bucket_rows, short) in
+    let directories : count_of shape DirRows ≤ 2 ^ 36 = omega (arith, h.few.directory_rows, short) in
+    omega (arith, short, h.few.op_rows, h.few.bucket_words, mul-le-mul rows row, mul-le-mul directories directory)
 
 -- a layout's shape is the settings and ranges that it was made from
 pub made_shape : (settings : Settings) (ranges kept : List SeatRows) → kept ≡ ranges →
-    length ranges ≡ settings.seats → All (AreBelow (2 ^ 32)) ranges →
-    IsShape (record { settings = settings; ranges = kept })
+    length ranges ≡ settings.seats → All (AreBelow record_limit) ranges →
+    IsShape (record { settings = settings; ranges = kept; limit = record_limit })
 made_shape settings ranges kept same each small =
-    subst (λ rows. IsShape (record { settings = settings; ranges = rows })) (sym same)
-    (record { each_seat = each; few = ranges_few settings ranges each small })
+    subst (λ rows. IsShape (record { settings = settings; ranges = rows; limit = record_limit })) (sym same)
+    (record {
+      each_seat = each;
+      limited = omega arith;
+      few = ranges_few record_limit settings ranges each (omega arith) small;
+    })
 
 -- the front of a joined list
 pub front_of : (n : ℕ) (xs ys zs : List SeatRows) → xs ≡ ys → length ys ≡ n → take n (xs ++ zs) ≡ ys

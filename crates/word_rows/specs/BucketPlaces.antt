@@ -4,7 +4,7 @@ use Rattle.std.specs.List.{All}
 use Rattle.step_counts.specs.declared.TheConstants.{COUNT_PLACE, ITEM_WORDS, SEAT_WORDS}
 use Rattle.step_counts.specs.declared.settings.Settings.{Settings}
 use Rattle.plain_map.specs.declared.keys.TheConstants.{KEY_WORDS}
-use Rattle.plain_map.specs.Updates.{value_limit}
+use Rattle.plain_map.specs.Updates.{value_limit, number_limit}
 use Rattle.word_rows.specs.ReplyWords.{word_of_reply, reply_of_word}
 use Rattle.word_rows.specs.BucketWords.{item_part, seat_part}
 
@@ -27,7 +27,7 @@ pub record ItemsStand (count : ℕ) (words : List ℕ) : Type 0 where
 
 -- a seat: a number that fits, a word that spells a reply, and a reply exactly where the number is not 0
 pub record SeatStands (number word : ℕ) : Type 0 where
-  pub few : number < 2 ^ 32
+  pub few : number < number_limit
   pub spelled : word_of_reply (reply_of_word word) ≡ word
   pub paired : (number ≡ 0) ↔ (reply_of_word word ≡ None)
 

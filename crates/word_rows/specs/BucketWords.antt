@@ -7,7 +7,7 @@ use Rattle.step_counts.specs.declared.settings.Settings.{Settings}
 use Rattle.plain_map.specs.declared.calls.Reply.{Reply}
 use Rattle.plain_map.specs.declared.keys.Pair.{Pair}
 use Rattle.plain_map.specs.Rows.{BucketContent}
-use Rattle.plain_map.specs.Updates.{IsSmallPair, IsUpdateReply}
+use Rattle.plain_map.specs.Updates.{number_limit, IsSmallPair, IsUpdateReply}
 use Rattle.word_rows.specs.BaseWords.{IsBase, word_of_base, base_of_word}
 use Rattle.word_rows.specs.Blocks.{blocks, block, first_values}
 use Rattle.word_rows.specs.KeyWords.{words_of_pair, pair_of_words}
@@ -15,7 +15,7 @@ use Rattle.word_rows.specs.ReplyWords.{word_of_reply, reply_of_word}
 
 -- a seat's applied number, and the reply that there is exactly where the number is not 0
 pub record IsAnswered (number : ℕ) (reply : Option Reply) : Type 0 where
-  pub few : number < 2 ^ 32
+  pub few : number < number_limit
   pub answer : IsUpdateReply reply
   pub paired : (number ≡ 0) ↔ (reply ≡ None)
 

@@ -1,7 +1,7 @@
 -- What every proof about a table's words rests on, in place of arithmetic.
 use Rattle.std.specs.Prelude.{◌≡◌, ℕ, ◌^◌, ◌<◌, ◌≤◌}
 use Rattle.plain_map.specs.declared.full.FullKind.{FullKind}
-use Rattle.word_rows.specs.Shape.{Shape, IsShape, Owns, of_kind, opening_rows, count_of}
+use Rattle.word_rows.specs.Shape.{Shape, IsShape, Owns, record_limit, of_kind, opening_rows, count_of}
 use Rattle.word_rows.specs.Places.{Address, IsAddress, place, word_count}
 
 -- distinct addresses have distinct words
@@ -28,4 +28,4 @@ RangesAreWithin =
 
 -- word numbers are small
 abbrev pub WordsAreFew : Type 0
-WordsAreFew = (shape : Shape) → IsShape shape → word_count shape < 2 ^ 52
+WordsAreFew = (shape : Shape) → IsShape shape → shape.limit ≤ record_limit → word_count shape < 2 ^ 52

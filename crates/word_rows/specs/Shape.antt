@@ -1,16 +1,23 @@
 -- What a table is made from, and the numbers that belong to each of its seats.
 -- Rows and bucket words are numbered from 0; the opening has the first numbers, and then each seat its own range.
-use Rattle.std.specs.Prelude.{◌≡◌, ℕ, ◌+◌, ◌^◌, ◌<◌, ◌≤◌, List, length, take, sum_by, slice_index_or}
+use Rattle.std.specs.Prelude.{◌≡◌, ℕ, ◌+◌, ◌*◌, ◌^◌, ◌<◌, ◌≤◌, List, length, take, sum_by, slice_index_or}
 use Rattle.step_counts.specs.declared.rows.SeatRows.{SeatRows}
 use Rattle.step_counts.specs.declared.settings.Settings.{Settings}
 use Rattle.plain_map.specs.declared.full.FullKind.{FullKind}
 use Rattle.plain_map.specs.declared.full.FullKind.TheVariants.{OpRows, BucketRows, BucketWords, DirRows}
 use Rattle.plain_map.specs.Room.{no_rows}
+use Rattle.plain_map.specs.Updates.{number_limit}
 
--- the settings, and for each seat how many numbers its four ranges have
+-- a record has 32 bits for its number: the limit of each table that is run
+abbrev pub record_limit : ℕ
+record_limit = 2 ^ 32
+
+-- the settings; for each seat how many numbers its four ranges have; and the limit: every seat's ranges have fewer
+-- numbers, and its calls have numbers below it
 pub record Shape : Type 0 where
   pub settings : Settings
   pub ranges : List SeatRows
+  pub limit : ℕ
 
 -- one of the four numbers
 abbrev pub of_kind : FullKind → SeatRows → ℕ
@@ -69,7 +76,8 @@ pub record AreBelow (limit : ℕ) (rows : SeatRows) : Type 0 where
   pub bucket_words : rows.bucket_words < limit
   pub directory_rows : rows.directory_rows < limit
 
--- there are ranges for each seat, and their numbers are few enough for every word to have a number
+-- there are ranges for each seat, and few numbers
 pub record IsShape (shape : Shape) : Type 0 where
   pub each_seat : length shape.ranges ≡ shape.settings.seats
-  pub few : AreBelow (2 ^ 36) (by_kind (count_of shape))
+  pub limited : shape.limit ≤ number_limit
+  pub few : AreBelow (16 * shape.limit) (by_kind (count_of shape))

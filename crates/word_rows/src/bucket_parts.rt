@@ -20,7 +20,7 @@ ghost use Rattle.word_rows.specs.BucketPlaces.{HeadStands, ItemsStand, SeatStand
 use crate::bases::base_of;
 use crate::keys::{read_pair, write_pair};
 use crate::replies::{reply_of, reply_word};
-use plain_map::{BucketRow, KEY_WORDS, Pair, Reply, VALUE_LIMIT};
+use plain_map::{BucketRow, KEY_WORDS, NUMBER_LIMIT, Pair, Reply, VALUE_LIMIT};
 use step_counts::{BUCKET_HEAD_WORDS, COUNT_PLACE, ITEM_WORDS, SEAT_WORDS, Settings};
 
 /// Writes the items, and zeros where there is room for more.
@@ -36,13 +36,13 @@ pub(crate) fn write_items(items: &[Pair], room: usize, out: &mut [u64])
 }
 
 /// Writes each seat's applied number and reply.
-pub(crate) fn write_seats(applied: &[u32], replies: &[Option<Reply>], seats: usize, out: &mut [u64])
+pub(crate) fn write_seats(applied: &[u64], replies: &[Option<Reply>], seats: usize, out: &mut [u64])
     requires answered { AreAnswered seats applied.now replies.now }
     requires long { length out.old ≡ seats * SEAT_WORDS }
     ensures { out.new ≡ seat_words seats applied.now replies.now }
 {
     for seat in 0..seats {
-        out[seat * SEAT_WORDS] = applied[seat] as u64;
+        out[seat * SEAT_WORDS] = applied[seat];
         out[seat * SEAT_WORDS + 1] = reply_word(replies[seat]);
     }
 }
@@ -114,7 +114,7 @@ fn are_zeros(words: &[u64]) -> bool
 pub(crate) fn read_seats(
     words: &[u64],
     seats: usize,
-    applied: &mut Vec<u32>,
+    applied: &mut Vec<u64>,
     replies: &mut Vec<Option<Reply>>,
 ) -> bool
     requires long { length words.now ≡ seats * SEAT_WORDS }
@@ -142,13 +142,12 @@ pub(crate) fn read_seats(
 }
 
 /// Reads one seat's applied number and reply.
-fn read_seat(number: u64, word: u64) -> Option<(u32, Option<Reply>)>
+fn read_seat(number: u64, word: u64) -> Option<(u64, Option<Reply>)>
     ensures stands { IsSome result ↔ SeatStands number word }
     ensures read { IfSome result (λ seat. (seat.0 ≡ number) × (seat.1 ≡ reply_of_word word)) }
 {
     let reply = reply_of(word);
-    let number = u32::try_from(number).ok()?;
-    if reply_word(reply) != word || (number == 0) != reply.is_none() {
+    if number >= NUMBER_LIMIT || reply_word(reply) != word || (number == 0) != reply.is_none() {
         return None;
     }
     Some((number, reply))

@@ -5,7 +5,7 @@
 //! the first, and of all four kinds each seat has a range of its own, in the order of the seats.
 
 ghost use Rattle.std.specs.Prelude.{◌≡◌, ◌+◌, ◌*◌, ◌^◌, ◌<◌, ◌↔◌, IsTrue, take};
-ghost use Rattle.word_rows.specs.Shape.{AreBelow, IsShape, by_kind, count_of, number_after};
+ghost use Rattle.word_rows.specs.Shape.{AreBelow, IsShape, by_kind, count_of, number_after, record_limit};
 
 use crate::Address;
 use step_counts::{DIRECTORY_HEAD_WORDS, OP_WORDS, SeatRows, Settings, bucket_row_words};
@@ -17,10 +17,15 @@ pub struct Layout {
     /// Of each seat; from the last seat on they are none.
     ranges: [SeatRows; 8],
     counts: SeatRows,
-    pub ghost shaped: { IsShape (record { settings = settings; ranges = take settings.seats ranges }) },
+    pub ghost shaped: { IsShape (record {
+      settings = settings;
+      ranges = take settings.seats ranges;
+      limit = record_limit;
+    }) },
     ghost counted: { counts ≡ by_kind (count_of (record {
       settings = settings;
       ranges = take settings.seats ranges;
+      limit = record_limit;
     })) },
 }
 
@@ -51,7 +56,7 @@ impl Layout {
     pub fn new(settings: &Settings, rows: &[SeatRows]) -> Layout
         requires each_seat { length rows.now ≡ settings.now.seats }
         requires small { All (AreBelow (2 ^ 32)) rows.now }
-        ensures { shape_of result ≡ record { settings = settings.now; ranges = rows.now } }
+        ensures { shape_of result ≡ record { settings = settings.now; ranges = rows.now; limit = record_limit } }
     {
         let none = SeatRows {
             op_rows: 0,

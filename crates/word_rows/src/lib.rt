@@ -20,7 +20,7 @@ pub use closed::ClosedRows;
 pub use keys::{read_key, read_pair, write_pair};
 pub use layout::Layout;
 pub use memory::memory_laws;
-pub use ops::{INSERT, OpRow, REMOVE, TALLY, read_op, write_op};
+pub use ops::{COUNT, INSERT, OpRow, PUT, REMOVE, TALLY, read_op, write_op};
 pub use places::place_laws;
 pub use replies::{ABSENT, GONE, NEW, NO_ROOM, OLD, SUM, reply_of, reply_word};
 pub use rows::row_laws;

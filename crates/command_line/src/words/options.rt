@@ -93,4 +93,4 @@ pub static NUMBERS: [NumberOption<'static>; 10] = [
 ];
 
 /// The options with a text.
-pub static TEXTS: [&str; 6] = ["hash", "share", "rows", "schedule", "stop", "link"];
+pub static TEXTS: [&str; 7] = ["hash", "share", "rows", "schedule", "stop", "link", "calls"];

@@ -14,7 +14,7 @@ ghost use Rattle.command_line.specs.Words.{hashing_in};
 ghost use Rattle.command_line.specs.Words.{hashing_of, makes_capture, mode_of, number_if, number_in};
 ghost use Rattle.command_line.specs.Words.{plan_of, plan_with, rows_for, schedule_for, seats_in, share_in};
 ghost use Rattle.command_line.specs.Words.{share_of, start_in, stops_in, text_in, IsInRange};
-ghost use Rattle.command_line.specs.Words.{framing_in, link_in, link_of, reads_capture, tags_in};
+ghost use Rattle.command_line.specs.Words.{calls_in, calls_of, framing_in, link_in, link_of, reads_capture, tags_in};
 
 use crate::plan::{Mode, Plan};
 use crate::plays::{Schedule, Stops};
@@ -25,6 +25,7 @@ use crate::words::plays::{schedule_of, stops_of};
 use crate::words::texts::rows_of;
 use clap::ArgMatches;
 use hash_bits::Hashing;
+use key_texts::CallRule;
 use packet_heads::{Framing, Link};
 use std::alloc::{AllocError, Global};
 use step_counts::SeatRows;
@@ -275,6 +276,27 @@ fn framing_in(mode: Mode, matches: &ArgMatches<'_>) -> Option<Framing>
     })
 }
 
+fn calls_of(text: &str) -> Option<CallRule>
+    ensures { result ≡ calls_of text.now }
+{
+    if text == "sessions" {
+        Some(CallRule::Sessions)
+    } else if text == "flows" {
+        Some(CallRule::Flows)
+    } else {
+        None
+    }
+}
+
+fn calls_in(mode: Mode, matches: &ArgMatches<'_>) -> Option<CallRule>
+    ensures { result ≡ calls_in mode (first_value (found_of matches.now)) }
+{
+    match mode {
+        Mode::Serve | Mode::Play => calls_of(text(matches, "calls", "sessions")),
+        Mode::Make | Mode::Trial | Mode::Totals | Mode::Check => Some(CallRule::Sessions),
+    }
+}
+
 /// The rows of a text, automatic where there is no text.
 fn asked_rows(alloc: Global, text: Option<&str>) -> Result<Option<Option<SeatRows>>, AllocError>
     ensures rows { IfOk result (λ rows. rows ≡ asked_rows (option_map (λ t. t.now) text.entry)) }
@@ -411,6 +433,7 @@ fn plan_with(
     let hashing = hashing_in(mode, matches)?;
     let share = share_in(mode, matches)?;
     let framing = framing_in(mode, matches)?;
+    let calls = calls_in(mode, matches)?;
     let table = has_table(mode);
     let makes = makes_capture(mode);
     Some(Plan {
@@ -428,6 +451,7 @@ fn plan_with(
         packets: number_if(makes, matches, &PACKETS) as u32,
         batch: number_if(has_batches(mode), matches, &BATCH) as u32,
         framing,
+        calls,
     })
 }
 

@@ -1,24 +1,25 @@
 //! One bucket of a table, as a value and as a row whose words are changed where they stand.
 
 ghost use Rattle.std.specs.Prelude.{◌<◌, ◌≤◌, vec_capacity};
-ghost use Rattle.plain_map.specs.Updates.{IsUpdate};
+ghost use Rattle.plain_map.specs.Updates.{IsUpdate, number_limit};
 
 use super::{key, pair};
 use bucket_machine::{Hashed, change_row};
 use bucket_states::{Bucket, Op};
 use hash_bits::Hashing;
 use plain_map::{BucketRow, Call, Reply, Rules, VALUE_LIMIT};
+use std::alloc::Global;
 use std::process::Abort;
 use std::test::Fail;
 use step_counts::{SeatRows, Settings};
 use word_rows::Layout;
 
-fn put(seat: u32, number: u32, port: u16) -> Option<Op> {
+fn put(seat: u32, number: u64, port: u16) -> Option<Op> {
     let call = Call::Insert(key(port), u64::from(port));
     Some(Op { seat, number, call })
 }
 
-fn tally(seat: u32, number: u32, port: u16) -> Option<Op> {
+fn tally(seat: u32, number: u64, port: u16) -> Option<Op> {
     let call = Call::Tally(key(port), u64::from(port));
     Some(Op { seat, number, call })
 }
@@ -123,27 +124,13 @@ fn takes_the_call(rt: &impl Abort, rules: &Rules, half: &mut Bucket, op: &Op, bi
     assert!(rt; half.replies[0] == Some(Reply::New));
 }
 
-fn inserted(seat: u32, number: u32, port: u16, value: u64) -> Op
-    requires { value < VALUE_LIMIT }
-    ensures { IsUpdate result.call }
+// The row of a bucket of depth 0 for two seats and two items, with one item of seat 1 that has 9 bytes, takes an op of
+// each seat. The words are worked by hand from the layout: prefix, depth, one more than the base, mark, count, seven
+// words an item, and number and reply of each seat.
+fn takes(rt: &impl Abort, alloc: Global, one: Op, other: Op, wanted: &[u64; 23]) -> Result<(), Fail>
+    requires one { IsUpdate one.call × (one.number < number_limit) }
+    requires other { IsUpdate other.call × (other.number < number_limit) }
 {
-    let call = Call::Insert(key(port), value);
-    Op { seat, number, call }
-}
-
-fn tallied(seat: u32, number: u32, port: u16, amount: u64) -> Op
-    requires { amount < VALUE_LIMIT }
-    ensures { IsUpdate result.call }
-{
-    let call = Call::Tally(key(port), amount);
-    Op { seat, number, call }
-}
-
-// The row of a bucket of depth 0 for two seats and two items, with one item of seat 1 that has 9 bytes, takes an
-// insert of seat 0 and a tally of seat 1. The words are worked by hand from the layout: prefix, depth, one more than
-// the base, mark, count, seven words an item, and number and reply of each seat. The reply `sum 14` is 6 + 8 * 14.
-#[test]
-fn a_row_takes_an_insert_and_a_tally(rt: HostRuntime) -> Result<(), Fail> {
     let settings = Settings::new(2, 2, 2, 0)?;
     let rows = SeatRows {
         op_rows: 9,
@@ -158,25 +145,101 @@ fn a_row_takes_an_insert_and_a_tally(rt: HostRuntime) -> Result<(), Fail> {
         hashing: Hashing::Ports(0),
     };
     let own = Hashed::new(&rules.hashing, &key(1));
-    let mut room = BucketRow::with_room(rt.alloc(), &settings)?;
-    let (low, high, one, two) = (0x0a00_0001, 0x0a00_0002, 0x0100_5006, 0x0200_5006);
+    let mut room = BucketRow::with_room(alloc, &settings)?;
     let mut words = [
-        0, 0, 4, 0, 1, 0, low, 0, high, one, 7, 9, 0, 0, 0, 0, 0, 0, 0, 0, 0, 1, 1,
+        0, 0, 4, 0, 1, 0, LOW, 0, HIGH, ONE, 7, 9, 0, 0, 0, 0, 0, 0, 0, 0, 0, 1, 1,
     ];
     assert!(rt; layout.read_bucket(&words, &mut room));
-    change_row(
-        &settings,
-        &rules,
-        &own,
-        6,
-        &[Some(inserted(0, 1, 2, 8)), Some(tallied(1, 2, 1, 5))],
-        &mut words,
-    );
-    assert_eq!(rt;
-        words,
-        [
-            0, 0, 7, 0, 2, 0, low, 0, high, one, 7, 14, 0, low, 0, high, two, 8, 0, 1, 1, 2, 118
-        ]
-    );
+    let ops = [Some(one), Some(other)];
+    change_row(&settings, &rules, &own, 6, &ops, &mut words);
+    assert_eq!(rt; words, *wanted);
     Ok(())
+}
+
+// The words of the keys of ports 1 and 2 that are not 0.
+const LOW: u64 = 0x0a00_0001;
+
+const HIGH: u64 = 0x0a00_0002;
+
+const ONE: u64 = 0x0100_5006;
+
+const TWO: u64 = 0x0200_5006;
+
+// An insert of seat 0 and a tally of seat 1, whose reply `sum 14` is 6 + 8 * 14.
+#[test]
+fn a_row_takes_an_insert_and_a_tally(rt: HostRuntime) -> Result<(), Fail> {
+    let one = Op {
+        seat: 0,
+        number: 1,
+        call: Call::Insert(key(2), 8),
+    };
+    let other = Op {
+        seat: 1,
+        number: 2,
+        call: Call::Tally(key(1), 5),
+    };
+    let wanted = [
+        0, 0, 7, 0, 2, 0, LOW, 0, HIGH, ONE, 7, 14, 0, LOW, 0, HIGH, TWO, 8, 0, 1, 1, 2, 118,
+    ];
+    takes(&rt, rt.alloc(), one, other, &wanted)
+}
+
+// A count of seat 0 and a put of seat 1, whose reply `old 7` is 2 + 8 * 7.
+#[test]
+fn a_row_takes_a_count_and_a_put(rt: HostRuntime) -> Result<(), Fail> {
+    let one = Op {
+        seat: 0,
+        number: 1,
+        call: Call::Count(key(2), 8, 5),
+    };
+    let other = Op {
+        seat: 1,
+        number: 2,
+        call: Call::Put(key(1), 3),
+    };
+    let wanted = [
+        0, 0, 7, 0, 2, 0, LOW, 0, HIGH, ONE, 3, 9, 0, LOW, 0, HIGH, TWO, 8, 5, 1, 1, 2, 58,
+    ];
+    takes(&rt, rt.alloc(), one, other, &wanted)
+}
+
+// A put of seat 0 and a count of seat 1 that stops at 2^61 - 1: its reply is 6 + 8 * (2^61 - 1).
+#[test]
+fn a_row_takes_a_put_and_a_count(rt: HostRuntime) -> Result<(), Fail> {
+    let one = Op {
+        seat: 0,
+        number: 1,
+        call: Call::Put(key(2), 8),
+    };
+    let other = Op {
+        seat: 1,
+        number: 2,
+        call: Call::Count(key(1), 3, VALUE_LIMIT - 1),
+    };
+    let wanted = [
+        0,
+        0,
+        7,
+        0,
+        2,
+        0,
+        LOW,
+        0,
+        HIGH,
+        ONE,
+        7,
+        VALUE_LIMIT - 1,
+        0,
+        LOW,
+        0,
+        HIGH,
+        TWO,
+        8,
+        0,
+        1,
+        1,
+        2,
+        u64::MAX - 1,
+    ];
+    takes(&rt, rt.alloc(), one, other, &wanted)
 }

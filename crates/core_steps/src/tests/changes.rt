@@ -13,7 +13,7 @@ use std::process::Abort;
 use std::test::Fail;
 use step_counts::Settings;
 
-fn op(seat: u32, number: u32, call: Call) -> Option<Op> {
+fn op(seat: u32, number: u64, call: Call) -> Option<Op> {
     Some(Op { seat, number, call })
 }
 
@@ -29,7 +29,7 @@ fn frozen(
     prefix: u64,
     depth: u32,
     pairs: &[Pair],
-    applied: &[u32],
+    applied: &[u64],
 ) -> Result<Loaded, AllocError>
     ensures { IfOk result (HasItems (length pairs.now)) }
 {
@@ -51,7 +51,7 @@ fn frozen(
 }
 
 // What a leaf has to be: where it comes from, its prefix and depth, its pairs, and its numbers and replies.
-type Wanted<'a> = (u64, u64, u32, &'a [Pair], &'a [u32], &'a [Option<Reply>]);
+type Wanted<'a> = (u64, u64, u32, &'a [Pair], &'a [u64], &'a [Option<Reply>]);
 
 fn is_wanted(loaded: &[Loaded], leaf: &NewLeaf, wanted: &Wanted<'_>) -> bool {
     let (from, prefix, depth, items, applied, replies) = *wanted;
@@ -153,6 +153,49 @@ fn a_second_op_splits_the_leaf_of_the_first(rt: HostRuntime) -> Result<(), Fail>
     ];
     let change = changed(rt.alloc(), &settings, &directory, &loaded, &ops, 7)?;
     compare(&rt, change, &loaded, &[7, 8, 9, 9], &wanted);
+    Ok(())
+}
+
+// The one bucket holds ports 1 and 16384. Seat 0 counts at port 32768, for which the bucket is split, and seat 1 puts
+// another value at port 1, whose bytes stay. Then it holds ports 1 and 2, and a count and a put at port 3 are refused.
+#[test]
+fn a_count_splits_a_full_bucket(rt: HostRuntime) -> Result<(), Fail> {
+    let settings = Settings::new(2, 2, 2, 0)?;
+    let directory = DirState::with_room(rt.alloc(), &settings)?;
+    let (old, new, no) = (Some(Reply::Old(1)), Some(Reply::New), Some(Reply::NoRoom));
+    let halves = [pair(1, 1, 6), pair(16384, 2, 0)];
+    let loaded = [frozen(rt.alloc(), 0, 0, 0, &halves, &[2, 1])?];
+    let wanted: [Wanted<'_>; 2] = [
+        (
+            0,
+            0,
+            1,
+            &[pair(1, 9, 6), pair(16384, 2, 0)],
+            &[2, 2],
+            &[new, old],
+        ),
+        (0, 1, 1, &[pair(32768, 3, 40)], &[3, 1], &[new, new]),
+    ];
+    let ops = [
+        op(0, 3, Call::Count(key(32768), 3, 40)),
+        op(1, 2, Call::Put(key(1), 9)),
+    ];
+    let change = changed(rt.alloc(), &settings, &directory, &loaded, &ops, 4)?;
+    compare(&rt, change, &loaded, &[4, 5], &wanted);
+
+    let class = [pair(1, 1, 0), pair(2, 2, 0)];
+    let loaded = [frozen(rt.alloc(), 0, 0, 0, &class, &[2, 1])?];
+    let wanted: [Wanted<'_>; 3] = [
+        (0, 0, 2, &class, &[3, 2], &[no, no]),
+        (0, 1, 2, &[], &[2, 1], &[new, new]),
+        (0, 1, 1, &[], &[2, 1], &[new, new]),
+    ];
+    let ops = [
+        op(0, 3, Call::Count(key(3), 3, 40)),
+        op(1, 2, Call::Put(key(3), 9)),
+    ];
+    let change = changed(rt.alloc(), &settings, &directory, &loaded, &ops, 4)?;
+    compare(&rt, change, &loaded, &[4, 5, 6, 6], &wanted);
     Ok(())
 }
 

@@ -22,6 +22,33 @@ fn two_in_quarters() -> Rules
     }
 }
 
+// A count brings an absent key with its bytes, adds to those of a held one, whose value stays, and stops at 2^61 - 1; a
+// put gives a held key another value, whose bytes stay. A full class refuses both.
+#[test]
+fn counts_and_puts(rt: HostRuntime) -> Result<(), Fail> {
+    let rules = two_in_quarters();
+    let mut map = PlainMap::new(rt.alloc());
+    for (call, reply) in [
+        (Call::Count(key(1), 7, 40), Reply::New),
+        (Call::Count(key(1), 8, 2), Reply::Sum(42)),
+        (Call::Lookup(key(1)), Reply::Found(7)),
+        (Call::Put(key(1), 9), Reply::Old(7)),
+        (Call::Put(key(2), 5), Reply::New),
+        (Call::Count(key(3), 1, 1), Reply::NoRoom),
+        (Call::Put(key(3), 1), Reply::NoRoom),
+        (
+            Call::Count(key(2), 6, 0x1fff_ffff_ffff_ffff),
+            Reply::Sum(0x1fff_ffff_ffff_ffff),
+        ),
+        (Call::Count(key(2), 6, 1), Reply::Sum(0x1fff_ffff_ffff_ffff)),
+    ] {
+        assert!(rt; map.answer(&rules, &call)? == reply);
+    }
+    let held = [pair(1, 9, 42), pair(2, 5, 0x1fff_ffff_ffff_ffff)];
+    assert!(rt; map.pairs() == held.as_slice());
+    Ok(())
+}
+
 // A tally adds to the bytes of a held key alone, its sum stops at 2^61 - 1, and a session that begins again has none.
 #[test]
 fn tallied_bytes_stop_at_the_greatest(rt: HostRuntime) -> Result<(), Fail> {
@@ -81,6 +108,8 @@ fn classes_fill_by_themselves(rt: HostRuntime) -> Result<(), Fail> {
         (Call::Insert(key(32768), 5), Reply::New),
         (Call::Insert(key(16384), 4), Reply::New),
         (Call::Tally(key(16384), 70), Reply::Sum(70)),
+        (Call::Count(key(16385), 6, 7), Reply::New),
+        (Call::Put(key(16386), 6), Reply::NoRoom),
         (Call::Remove(key(1)), Reply::Gone(1)),
         (Call::Remove(key(1)), Reply::Absent),
         (Call::Insert(key(3), 6), Reply::New),
@@ -90,6 +119,7 @@ fn classes_fill_by_themselves(rt: HostRuntime) -> Result<(), Fail> {
         pair(2, 2, 0),
         pair(3, 6, 0),
         pair(16384, 4, 70),
+        pair(16385, 6, 7),
         pair(32768, 5, 0),
     ];
     assert!(rt; map.holds_just(&rules, held.as_slice()));

@@ -50,18 +50,19 @@ fn rooms_of_worked_settings(rt: HostRuntime) -> Result<(), Fail> {
     Ok(())
 }
 
-// Two seats share three inserts of one prefix, which split three and need every depth, an insert of a key that is there
-// already, a remove and lookups. The keys are told in order and once each; a remove and a lookup bring none, and a
-// lookup is no update. 8 new leaves: the first seat needs 4 + 1 + 2 * 3 + 8 bucket rows, and the second 2 + 2 * 3 + 8.
+// Two seats share two inserts and a count of one prefix, which split three and need every depth, a put of a key that is
+// there already, a remove and lookups. The keys are told in order and once each. A remove and a lookup bring none, and
+// a lookup is no update. 8 new leaves: the first seat needs 4 + 1 + 2 * 3 + 8 bucket rows, and the second
+// 2 + 2 * 3 + 8.
 #[test]
 fn sizes_of_each_share(rt: HostRuntime) -> Result<(), Fail> {
     let settings = Settings::new(2, 2, 3, 0)?;
     let calls = [
         (1, Call::Insert(key(2), 1)),
         (2, Call::Insert(key(1), 2)),
-        (3, Call::Insert(key(3), 3)),
+        (3, Call::Count(key(3), 3, 70)),
         (4, Call::Lookup(key(4))),
-        (5, Call::Insert(key(2), 5)),
+        (5, Call::Put(key(2), 5)),
         (6, Call::Lookup(key(1))),
         (7, Call::Remove(key(9))),
     ];

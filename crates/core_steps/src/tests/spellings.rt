@@ -32,6 +32,14 @@ fn ops_that_are_words(rt: HostRuntime) {
         (1, Call::Insert(key(1), 1), [1, 1, 0, K1, 0, K3, K4, 1]),
         (7, Call::Remove(key(1)), [7, 2, 0, K1, 0, K3, K4, 0]),
         (8, Call::Tally(key(1), 5), [8, 3, 0, K1, 0, K3, K4, 5]),
+        // 4 + 8 * 5
+        (9, Call::Count(key(1), 7, 5), [9, 44, 0, K1, 0, K3, K4, 7]),
+        (4, Call::Put(key(1), 7), [4, 5, 0, K1, 0, K3, K4, 7]),
+        (
+            2,
+            Call::Count(key(1), 0, (1 << 61) - 1),
+            [2, 0xffff_ffff_ffff_fffc, 0, K1, 0, K3, K4, 0],
+        ),
     ] {
         let row = OpRow { number, call };
         let mut out = [0; 8];
@@ -41,11 +49,14 @@ fn ops_that_are_words(rt: HostRuntime) {
     }
     for words in [
         [0, 1, 0, K1, 0, K3, K4, 1],
-        [1 << 32, 1, 0, K1, 0, K3, K4, 1],
+        [1 << 52, 1, 0, K1, 0, K3, K4, 1],
         [1, 0, 0, K1, 0, K3, K4, 1],
-        [1, 4, 0, K1, 0, K3, K4, 1],
+        [1, 6, 0, K1, 0, K3, K4, 1],
+        [1, 5 + 8, 0, K1, 0, K3, K4, 1],
         [1, 1, 0, K1, 0, K3, K4, 1 << 61],
         [1, 3, 0, K1, 0, K3, K4, 1 << 61],
+        [1, 4, 0, K1, 0, K3, K4, 1 << 61],
+        [1, 5, 0, K1, 0, K3, K4, 1 << 61],
         [1, 2, 0, K1, 0, K3, K4, 1],
     ] {
         assert!(rt; read_op(&words) == None, "{words:?}");
@@ -110,8 +121,8 @@ fn bucket_words_that_spell_no_row(rt: HostRuntime) -> Result<(), Fail> {
         (12, 1, false),
         (17, 1, false),
         (18, 1, false),
-        (19, u32::MAX as u64, true),
-        (19, 1 << 32, false),
+        (19, (1 << 52) - 1, true),
+        (19, 1 << 52, false),
         (19, 0, false),
         (20, 0, false),
         (20, 2 + 8 * 5, true),

@@ -6,7 +6,7 @@ use Rattle.plain_map.specs.declared.records.CallId.{CallId}
 use Rattle.plain_map.specs.declared.records.Record.{Record}
 use Rattle.plain_map.specs.Calls.{key_in}
 use Rattle.plain_map.specs.History.{ids_of}
-use Rattle.flow_keys.specs.FlowText.{HasText}
+use Rattle.key_texts.specs.FlowText.{HasText}
 use Rattle.table_model.specs.Order.{order_of}
 use Rattle.table_model.specs.Closing.{IsOfARun, closing_with}
 use Rattle.trace_share.specs.declared.outcome.Outcome.{Outcome}

@@ -1,11 +1,12 @@
-use Rattle.std.proofs.Common.{◌≡◌, ◌∙◌, ◌<◌, ◌≤◌, ◌∷◌, ◌++◌, [], ℕ, List, Some, ap, sym, arith, get_or, length}
+use Rattle.std.proofs.Common.{◌≡◌, ◌∙◌, Some, ap, sym, subst}
 use Rattle.plain_map.specs.declared.keys.Pair.{Pair}
-use Rattle.bucket_states.specs.Items.{value_at}
-use Rattle.bucket_states.proofs.AnswerLemmas.{IsReply-Insert_held, IsReply-Insert_new, IsOverflow-Insert, IsReply-Insert_full}
-use Rattle.bucket_machine.proofs.WordLemmas.{with_places, small_at, items_pushed}
-use Rattle.bucket_machine.proofs.change.insert.Goals as goal
 use Rattle.plain_map.specs.Keys.{held_in, no_pair, pair_of}
 use Rattle.plain_map.specs.PlainObject.{new_session}
+use Rattle.bucket_states.specs.Items.{value_at}
+use Rattle.bucket_states.specs.Places.{IsBrought}
+use Rattle.bucket_states.proofs.AnswerLemmas.{IsReply-Insert_held, IsAnswer-Insert_new}
+use Rattle.bucket_machine.proofs.WordLemmas.{small_at}
+use Rattle.bucket_machine.proofs.change.insert.Goals as goal
 
 pub returns-in-Some-clause-answer : goal.returns-in-Some-clause-answer
 returns-in-Some-clause-answer c b spells =
@@ -23,37 +24,15 @@ returns-in-Some-clause-answer c b spells =
 
 pub returns-in-None-clause-answer : goal.returns-in-None-clause-answer
 returns-in-None-clause-answer c b spells =
-    let none = c.in-None.ensures.found b spells in
-    let count : get_or c.args.row.now 4 0 ≡ length b.items = ap (λ (ws : List ℕ). get_or ws 4 0) spells.words in
-    let few : length b.items < c.args.settings.now.items = omega (arith, count) in
     let pair : Pair = c.args.pair.now in
     let begins : pair ≡ pair_of (pair.key, new_session pair.value) =
     λ i. record { key = pair.key; value = pair.value; bytes = c.requires.begins i } in
+    let came = c.bring.ensures.brought b spells in
     record {
-      left = b.items ++ pair ∷ [];
-      answer = rw begins (IsReply-Insert_new _ _ _ _ _ none (omega (arith, few)));
-      reply = tt;
-      spelled = record {
-        places = with_places c.args.settings.now b _ spells.places
-            (items_pushed _ b.items pair spells.places.items few (c.requires.value, omega (arith, c.requires.begins)));
-        words = c.push_item.ensures.spelled b spells;
-      };
+      left = came.left;
+      answer = IsAnswer-Insert_new _ _ _ _ (c.in-None.ensures.found b spells) pair.value _ _
+          (subst (λ (p : Pair). IsBrought c.args.rules.now b.depth b.items p came.left c.bring.result) begins
+          came.brought);
+      reply = came.reply;
+      spelled = came.spelled;
     }
-
-pub returns-in-None-2-clause-answer : goal.returns-in-None-2-clause-answer
-returns-in-None-2-clause-answer c b spells =
-    let none = c.in-None.ensures.found b spells in
-    let count : get_or c.args.row.now 4 0 ≡ length b.items = ap (λ (ws : List ℕ). get_or ws 4 0) spells.words in
-    let deep : get_or c.args.row.now 1 0 ≡ b.depth = ap (λ (ws : List ℕ). get_or ws 1 0) spells.words in
-    let many : c.args.rules.now.items ≤ length b.items = omega (arith, count) in
-    let shallow : b.depth < c.args.rules.now.depth = omega (arith, deep) in
-    record { left = b.items; answer = IsOverflow-Insert _ _ _ _ _ none many shallow; reply = tt; spelled = spells }
-
-pub returns-in-None-3-clause-answer : goal.returns-in-None-3-clause-answer
-returns-in-None-3-clause-answer c b spells =
-    let none = c.in-None.ensures.found b spells in
-    let count : get_or c.args.row.now 4 0 ≡ length b.items = ap (λ (ws : List ℕ). get_or ws 4 0) spells.words in
-    let deep : get_or c.args.row.now 1 0 ≡ b.depth = ap (λ (ws : List ℕ). get_or ws 1 0) spells.words in
-    let many : c.args.rules.now.items ≤ length b.items = omega (arith, count) in
-    let below : c.args.rules.now.depth ≤ b.depth = omega (arith, deep) in
-    record { left = b.items; answer = IsReply-Insert_full _ _ _ _ _ none many below; reply = tt; spelled = spells }

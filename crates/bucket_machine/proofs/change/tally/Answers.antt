@@ -3,6 +3,7 @@ use Rattle.plain_map.specs.declared.keys.Pair.{Pair}
 use Rattle.plain_map.specs.declared.calls.Call.TheVariants.{Tally}
 use Rattle.plain_map.specs.declared.calls.Reply.TheVariants.{Sum}
 use Rattle.plain_map.specs.Keys.{held_in, no_pair}
+use Rattle.plain_map.specs.PlainObject.{grown}
 use Rattle.plain_map.specs.Updates.{summed}
 use Rattle.bucket_states.specs.Items.{tallied_in, value_at}
 use Rattle.bucket_states.specs.Places.{IsReply}
@@ -26,7 +27,7 @@ returns-in-Some-clause-answer c rules b spells =
     let left : List Pair = set b.items at (bytes_set (get_or b.items at no_pair) total) in
     let left_is : left ≡ tallied_in c.args.key.now c.args.amount b.items =
     ap (λ (n : ℕ). set b.items at (bytes_set (get_or b.items at no_pair) n)) counts
-    ∙ sym (place.more no_pair c.args.amount) in
+    ∙ sym (place.other no_pair (λ held. grown held c.args.amount)) in
     let small : total < 2 ^ 61 = omega (arith, counts, summed-small (get_or b.items at no_pair).bytes c.args.amount) in
     record {
       left = left;

@@ -2,11 +2,11 @@
 use Rattle.std.proofs.Common.{◌≡◌, ◌≤◌, ◌+◌, ◌++◌, ◌∷◌, [], List, ℕ, Option, Some, length, refl, ap, subst, sym, ◌∙◌, length-append, arith}
 use Rattle.std.specs.Io.KnownBytes.{Appends}
 use Rattle.std.proofs.lemmas.Result.{IfOk-at_ok}
-use Rattle.edge_traits.specs.Edge.{AppendsFront, Rose}
-use Rattle.edge_traits.proofs.EdgeLemmas.{Rose-since}
+use Rattle.edge_traits.specs.Edge.{AppendsFront}
 use Rattle.std.specs.Option.{IfSome}
-use Rattle.report_text.specs.declared.parts.Ending.{Ending}
-use Rattle.capture_loop.specs.Endings.{OnLimit}
+use Rattle.capture_faults.specs.declared.ending.Ending.{Ending}
+use Rattle.capture_loop.specs.Endings.{HasFailed, OnLimit}
+use Rattle.capture_loop.specs.Leaves.{EndsBy}
 use Rattle.capture_loop.specs.Input.{StopsAt, packet_limit}
 use Rattle.capture_loop.specs.Intake.{IsTaken}
 use Rattle.capture_loop.specs.Looping.{HasPut, Stands}
@@ -29,6 +29,7 @@ batches-init g c = record {
   counted_writes = omega arith;
   reads_failed = refl;
   writes_failed = refl;
+  none_held = λ some. absurd (omega (arith, some));
   stands = λ plan link first before has put come. (
     [],
     [],
@@ -43,16 +44,16 @@ batches-init g c = record {
 }
 
 pub returns-in_err-part-clause-leaves : goal.returns-in_err-part-clause-leaves
-returns-in_err-part-clause-leaves g c = λ plan link first before faults low has put come.
+returns-in_err-part-clause-leaves g c = λ plan link first before failed is_failed has put come.
     let s = c.batches.invariant.stands plan link first before has put come in
     let lines = g.J.Job.lines plan in
     let report = g.J.Job.report plan in
     let left = g.S.Source.left c.read_rest.new.source in
-    let failed = Rose faults (g.S.Source.faults c.read_rest.new.source) in
+    let can_end = EndsBy failed (g.S.Source.failed c.read_rest.new.source) in
     let now = g.K.Sink.put c.batches.sink in
-    leaves_memory c.args.means.now.batch lines report failed link first left before now c.from_residual.result
+    leaves_memory c.args.means.now.batch lines report can_end link first left before now c.from_residual.result
     c.from_residual.ensures
-    (last_memory c.args.means.now.batch lines report failed (g.J.Job.done c.batches.job plan) link first left
+    (last_memory c.args.means.now.batch lines report can_end (g.J.Job.done c.batches.job plan) link first left
     c.batches.packets s.0 before now
     c.batches.text.items s.2 (g.met.J.Job.told c.batches.job plan s.2.batches s.2.text s.2.done))
 
@@ -63,18 +64,18 @@ serve_last-requires-clause-piled g c = λ lives within.
     (p.0 ++ r.0, r.1, r.2)
 
 pub returns-in-Some-clause-leaves : goal.returns-in-Some-clause-leaves
-returns-in-Some-clause-leaves g c = λ plan link first before faults low has put come.
+returns-in-Some-clause-leaves g c = λ plan link first before failed is_failed has put come.
     let s = c.batches.invariant.stands plan link first before has put come in
     let left = g.S.Source.left c.read_rest.new.source in
-    let since = g.S.Source.faults c.read_rest.new.source in
+    let since = g.S.Source.failed c.read_rest.new.source in
     let r = c.in_ok-part.ensures.read s.1 s.3 s.4 in
     let ended : HaveEnded packet_limit link first left (s.0 ++ (s.1 ++ r.0)) c.in-Some.ending =
     at_some _ (HaveEnded packet_limit link first left (s.0 ++ (s.1 ++ r.0))) c.in_ok-part.part.ending c.in-Some.ending
     c.in-Some.is (r.3 link first s.0 s.2.count s.5) in
-    c.serve_last.ensures.leaves plan faults since link first left before s.0 (s.1 ++ r.0) s.2 r.1 r.2 ended
-    (λ is.
-    Rose-since faults (g.S.Source.faults c.batches.source) since (omega (arith, low, c.batches.invariant.counted_reads))
-    (c.in_ok-part.ensures.read_fault (c.in-Some.is ∙ ap (λ e. Some e) is)))
+    c.serve_last.ensures.leaves plan failed since link first left before s.0 (s.1 ++ r.0) s.2 r.1 r.2 ended
+    (subst (λ (n : ℕ). HasFailed (Some c.in-Some.ending) n since) (c.batches.invariant.reads_failed ∙ sym is_failed)
+    (subst (λ (e : Option Ending). HasFailed e (g.S.Source.failed c.batches.source) since) c.in-Some.is
+    c.in_ok-part.ensures.failed))
 
 pub serve_last-requires-clause-way : goal.serve_last-requires-clause-way
 serve_last-requires-clause-way g c = λ lives within. c.read_rest.ensures.way ∙ c.batches.invariant.ways.0
@@ -105,27 +106,27 @@ serve_ahead-requires-clause-going g c = λ lives within.
     )
 
 pub returns-in_err-taken-in-None-clause-leaves : goal.returns-in_err-taken-in-None-clause-leaves
-returns-in_err-taken-in-None-clause-leaves g c = λ plan link first before faults low has put come.
+returns-in_err-taken-in-None-clause-leaves g c = λ plan link first before failed is_failed has put come.
     let s = c.batches.invariant.stands plan link first before has put come in
     let lines = g.J.Job.lines plan in
     let report = g.J.Job.report plan in
     let left = g.S.Source.left c.read_rest.new.source in
-    let failed = Rose faults (g.S.Source.faults c.read_rest.new.source) in
+    let can_end = EndsBy failed (g.S.Source.failed c.read_rest.new.source) in
     let now = g.K.Sink.put c.batches.sink in
-    leaves_memory c.args.means.now.batch lines report failed link first left before now
+    leaves_memory c.args.means.now.batch lines report can_end link first left before now
     c.from_residual-in_err-taken-in-None.result
     c.from_residual-in_err-taken-in-None.ensures
-    (last_memory c.args.means.now.batch lines report failed (g.J.Job.done c.batches.job plan) link first left
+    (last_memory c.args.means.now.batch lines report can_end (g.J.Job.done c.batches.job plan) link first left
     c.batches.packets s.0 before now
     c.batches.text.items s.2 (g.met.J.Job.told c.batches.job plan s.2.batches s.2.text s.2.done))
 
 pub returns-in_err-put-in-None-clause-leaves : goal.returns-in_err-put-in-None-clause-leaves
-returns-in_err-put-in-None-clause-leaves g c = λ plan link first before faults low has put come.
+returns-in_err-put-in-None-clause-leaves g c = λ plan link first before failed is_failed has put come.
     let s = c.batches.invariant.stands plan link first before has put come in
     let lines = g.J.Job.lines plan in
     let report = g.J.Job.report plan in
     let left = g.S.Source.left c.read_rest.new.source in
-    let failed = Rose faults (g.S.Source.faults c.read_rest.new.source) in
+    let can_end = EndsBy failed (g.S.Source.failed c.read_rest.new.source) in
     let mid = g.K.Sink.put c.batches.sink in
     let now = g.K.Sink.put c.put.new.sink in
     let r = c.in_ok-part.ensures.read s.1 s.3 s.4 in
@@ -138,10 +139,10 @@ returns-in_err-put-in-None-clause-leaves g c = λ plan link first before faults 
     omega (arith, length-append s.0 last, s.2.count, r.2, goes.3) in
     let next = c.in_ok-taken-in-None.ensures.served plan s.2.batches s.2.text c.batches.packets last s.2.done
     c.batches.invariant.going r.1 in
-    leaves_not_put c.args.means.now.batch lines report failed link first left before now
+    leaves_not_put c.args.means.now.batch lines report can_end link first left before now
     c.from_residual-in_err-put-in-None.result
     c.from_residual-in_err-put-in-None.ensures
-    (leaves_some c.args.means.now.batch lines report failed link first left before now c.read_rest.new.reader
+    (leaves_some c.args.means.now.batch lines report can_end link first left before now c.read_rest.new.reader
     (s.0 ++ last)
     (s.2.batches ++ last ∷ []) (s.2.text ++ next.0) next_come few
     (AreWhole-more c.args.means.now.batch s.0 last s.2.batches s.2.whole (r.2 ∙ goes.2))
@@ -150,12 +151,12 @@ returns-in_err-put-in-None-clause-leaves g c = λ plan link first before faults 
     (subst (AppendsFront mid now) next.1 c.in_err-put-in-None.ensures.prefix)))
 
 pub returns-in_err-ahead-in-None-clause-leaves : goal.returns-in_err-ahead-in-None-clause-leaves
-returns-in_err-ahead-in-None-clause-leaves g c = λ plan link first before faults low has put come.
+returns-in_err-ahead-in-None-clause-leaves g c = λ plan link first before failed is_failed has put come.
     let s = c.batches.invariant.stands plan link first before has put come in
     let lines = g.J.Job.lines plan in
     let report = g.J.Job.report plan in
     let left = g.S.Source.left c.read_rest.new.source in
-    let failed = Rose faults (g.S.Source.faults c.read_rest.new.source) in
+    let can_end = EndsBy failed (g.S.Source.failed c.read_rest.new.source) in
     let mid = g.K.Sink.put c.batches.sink in
     let now = g.K.Sink.put c.put.new.sink in
     let r = c.in_ok-part.ensures.read s.1 s.3 s.4 in
@@ -176,10 +177,10 @@ returns-in_err-ahead-in-None-clause-leaves g c = λ plan link first before fault
     link first left
     c.read_rest.new.reader c.batches.packets c.in_ok-part.part.packets s.0 last before mid now c.batches.text.items
     c.put.new.text.items next.0 s.2 next_come r.2 goes.2 (omega (arith, goes.3)) next.2 held in
-    leaves_memory c.args.means.now.batch lines report failed link first left before now
+    leaves_memory c.args.means.now.batch lines report can_end link first left before now
     c.from_residual-in_err-ahead-in-None.result
     c.from_residual-in_err-ahead-in-None.ensures
-    (last_memory c.args.means.now.batch lines report failed (g.J.Job.done c.serve_ahead.new.job plan) link first left
+    (last_memory c.args.means.now.batch lines report can_end (g.J.Job.done c.serve_ahead.new.job plan) link first left
     (c.batches.packets + c.in_ok-part.part.packets) (s.0 ++ last) before now c.put.new.text.items stands
     (g.met.J.Job.told c.serve_ahead.new.job plan stands.batches stands.text stands.done))
 
@@ -219,6 +220,7 @@ batches-preserved g c =
       reads_failed = none_failed c.in_ok-part.part.ending (g.S.Source.failed c.batches.source)
           (g.S.Source.failed c.read_rest.new.source) c.in-None.is c.in_ok-part.ensures.failed ∙ inv.reads_failed;
       writes_failed = c.in_ok-put-in-None.ensures.none_failed ∙ inv.writes_failed;
+      none_held = λ some. c.in_ok-put-in-None.ensures.none;
       stands = λ plan link first before has put come.
           let s = inv.stands plan link first before has put come in
           let r = c.in_ok-part.ensures.read s.1 s.3 s.4 in

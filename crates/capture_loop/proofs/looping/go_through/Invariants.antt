@@ -3,7 +3,8 @@ use Rattle.capture_loop.specs.Looping.{HasPut, Stands}
 use Rattle.capture_loop.specs.Reading.{HaveCome}
 use Rattle.capture_loop.proofs.looping.go_through.Given as goal
 
--- so many packets were read, served and put
+-- so many packets were read, served and put; behind the first batch no text is held, so all that was served is put
+-- before more is read
 abbrev pub invariant-batches : goal.invariant-batches
 invariant-batches g l =
     let left = g.S.Source.left in
@@ -22,6 +23,7 @@ invariant-batches g l =
       counted_writes : g.K.Sink.faults l.fn.sink ≤ g.K.Sink.faults l.sink;
       reads_failed : g.S.Source.failed l.source ≡ g.S.Source.failed l.fn.source;
       writes_failed : g.K.Sink.failed l.sink ≡ g.K.Sink.failed l.fn.sink;
+      none_held : 0 < l.packets → l.text.items ≡ [];
       stands : (plan : g.row.P.Denot) (link : ℕ) (first before : Option (List ℕ)) →
           g.J.Job.done l.fn.job plan [] l.fn.text.items →
           HasPut before (put l.fn.sink) l.fn.text.items l.fn.text.items →

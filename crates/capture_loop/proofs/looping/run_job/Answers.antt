@@ -1,8 +1,7 @@
 -- The head line is held, and nothing was put.
-use Rattle.std.proofs.Common.{[], ℕ, Err, ap, refl, subst, ◌∙◌}
-use Rattle.edge_traits.specs.Edge.{Rose}
-use Rattle.capture_loop.specs.declared.opening.Unopened.TheVariants.{Ends}
-use Rattle.capture_loop.specs.Endings.{OnEnds}
+use Rattle.std.proofs.Common.{[], ℕ, Some, ap, refl, subst, sym, ◌∙◌}
+use Rattle.capture_loop.specs.Endings.{HasFailed, OnEnds}
+use Rattle.capture_loop.specs.Leaves.{EndsBy}
 use Rattle.capture_loop.specs.Input.{StopsAt, packet_limit}
 use Rattle.capture_loop.specs.Reading.{HaveEnded}
 use Rattle.capture_loop.proofs.LeavesLemmas.{HasPut-start, Keeps-same, leaves_nothing}
@@ -14,7 +13,7 @@ pub returns-in-Ok-clause-leaves : goal.returns-in-Ok-clause-leaves
 returns-in-Ok-clause-leaves g c = λ plan has.
     c.go_through-answer.ensures.leaves plan c.args.link (g.S.Source.left c.args.source.now)
     (g.K.Sink.put c.args.sink.now)
-    (g.S.Source.faults c.args.source.now) c.open.ensures.counted has
+    (g.S.Source.failed c.args.source.now) (sym c.in-Ok.ensures.none_failed) has
     (HasPut-start (g.K.Sink.put c.args.sink.now) c.args.text.now.items) c.in-Ok.ensures.come
 
 pub returns-in-Ends-clause-leaves : goal.returns-in-Ends-clause-leaves
@@ -26,18 +25,19 @@ returns-in-Ends-clause-leaves g c = λ plan has.
     let ended : HaveEnded packet_limit link first left [] c.in-Ends.ending =
     subst (λ fault. OnEnds fault (λ ending. (limit : ℕ) → HaveEnded limit link first left [] ending)) c.in-Ends.is
     c.in-Err.ensures.ended packet_limit in
-    c.serve_last.ensures.leaves plan (g.S.Source.faults c.args.source.now) (g.S.Source.faults c.open.new.source) link
+    c.serve_last.ensures.leaves plan (g.S.Source.failed c.args.source.now) (g.S.Source.failed c.open.new.source) link
     first
     left put [] []
     (at_start c.args.means.now.batch (g.J.Job.done c.args.job.now plan) link first put put c.args.text.now.items has
     (HasPut-start put c.args.text.now.items))
     c.requires.none refl ended
-    (λ is. c.in-Err.ensures.read_fault (ap (λ u. Err u) (c.in-Ends.is ∙ ap (λ e. Ends e) is)))
+    (subst (λ fault. OnEnds fault (λ ending. HasFailed (Some ending) (g.S.Source.failed c.args.source.now)
+    (g.S.Source.failed c.open.new.source))) c.in-Ends.is c.in-Err.ensures.failed)
 
 pub returns-in-Memory-clause-leaves : goal.returns-in-Memory-clause-leaves
 returns-in-Memory-clause-leaves g c = λ plan has.
     leaves_nothing c.args.means.now.batch (g.J.Job.lines plan) (g.J.Job.report plan)
-    (Rose (g.S.Source.faults c.args.source.now) (g.S.Source.faults c.open.new.source))
+    (EndsBy (g.S.Source.failed c.args.source.now) (g.S.Source.failed c.open.new.source))
     c.args.link (g.S.Source.left c.args.source.now) (g.S.Source.left c.open.new.source) (g.K.Sink.put c.args.sink.now)
     (g.K.Sink.put c.args.sink.now) (Keeps-same (g.K.Sink.put c.args.sink.now))
 

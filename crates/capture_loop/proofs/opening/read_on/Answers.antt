@@ -1,5 +1,5 @@
 use Rattle.std.proofs.Common.{subst, sym}
-use Rattle.report_text.specs.Report.{IsEnding}
+use Rattle.capture_faults.specs.Endings.{IsEnding}
 use Rattle.capture_loop.specs.Reading.{MeetsEnd}
 use Rattle.capture_loop.proofs.ReadingLemmas.{answers_ending, answers_met}
 use Rattle.capture_loop.proofs.opening.read_on.Goals as goal

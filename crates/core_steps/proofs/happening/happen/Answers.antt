@@ -15,7 +15,7 @@ advance-requires-clause-stands c =
     begun_at (shape_of c.args.layout.now) c.args.words.now.items s.setup s.events s.seat s.account s.run s.inside
     s.words_are
     s.shape_is s.stand (c.in-Some.packet, c.in-Some.call) c.args.machine.now c.begin.new.self s.at s.program
-    (subst (FitsStand s.account s.stand) c.in-Some.is s.given)
+    (subst (FitsStand s.setup s.account s.stand) c.in-Some.is s.given)
     (ap (λ (q : Program). refusal_of q.setup q.seat (blank q.used) c.in-Some.call) (sym s.program)
     ∙ sym c.begin.ensures.refused ∙ ap result_err c.in-Ok.is)
     c.in-Ok.ensures.begun
@@ -26,7 +26,7 @@ advance-requires-in-None-clause-stands c =
     flown_at (shape_of c.args.layout.now) c.args.words.now.items s.setup s.events s.seat s.account s.run s.inside
     s.words_are
     s.shape_is s.stand c.args.machine.now s.at s.program
-    (subst (FitsStand s.account s.stand) c.in-None.is s.given)
+    (subst (FitsStand s.setup s.account s.stand) c.in-None.is s.given)
 
 pub returns-in-Ok : goal.returns-in-Ok
 returns-in-Ok c = record {
@@ -39,7 +39,7 @@ returns-in-Ok c = record {
       s.inside
       s.words_are s.shape_is s.stand (c.in-Some.packet, c.in-Some.call) c.args.machine.now c.begin.new.self
       c.advance.new.words.items c.advance.new.machine c.advance.result s.at s.program
-      (subst (FitsStand s.account s.stand) c.in-Some.is s.given)
+      (subst (FitsStand s.setup s.account s.stand) c.in-Some.is s.given)
       (ap (λ (q : Program). refusal_of q.setup q.seat (blank q.used) c.in-Some.call) (sym s.program)
       ∙ sym c.begin.ensures.refused ∙ ap result_err c.in-Ok.is)
       c.in-Ok.ensures.begun c.advance.ensures.advanced);
@@ -57,5 +57,5 @@ returns-in-None c = record {
       s.inside
       s.words_are s.shape_is s.stand c.args.machine.now c.advance-in-None.new.words.items c.advance-in-None.new.machine
       c.advance-in-None.result s.at s.program
-      (subst (FitsStand s.account s.stand) c.in-None.is s.given) c.advance-in-None.ensures.advanced);
+      (subst (FitsStand s.setup s.account s.stand) c.in-None.is s.given) c.advance-in-None.ensures.advanced);
 }

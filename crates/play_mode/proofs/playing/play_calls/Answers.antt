@@ -1,7 +1,8 @@
 -- A table of the dealt calls can be opened, and they can be played on it.
-use Rattle.std.proofs.Common.{◌≡◌, ◌<◌, ◌∙◌, ℕ, List, [], Vec, Global, Err, All, ap, subst, sym, length, map, vec_len, arith}
+use Rattle.std.proofs.Common.{◌≡◌, ◌<◌, ◌≤◌, ◌∙◌, ℕ, List, [], Vec, Global, Err, All, ap, subst, sym, length, map, vec_len, arith}
 use Rattle.plain_map.specs.declared.calls.Call.{Call}
 use Rattle.step_counts.specs.declared.rows.SeatRows.{SeatRows}
+use Rattle.word_rows.specs.Shape.{record_limit}
 use Rattle.table_model.specs.Setup.{IsSetup}
 use Rattle.core_steps.specs.Values.{CoreValue, setup_of}
 use Rattle.order_laws.proofs.Reopens.{no_pair_lacks_room}
@@ -35,6 +36,10 @@ pub unreachable-requires : goal.unreachable-requires
 unreachable-requires c =
     no_pair_lacks_room (rules_of c.args.service.now) [] _ (opens_nothing (rules_of c.args.service.now)).room
     (c.new.ensures.no_room _ (c.in-Err-NoRoom.is ∙ ap Err c.in-Err-NoRoom.field-0-is))
+
+pub play-requires-clause-limit : goal.play-requires-clause-limit
+play-requires-clause-limit c =
+    subst (λ (core : CoreValue). core.setup.shape.limit ≤ record_limit) (sym c.in-Ok.ensures.opened) (omega arith)
 
 pub play-requires-clause-playable : goal.play-requires-clause-playable
 play-requires-clause-playable c =

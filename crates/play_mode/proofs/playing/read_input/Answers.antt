@@ -6,10 +6,11 @@ use Rattle.capture_loop.specs.Endings.{OnEnds, OnLimit}
 use Rattle.capture_loop.specs.Input.{StopsAt}
 use Rattle.capture_loop.specs.Reading.{HaveCome, HaveEnded}
 use Rattle.std.specs.Option.{IfSome}
-use Rattle.report_text.specs.declared.parts.Ending.{Ending}
-use Rattle.packet_heads.specs.declared.framing.Framing.{Framing}
-use Rattle.packet_heads.specs.Links.{number_in, way_of}
-use Rattle.packet_heads.proofs.WayLemmas.{same_way}
+use Rattle.capture_faults.specs.declared.ending.Ending.{Ending}
+use Rattle.mode_parts.specs.declared.calling.Calling.{Calling}
+use Rattle.packet_heads.specs.Links.{number_in}
+use Rattle.mode_parts.specs.Callings.{calling_way}
+use Rattle.mode_parts.proofs.CallingLemmas.{same_calling}
 use Rattle.mode_parts.specs.PacketCalls.{MakeCalls}
 use Rattle.mode_parts.specs.Reading.{AreBetween, EndsCalls}
 use Rattle.capture_loop.proofs.LoopLemmas.{at_some}
@@ -18,8 +19,8 @@ use Rattle.play_mode.proofs.playing.read_input.Goals as goal
 
 pub returns-in-Some-clause-ended : goal.returns-in-Some-clause-ended
 returns-in-Some-clause-ended g c =
-    let framing = c.args.framing in
-    let link : ℕ = number_in framing.link in
+    let calling = c.args.calling in
+    let link : ℕ = number_in calling.framing.link in
     let come = subst (λ (n : ℕ). HaveCome n (g.S.Source.left c.args.source.now) (g.S.Source.left c.open.new.source)
     c.in-Ok.reader []) c.number.ensures c.in-Ok.ensures.come in
     let first = g.S.Source.left c.args.source.now in
@@ -32,9 +33,9 @@ returns-in-Some-clause-ended g c =
           (HaveEnded PLAY_LIMIT link first left packets)
           c.in_ok-part-in-Ok.part.ending c.in-Some.ending c.in-Some.is
           (read.3 link first [] refl come);
-      make = subst (λ (f : Framing). MakeCalls f 1 packets c.read_rest.new.pile.calls.items)
-          (same_way c.read_rest.new.pile.framing framing
-          (c.read_rest.ensures.way ∙ ap way_of c.in_ok-pile-in-Ok.ensures.framing)) read.1.make;
+      make = subst (λ (f : Calling). MakeCalls f 1 packets c.read_rest.new.pile.calls.items)
+          (same_calling c.read_rest.new.pile.calling calling
+          (c.read_rest.ensures.way ∙ ap calling_way c.in_ok-pile-in-Ok.ensures.calling)) read.1.make;
       count = read.2;
     }
 
@@ -46,26 +47,26 @@ returns-in-Some-clause-between g c =
 
 pub returns-in-Err-Ends-clause-ended : goal.returns-in-Err-Ends-clause-ended
 returns-in-Err-Ends-clause-ended g c =
-    let framing = c.args.framing in
-    let link : ℕ = number_in framing.link in
+    let calling = c.args.calling in
+    let link : ℕ = number_in calling.framing.link in
     let first = g.S.Source.left c.args.source.now in
     let left = g.S.Source.left c.open.new.source in
     let ended : (limit : ℕ) → HaveEnded limit link first left [] c.in-Err-Ends.ending =
     subst (λ (n : ℕ). (limit : ℕ) → HaveEnded limit n first left [] c.in-Err-Ends.ending) c.number.ensures
     (subst (λ fault. OnEnds fault (λ ending. (limit : ℕ) → HaveEnded limit c.number.result first left [] ending))
     c.in-Err-Ends.field-0-is c.in-Err-Ends.ensures.ended) in
-    let none : EndsCalls framing PLAY_LIMIT first left 0 [] c.in-Err-Ends.ending =
+    let none : EndsCalls calling PLAY_LIMIT first left 0 [] c.in-Err-Ends.ending =
     record { packets = []; ended = ended PLAY_LIMIT; make = refl; count = refl } in
-    let all : EndsCalls framing PLAY_LIMIT first left 0 c.new.result.items c.in-Err-Ends.ending =
-    subst (λ (calls : List (ℕ × Call)). EndsCalls framing PLAY_LIMIT first left 0 calls c.in-Err-Ends.ending)
+    let all : EndsCalls calling PLAY_LIMIT first left 0 c.new.result.items c.in-Err-Ends.ending =
+    subst (λ (calls : List (ℕ × Call)). EndsCalls calling PLAY_LIMIT first left 0 calls c.in-Err-Ends.ending)
     (sym c.new.ensures.items) none in
-    subst (EndsCalls framing PLAY_LIMIT first left 0 c.new.result.items) (sym c.in-Err-Ends.ending-is) all
+    subst (EndsCalls calling PLAY_LIMIT first left 0 c.new.result.items) (sym c.in-Err-Ends.ending-is) all
 
 pub returns-in-Some-clause-start : goal.returns-in-Some-clause-start
 returns-in-Some-clause-start g c =
     let first = g.S.Source.left c.args.source.now in
     let left = g.S.Source.left c.read_rest.new.source in
-    let link : ℕ = number_in c.args.framing.link in
+    let link : ℕ = number_in c.args.calling.framing.link in
     let come = subst (λ (n : ℕ). HaveCome n first (g.S.Source.left c.open.new.source) c.in-Ok.reader [])
     c.number.ensures c.in-Ok.ensures.come in
     let far = c.in_ok-part-in-Ok.ensures.beyond [] c.in_ok-pile-in-Ok.ensures.holds refl link first [] refl come in
@@ -77,7 +78,7 @@ pub returns-in-Err-Ends-clause-start : goal.returns-in-Err-Ends-clause-start
 returns-in-Err-Ends-clause-start g c =
     let first = g.S.Source.left c.args.source.now in
     let left = g.S.Source.left c.open.new.source in
-    let link : ℕ = number_in c.args.framing.link in
+    let link : ℕ = number_in c.args.calling.framing.link in
     let ended : (limit : ℕ) → HaveEnded limit link first left [] c.in-Err-Ends.ending =
     subst (λ (n : ℕ). (limit : ℕ) → HaveEnded limit n first left [] c.in-Err-Ends.ending) c.number.ensures
     (subst (λ fault. OnEnds fault (λ ending. (limit : ℕ) → HaveEnded limit c.number.result first left [] ending))

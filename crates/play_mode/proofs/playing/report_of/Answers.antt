@@ -3,7 +3,7 @@ use Rattle.std.proofs.Common.{◌++◌, ℕ, List, true, length, All, refl, subs
 use Rattle.std.specs.List.{flat_map}
 use Rattle.plain_map.specs.declared.calls.Call.{Call}
 use Rattle.plain_map.specs.declared.keys.Pair.{Pair}
-use Rattle.flow_keys.specs.FlowText.{HasText}
+use Rattle.key_texts.specs.FlowText.{HasText}
 use Rattle.report_text.specs.declared.parts.Head.{Head}
 use Rattle.report_told.specs.Rules.{IsBatch, IsHead, IsTail}
 use Rattle.report_text.specs.Report.{head_line, session_line, tail_lines}

@@ -9,5 +9,6 @@ returns c =
     (rw c.mode_word.ensures.word at c.put_word.ensures.puts
     ⨟ c.put_named.ensures.puts ⨟ c.put_named-2.ensures.puts ⨟ c.put_named-3.ensures.puts ⨟ c.put_named-4.ensures.puts
     ⨟ c.put_word-2.ensures.puts ⨟ c.put_hashing.ensures.puts ⨟ c.put_word-3.ensures.puts
-    ⨟ rw c.share_word.ensures.word at c.put_word-4.ensures.puts ⨟ c.put_batch.ensures.puts)
+    ⨟ rw c.share_word.ensures.word at c.put_word-4.ensures.puts ⨟ c.put_rule.ensures.puts
+    ⨟ c.put_batch.ensures.puts)
     c.end_line.ensures.ends

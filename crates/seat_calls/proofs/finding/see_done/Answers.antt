@@ -1,4 +1,5 @@
 use Rattle.std.proofs.Common.{◌≡◌, ◌<◌, ◌+◌, ◌∙◌, ℕ, [], length, subst, sym, ap, arith}
+use Rattle.std.specs.List.{All}
 use Rattle.word_rows.specs.Shape.{Shape}
 use Rattle.table_model.specs.Setup.{seats_of}
 use Rattle.table_model.specs.Phases.{SeeDone}
@@ -46,6 +47,7 @@ returns-clause-few g c =
     let some : 0 < seats_of first.setup = omega (arith, seats, c.args.desk.now.within) in
     let words = c.load_run.new.row in
     let long : length words ≡ seats_of first.setup = omega (arith, c.load_run.ensures.len, c.requires.seen, seats) in
-    seen_few first words (omega (arith, long))
+    subst (λ (shape : Shape). All (λ w. w < shape.limit) words) d.shape
+    (seen_few first words (omega (arith, long))
     (subst (λ (h : Going). AllFit h words) (seen_first first c.requires.phase c.requires.first some)
-    c.load_run.ensures.fits)
+    c.load_run.ensures.fits))

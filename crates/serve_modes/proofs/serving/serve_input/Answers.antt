@@ -3,11 +3,10 @@ use Rattle.std.proofs.Common.{false, sym, ℕ, ◌++◌, ◌<◌, ◌^◌, ap, r
 use Rattle.report_text.specs.declared.parts.Head.{Head}
 use Rattle.report_told.specs.Rules.{IsBatch, seed_in}
 use Rattle.report_text.specs.Report.{head_line}
-use Rattle.edge_traits.specs.Edge.{Rose}
 use Rattle.capture_loop.proofs.LeavesLemmas.{Keeps-same}
 use Rattle.packet_heads.specs.Links.{number_in}
 use Rattle.capture_loop.specs.Input.{StopsAt, packet_limit}
-use Rattle.capture_loop.specs.Leaves.{LoopLeavesAll, Marks}
+use Rattle.capture_loop.specs.Leaves.{EndsBy, LoopLeavesAll, Marks}
 use Rattle.mode_parts.proofs.ExactLemmas.{MarksFor-end}
 use Rattle.serve_modes.specs.Serving.{IsLines, IsWholeReport}
 use Rattle.serve_modes.proofs.GoodSettings.{batch_told}
@@ -22,57 +21,58 @@ head_fits-requires-clause-batch g c =
 pub returns-clause-leaves : goal.returns-clause-leaves
 returns-clause-leaves g c =
     leaves_all c.serving_laws.ensures c.args.plan.now c.requires.range.batch
-    (Rose (g.S.Source.faults c.args.source.now) (g.S.Source.faults c.run_job-answer.new.source))
+    (EndsBy (g.S.Source.failed c.args.source.now) (g.S.Source.failed c.run_job-answer.new.source))
     (g.S.Source.left c.args.source.now) (g.S.Source.left c.run_job-answer.new.source) (g.K.Sink.put c.args.sink.now)
     (g.K.Sink.put c.run_job-answer.new.sink) c.promise_laws.ensures
     (subst (λ (head : Head). seed_in head.hashing < 2 ^ 64) c.head_of-head.ensures c.head_fits.ensures.seed)
     c.run_job-answer.result c.answer_fits.ensures
     (subst (λ (size : ℕ). LoopLeavesAll size (IsLines c.args.plan.now) (IsWholeReport c.args.plan.now)
-    (Rose (g.S.Source.faults c.args.source.now) (g.S.Source.faults c.run_job-answer.new.source))
+    (EndsBy (g.S.Source.failed c.args.source.now) (g.S.Source.failed c.run_job-answer.new.source))
     (number_in c.args.plan.now.framing.link) (g.S.Source.left c.args.source.now)
     (g.S.Source.left c.run_job-answer.new.source) (g.K.Sink.put c.args.sink.now)
     (g.K.Sink.put c.run_job-answer.new.sink) c.run_job-answer.result) c.requires.batch
     (subst (λ (link : ℕ). LoopLeavesAll c.args.means.now.batch (IsLines c.args.plan.now) (IsWholeReport c.args.plan.now)
-    (Rose (g.S.Source.faults c.args.source.now) (g.S.Source.faults c.run_job-answer.new.source)) link
+    (EndsBy (g.S.Source.failed c.args.source.now) (g.S.Source.failed c.run_job-answer.new.source)) link
     (g.S.Source.left c.args.source.now) (g.S.Source.left c.run_job-answer.new.source) (g.K.Sink.put c.args.sink.now)
     (g.K.Sink.put c.run_job-answer.new.sink) c.run_job-answer.result) c.number.ensures
     (c.run_job-answer.ensures.leaves c.args.plan.now
-    (c.in_ok-serving.ensures.done c.args.plan.now c.head_text.new.out.items c.service_of-service.ensures.asks refl
+    (c.in_ok-serving.ensures.done c.args.plan.now c.head_text.new.out.items c.service_of-service.ensures.asks
+    c.calling_of-calling.ensures
     (c.in_ok-head_text.ensures.appended
     ∙ ap (λ t. t ++ head_line c.head_of-head.result) c.in_ok-text.ensures.items ∙ ap head_line
     c.head_of-head.ensures)))))
 
 pub returns-in_err-text-clause-leaves : goal.returns-in_err-text-clause-leaves
 returns-in_err-text-clause-leaves g c =
-    leaves_none c.args.plan.now (Rose (g.S.Source.faults c.args.source.now) (g.S.Source.faults c.args.source.now))
+    leaves_none c.args.plan.now (EndsBy (g.S.Source.failed c.args.source.now) (g.S.Source.failed c.args.source.now))
     (g.S.Source.left c.args.source.now) (g.S.Source.left c.args.source.now) (g.K.Sink.put c.args.sink.now)
     (g.K.Sink.put c.args.sink.now) c.from_residual.result c.from_residual.ensures
     (Keeps-same (g.K.Sink.put c.args.sink.now))
 
 pub returns-in_err-head_text-clause-leaves : goal.returns-in_err-head_text-clause-leaves
 returns-in_err-head_text-clause-leaves g c =
-    leaves_none c.args.plan.now (Rose (g.S.Source.faults c.args.source.now) (g.S.Source.faults c.args.source.now))
+    leaves_none c.args.plan.now (EndsBy (g.S.Source.failed c.args.source.now) (g.S.Source.failed c.args.source.now))
     (g.S.Source.left c.args.source.now) (g.S.Source.left c.args.source.now) (g.K.Sink.put c.args.sink.now)
     (g.K.Sink.put c.args.sink.now) c.from_residual-in_err-head_text.result c.from_residual-in_err-head_text.ensures
     (Keeps-same (g.K.Sink.put c.args.sink.now))
 
 pub returns-in_err-with_room-clause-leaves : goal.returns-in_err-with_room-clause-leaves
 returns-in_err-with_room-clause-leaves g c =
-    leaves_none c.args.plan.now (Rose (g.S.Source.faults c.args.source.now) (g.S.Source.faults c.args.source.now))
+    leaves_none c.args.plan.now (EndsBy (g.S.Source.failed c.args.source.now) (g.S.Source.failed c.args.source.now))
     (g.S.Source.left c.args.source.now) (g.S.Source.left c.args.source.now) (g.K.Sink.put c.args.sink.now)
     (g.K.Sink.put c.args.sink.now) c.from_residual-in_err-with_room.result c.from_residual-in_err-with_room.ensures
     (Keeps-same (g.K.Sink.put c.args.sink.now))
 
 pub returns-in_err-with_room-2-clause-leaves : goal.returns-in_err-with_room-2-clause-leaves
 returns-in_err-with_room-2-clause-leaves g c =
-    leaves_none c.args.plan.now (Rose (g.S.Source.faults c.args.source.now) (g.S.Source.faults c.args.source.now))
+    leaves_none c.args.plan.now (EndsBy (g.S.Source.failed c.args.source.now) (g.S.Source.failed c.args.source.now))
     (g.S.Source.left c.args.source.now) (g.S.Source.left c.args.source.now) (g.K.Sink.put c.args.sink.now)
     (g.K.Sink.put c.args.sink.now) c.from_residual-in_err-with_room-2.result c.from_residual-in_err-with_room-2.ensures
     (Keeps-same (g.K.Sink.put c.args.sink.now))
 
 pub returns-in_err-serving-clause-leaves : goal.returns-in_err-serving-clause-leaves
 returns-in_err-serving-clause-leaves g c =
-    leaves_none c.args.plan.now (Rose (g.S.Source.faults c.args.source.now) (g.S.Source.faults c.args.source.now))
+    leaves_none c.args.plan.now (EndsBy (g.S.Source.failed c.args.source.now) (g.S.Source.failed c.args.source.now))
     (g.S.Source.left c.args.source.now) (g.S.Source.left c.args.source.now) (g.K.Sink.put c.args.sink.now)
     (g.K.Sink.put c.args.sink.now) c.from_residual-in_err-serving.result c.from_residual-in_err-serving.ensures
     (Keeps-same (g.K.Sink.put c.args.sink.now))
@@ -82,7 +82,8 @@ returns-clause-beyond g c =
     let first = g.S.Source.left c.args.source.now in
     let left = g.S.Source.left c.run_job-answer.new.source in
     let marks = c.run_job-answer.ensures.beyond c.args.plan.now
-    (c.in_ok-serving.ensures.done c.args.plan.now c.head_text.new.out.items c.service_of-service.ensures.asks refl
+    (c.in_ok-serving.ensures.done c.args.plan.now c.head_text.new.out.items c.service_of-service.ensures.asks
+    c.calling_of-calling.ensures
     (c.in_ok-head_text.ensures.appended
     ∙ ap (λ t. t ++ head_line c.head_of-head.result) c.in_ok-text.ensures.items ∙ ap head_line
     c.head_of-head.ensures)) in

@@ -1,13 +1,12 @@
 -- The head line is held, nothing is counted and nothing was put.
 use Rattle.std.proofs.Common.{◌≡◌, ℕ, List, ◌++◌, Option, Result, Ok, Err, sym, ap, subst, ◌∙◌, IsErr, IsErrAnd}
 use Rattle.std.specs.Io.KnownBytes.{Keeps}
-use Rattle.edge_traits.specs.Edge.{Rose}
-use Rattle.report_text.specs.declared.parts.Ending.{Ending}
-use Rattle.report_text.specs.Adds.{totals_head}
+use Rattle.capture_faults.specs.declared.ending.Ending.{Ending}
+use Rattle.totals_runner.specs.Adds.{totals_head}
 use Rattle.capture_loop.specs.declared.stop.Stop.{Stop}
 use Rattle.capture_loop.specs.declared.stop.Stop.TheVariants.{Memory}
 use Rattle.capture_loop.specs.Input.{StopsAt, packet_limit}
-use Rattle.capture_loop.specs.Leaves.{LoopLeavesAll, Lines, Marks, Reports}
+use Rattle.capture_loop.specs.Leaves.{EndsBy, LoopLeavesAll, Lines, Marks, Reports}
 use Rattle.capture_loop.proofs.LeavesLemmas.{Keeps-same, leaves_nothing}
 use Rattle.packet_heads.specs.Links.{number_in, way_of}
 use Rattle.totals_runner.specs.Told.{IsTotalsLines, IsTotalsReport}
@@ -15,19 +14,19 @@ use Rattle.totals_runner.proofs.JobLemmas.{begun}
 use Rattle.totals_runner.proofs.running.count_input.Goals as goal
 
 -- memory ran out before anything was read
-leaves_none : (size : ℕ) (lines : Lines) (report : Reports) (read_failed : Type 0) (link : ℕ)
+leaves_none : (size : ℕ) (lines : Lines) (report : Reports) (can_end : Ending → Type 0) (link : ℕ)
     (first left before after : Option (List ℕ))
     (result : Result Ending Stop) → IsErr result × IsErrAnd result (λ (stop : Stop). stop ≡ Memory) →
-    Keeps before after → LoopLeavesAll size lines report read_failed link first left before after result
-leaves_none size lines report read_failed link first left before after (Ok ending) is kept = absurd (cc)
-leaves_none size lines report read_failed link first left before after (Err stop) is kept =
-    subst (λ (s : Stop). LoopLeavesAll size lines report read_failed link first left before after (Err s)) (sym is.1)
-    (leaves_nothing size lines report read_failed link first left before after kept)
+    Keeps before after → LoopLeavesAll size lines report can_end link first left before after result
+leaves_none size lines report can_end link first left before after (Ok ending) is kept = absurd (cc)
+leaves_none size lines report can_end link first left before after (Err stop) is kept =
+    subst (λ (s : Stop). LoopLeavesAll size lines report can_end link first left before after (Err s)) (sym is.1)
+    (leaves_nothing size lines report can_end link first left before after kept)
 
 pub returns-in_err-totals_head_text-clause-leaves : goal.returns-in_err-totals_head_text-clause-leaves
 returns-in_err-totals_head_text-clause-leaves g c =
     leaves_none c.args.asked.now.batch (IsTotalsLines c.args.asked.now) (IsTotalsReport c.args.asked.now)
-    (Rose (g.S.Source.faults c.args.source.now) (g.S.Source.faults c.args.source.now))
+    (EndsBy (g.S.Source.failed c.args.source.now) (g.S.Source.failed c.args.source.now))
     (number_in c.args.asked.now.framing.link) (g.S.Source.left c.args.source.now) (g.S.Source.left c.args.source.now)
     (g.K.Sink.put c.args.sink.now)
     (g.K.Sink.put c.args.sink.now) c.from_residual.result c.from_residual.ensures
@@ -36,13 +35,13 @@ returns-in_err-totals_head_text-clause-leaves g c =
 pub returns-clause-leaves : goal.returns-clause-leaves
 returns-clause-leaves g c =
     subst (λ (size : ℕ). LoopLeavesAll size (IsTotalsLines c.args.asked.now) (IsTotalsReport c.args.asked.now)
-    (Rose (g.S.Source.faults c.args.source.now) (g.S.Source.faults c.run_job-answer.new.source))
+    (EndsBy (g.S.Source.failed c.args.source.now) (g.S.Source.failed c.run_job-answer.new.source))
     (number_in c.args.asked.now.framing.link) (g.S.Source.left c.args.source.now)
     (g.S.Source.left c.run_job-answer.new.source) (g.K.Sink.put c.args.sink.now)
     (g.K.Sink.put c.run_job-answer.new.sink) c.run_job-answer.result) c.requires.so_many
     (subst (λ (link : ℕ). LoopLeavesAll c.args.means.now.batch (IsTotalsLines c.args.asked.now)
     (IsTotalsReport c.args.asked.now)
-    (Rose (g.S.Source.faults c.args.source.now) (g.S.Source.faults c.run_job-answer.new.source)) link
+    (EndsBy (g.S.Source.failed c.args.source.now) (g.S.Source.failed c.run_job-answer.new.source)) link
     (g.S.Source.left c.args.source.now) (g.S.Source.left c.run_job-answer.new.source) (g.K.Sink.put c.args.sink.now)
     (g.K.Sink.put c.run_job-answer.new.sink) c.run_job-answer.result) c.number-link.ensures
     (c.run_job-answer.ensures.leaves c.args.asked.now

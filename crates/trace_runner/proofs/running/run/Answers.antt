@@ -1,7 +1,7 @@
 use Rattle.std.proofs.Common.{◌≡◌, Some, None, ap, sym, subst, ◌∙◌}
 use Rattle.command_line.specs.declared.plan.Plan.{Plan}
 use Rattle.packet_heads.specs.Links.{number_in}
-use Rattle.packet_heads.specs.Heads.{plain_framing}
+use Rattle.mode_parts.specs.Callings.{calling_of, plain_calling}
 use Rattle.pcapng_reader.specs.Input.{Input}
 use Rattle.capture_loop.specs.Input.{StopsAt, packet_limit}
 use Rattle.mode_parts.specs.Statuses.{MarksFor}
@@ -10,8 +10,9 @@ use Rattle.serve_modes.specs.Headline.{LeavesAll, LeavesTried}
 use Rattle.trace_runner.specs.Made.{LeavesMade}
 use Rattle.play_mode.specs.Playing.{LeavesPlayed, play_limit}
 use Rattle.trace_runner.specs.Totalled.{LeavesTotals}
-use Rattle.edge_traits.specs.Edge.{Rose}
+use Rattle.capture_loop.specs.Leaves.{EndsBy}
 use Rattle.capture_loop.proofs.LeavesLemmas.{Keeps-same}
+use Rattle.mode_parts.proofs.ExactLemmas.{not_read, not_written}
 use Rattle.serve_modes.proofs.HeadlineLemmas.{leaves_nothing}
 use Rattle.serve_modes.proofs.ExactServes.{Leaves-exact}
 use Rattle.trace_runner.proofs.JudgedLemmas.{check_exact, check_nothing}
@@ -28,7 +29,7 @@ pub returns-in-Ok-clause-headline : goal.returns-in-Ok-clause-headline
 returns-in-Ok-clause-headline g c = λ plan asked serves.
     let same : c.in-Ok.plan ≡ plan = same_plan (sym c.in-Ok.ensures.answers ∙ asked) in
     subst (λ (p : Plan). LeavesAll p
-    (Rose (g.S.Source.faults c.args.source.now) (g.S.Source.faults c.run_plan.new.source))
+    (EndsBy (g.S.Source.failed c.args.source.now) (g.S.Source.failed c.run_plan.new.source))
     (g.S.Source.left c.args.source.now) (g.S.Source.left c.run_plan.new.source)
     (g.K.Sink.put c.args.sink.now) (g.K.Sink.put c.run_plan.new.sink) c.run_plan.result) same
     (c.run_plan.ensures.headline (ap (λ (p : Plan). p.mode) same ∙ serves))
@@ -39,14 +40,14 @@ returns-in-Ok-clause-exact g c = λ plan bytes packets ending asked serves told 
     Leaves-exact c.in-Ok.plan _ bytes _ _ _ c.run_plan.result packets ending
     (c.one_input.ensures (number_in c.in-Ok.plan.framing.link) bytes)
     (subst (λ (p : Plan). Input (number_in p.framing.link) bytes packets ending) (sym same) capture)
-    (λ is. no_read (c.run_plan.ensures.read_fault is)) (λ is. no_write (c.run_plan.ensures.write_fault is))
+    (not_read _ _ _ no_read c.run_plan.ensures.reads) (not_written _ _ _ no_write c.run_plan.ensures.writes)
     ((c.run_plan.ensures.headline (ap (λ (p : Plan). p.mode) same ∙ serves)).told bytes told)
 
 pub returns-in-Ok-clause-played : goal.returns-in-Ok-clause-played
 returns-in-Ok-clause-played g c = λ plan asked plays.
     let same : c.in-Ok.plan ≡ plan = same_plan (sym c.in-Ok.ensures.answers ∙ asked) in
     subst (λ (p : Plan). LeavesPlayed p
-    (Rose (g.S.Source.faults c.args.source.now) (g.S.Source.faults c.run_plan.new.source))
+    (EndsBy (g.S.Source.failed c.args.source.now) (g.S.Source.failed c.run_plan.new.source))
     (g.S.Source.left c.args.source.now) (g.S.Source.left c.run_plan.new.source)
     (g.K.Sink.put c.args.sink.now) (g.K.Sink.put c.run_plan.new.sink) c.run_plan.result) same
     (c.run_plan.ensures.played (ap (λ (p : Plan). p.mode) same ∙ plays))
@@ -57,12 +58,12 @@ returns-in-Ok-clause-exact_play g c = λ plan bytes packets ending asked plays t
     LeavesPlay-exact c.in-Ok.plan _ bytes _ _ _ c.run_plan.result packets ending
     (c.one_input.ensures (number_in c.in-Ok.plan.framing.link) bytes)
     (subst (λ (p : Plan). Input (number_in p.framing.link) bytes packets ending) (sym same) capture)
-    (λ is. no_read (c.run_plan.ensures.read_fault is)) (λ is. no_write (c.run_plan.ensures.write_fault is))
+    (not_read _ _ _ no_read c.run_plan.ensures.reads) (not_written _ _ _ no_write c.run_plan.ensures.writes)
     ((c.run_plan.ensures.played (ap (λ (p : Plan). p.mode) same ∙ plays)).told bytes told)
 
 pub returns-in-Err-Memory-clause-played : goal.returns-in-Err-Memory-clause-played
 returns-in-Err-Memory-clause-played g c = λ plan asked plays.
-    LeavesPlayed-nothing plan (Rose (g.S.Source.faults c.args.source.now) (g.S.Source.faults c.args.source.now))
+    LeavesPlayed-nothing plan (EndsBy (g.S.Source.failed c.args.source.now) (g.S.Source.failed c.args.source.now))
     (g.S.Source.left c.args.source.now) (g.S.Source.left c.args.source.now)
     (g.K.Sink.put c.args.sink.now) (g.K.Sink.put c.args.sink.now) (Keeps-same (g.K.Sink.put c.args.sink.now))
 
@@ -77,7 +78,7 @@ returns-in-Ok-clause-made g c = λ plan asked makes.
 
 pub returns-in-Err-Memory-clause-headline : goal.returns-in-Err-Memory-clause-headline
 returns-in-Err-Memory-clause-headline g c = λ plan asked serves.
-    leaves_nothing plan (Rose (g.S.Source.faults c.args.source.now) (g.S.Source.faults c.args.source.now))
+    leaves_nothing plan (EndsBy (g.S.Source.failed c.args.source.now) (g.S.Source.failed c.args.source.now))
     (g.S.Source.left c.args.source.now) (g.S.Source.left c.args.source.now)
     (g.K.Sink.put c.args.sink.now) (g.K.Sink.put c.args.sink.now) (Keeps-same (g.K.Sink.put c.args.sink.now))
 
@@ -86,7 +87,7 @@ returns-in-Ok-clause-tried g c = λ plan asked tries.
     let same : c.in-Ok.plan ≡ plan = same_plan (sym c.in-Ok.ensures.answers ∙ asked) in
     let has = no_rows _ plan asked tries in
     let none : c.in-Ok.plan.rows ≡ None = ap (λ (p : Plan). p.rows) same ∙ has.0 in
-    let plain : c.in-Ok.plan.framing ≡ plain_framing = ap (λ (p : Plan). p.framing) same ∙ has.1 in
+    let plain : calling_of c.in-Ok.plan ≡ plain_calling = ap calling_of same ∙ has.1 in
     let tried = c.run_plan.ensures.tried (ap (λ (p : Plan). p.mode) same ∙ tries) none plain in (
       subst (λ (p : Plan). LeavesTried p (g.K.Sink.put c.args.sink.now) (g.K.Sink.put c.run_plan.new.sink)
           c.run_plan.result) same tried.0,
@@ -97,7 +98,7 @@ pub returns-in-Ok-clause-totals : goal.returns-in-Ok-clause-totals
 returns-in-Ok-clause-totals g c = λ plan asked counts.
     let same : c.in-Ok.plan ≡ plan = same_plan (sym c.in-Ok.ensures.answers ∙ asked) in
     subst (λ (p : Plan). LeavesTotals p
-    (Rose (g.S.Source.faults c.args.source.now) (g.S.Source.faults c.run_plan.new.source))
+    (EndsBy (g.S.Source.failed c.args.source.now) (g.S.Source.failed c.run_plan.new.source))
     (g.S.Source.left c.args.source.now) (g.S.Source.left c.run_plan.new.source) (g.K.Sink.put c.args.sink.now)
     (g.K.Sink.put c.run_plan.new.sink) c.run_plan.result) same
     (c.run_plan.ensures.totals (ap (λ (p : Plan). p.mode) same ∙ counts))
@@ -110,12 +111,12 @@ returns-in-Ok-clause-exact_totals g c = λ plan bytes packets ending asked count
     packets ending left.1
     (c.one_input.ensures (number_in c.in-Ok.plan.framing.link) bytes)
     (subst (λ (p : Plan). Input (number_in p.framing.link) bytes packets ending) (sym same) capture)
-    (λ is. no_read (c.run_plan.ensures.read_fault is)) (λ is. no_write (c.run_plan.ensures.write_fault is))
+    (not_read _ _ _ no_read c.run_plan.ensures.reads) (not_written _ _ _ no_write c.run_plan.ensures.writes)
     (left.2.told bytes told)
 
 pub returns-in-Err-Memory-clause-totals : goal.returns-in-Err-Memory-clause-totals
 returns-in-Err-Memory-clause-totals g c = λ plan asked counts.
-    totals_nothing plan (Rose (g.S.Source.faults c.args.source.now) (g.S.Source.faults c.args.source.now))
+    totals_nothing plan (EndsBy (g.S.Source.failed c.args.source.now) (g.S.Source.failed c.args.source.now))
     (g.S.Source.left c.args.source.now) (g.S.Source.left c.args.source.now) (g.K.Sink.put c.args.sink.now)
     (g.K.Sink.put c.args.sink.now) (Keeps-same (g.K.Sink.put c.args.sink.now))
 
@@ -128,8 +129,8 @@ pub returns-in-Ok-clause-exact_check : goal.returns-in-Ok-clause-exact_check
 returns-in-Ok-clause-exact_check g c = λ plan text asked checks told no_read no_write.
     let same : c.in-Ok.plan ≡ plan = same_plan (sym c.in-Ok.ensures.answers ∙ asked) in
     let left = c.run_plan.ensures.checked (ap (λ (p : Plan). p.mode) same ∙ checks) in
-    check_exact text _ _ left.0 c.run_plan.result left.1 (λ is. no_read (c.run_plan.ensures.read_fault is))
-    (λ is. no_write (c.run_plan.ensures.write_fault is)) (left.2.told text told)
+    check_exact text _ _ left.0 c.run_plan.result left.1 (not_read _ _ _ no_read c.run_plan.ensures.reads)
+    (not_written _ _ _ no_write c.run_plan.ensures.writes) (left.2.told text told)
 
 pub returns-in-Err-Memory-clause-checked : goal.returns-in-Err-Memory-clause-checked
 returns-in-Err-Memory-clause-checked g c = λ plan asked checks.

@@ -20,7 +20,7 @@ invariant_of-result c =
         words = omega (arith, c.bucket_word.ensures);
         rows = omega (arith, c.bucket_row_word.ensures);
         directories = omega (arith, c.directory_word.ensures);
-        few = c.place_laws.ensures.few _ c.args.layout.now.shaped;
+        few = c.place_laws.ensures.few _ c.args.layout.now.shaped (omega arith);
       };
       widths = record {
         row = c.bucket_row_words.ensures.exact ∙ ap bucket_row_words same;

@@ -1,4 +1,4 @@
-use Rattle.std.proofs.Common.{◌≡◌, ◌∙◌, ℕ, List, get_or, sym, ap}
+use Rattle.std.proofs.Common.{◌≡◌, ◌∙◌, ℕ, List, sym, ap}
 use Rattle.std.proofs.lemmas.List.{get_or_default}
 use Rattle.std.specs.FinMap as finite
 use Rattle.plain_map.specs.declared.keys.Key.{Key}
@@ -6,7 +6,6 @@ use Rattle.plain_map.specs.declared.keys.Pair.{Pair}
 use Rattle.plain_map.specs.declared.calls.Reply.TheVariants.{Sum}
 use Rattle.plain_map.specs.Keys.{held_in}
 use Rattle.plain_map.specs.Updates.{summed}
-use Rattle.plain_map.specs.Held.{sessions_of}
 use Rattle.plain_map.proofs.CountLemmas.{AreCountsOf-set}
 use Rattle.plain_map.proofs.SessionLemmas.{held_at, none_at_gap, ordered-set, sessions_of-set}
 use Rattle.plain_map.proofs.AnswerLemmas.{reply_of-Tally_held, map_after-Tally_held, reply_of-Tally_absent, map_after-Tally_absent}

@@ -22,6 +22,7 @@ returns-clause-stands c = record {
       (map (λ own. own.items) c.args.calls.now) c.args.stops.now c.requires.opened
       (ap (λ (s : Settings). s.seats) c.settings.ensures) c.in_ok-hands.ensures))
       (first_good c.args.core.setup (map (λ own. own.items) c.args.calls.now) c.args.stops.now c.requires.playable);
+  limited = c.requires.limit;
   told = c.new.ensures.items
       ∙ ap (λ (core : CoreValue). outcomes_of core.setup core.events) (sym c.requires.opened);
 }

@@ -17,5 +17,5 @@ invariant_of-result-clause-starts c =
       bucket = omega (arith, c.bucket_row_word.ensures);
       room = ap (λ (k : ℕ). 2 + 1 * 2 ^ k % 2 ^ 64) bits ∙ ap (λ (k : ℕ). 2 + k) whole;
       directory = omega (arith, c.directory_word.ensures);
-      few = c.place_laws.ensures.few _ c.args.layout.shaped;
+      few = c.place_laws.ensures.few _ c.args.layout.shaped (omega arith);
     }

@@ -1,6 +1,6 @@
 use Rattle.std.proofs.Common.{refl, subst, sym, ◌∙◌}
-use Rattle.packet_heads.specs.declared.framing.Framing.{Framing}
-use Rattle.packet_heads.proofs.WayLemmas.{same_way}
+use Rattle.mode_parts.specs.declared.calling.Calling.{Calling}
+use Rattle.mode_parts.proofs.CallingLemmas.{same_calling}
 use Rattle.mode_parts.specs.PacketCalls.{MakeCalls}
 use Rattle.serve_modes.proofs.JobLemmas.{OnOk-any, dealt_alike}
 use Rattle.serve_modes.proofs.serving.Serving.dealt_of.Goals as goal
@@ -13,12 +13,12 @@ returns-then-deal_alike-clause-dealt c =
 
 pub returns-then-deal_alike-clause-made : goal.returns-then-deal_alike-clause-made
 returns-then-deal_alike-clause-made c = λ number packets make.
-    subst (λ (f : Framing). MakeCalls f number packets c.args.pile.now.calls.items)
-    (same_way c.args.pile.now.framing c.args.self.now.framing c.requires.way) make
+    subst (λ (f : Calling). MakeCalls f number packets c.args.pile.now.calls.items)
+    (same_calling c.args.pile.now.calling c.args.self.now.calling c.requires.way) make
 
 pub returns-clause-made : goal.returns-clause-made
 returns-clause-made c =
     OnOk-any c.deal_batch.result
     (λ number packets make.
-    subst (λ (f : Framing). MakeCalls f number packets c.args.pile.now.calls.items)
-    (same_way c.args.pile.now.framing c.args.self.now.framing c.requires.way) make)
+    subst (λ (f : Calling). MakeCalls f number packets c.args.pile.now.calls.items)
+    (same_calling c.args.pile.now.calling c.args.self.now.calling c.requires.way) make)

@@ -1,7 +1,7 @@
 -- The sessions and the last lines make the report whole.
 use Rattle.std.proofs.Common.{◌++◌, ap, subst, sym, ◌∙◌}
 use Rattle.std.specs.List.{All, flat_map}
-use Rattle.flow_keys.specs.FlowText.{HasText}
+use Rattle.key_texts.specs.FlowText.{HasText}
 use Rattle.report_text.specs.Report.{session_line, tail_lines}
 use Rattle.serve_modes.specs.Served.{tail_with}
 use Rattle.mode_parts.proofs.PileLemmas.{OnOk-weaker}

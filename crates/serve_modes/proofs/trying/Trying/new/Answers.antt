@@ -9,7 +9,8 @@ returns-clause-none c =
     let plan = c.args.plan.now in
     record {
       lines = head_line (head_of false plan);
-      done = c.in_ok-serving.ensures.done plan (head_line (head_of false plan)) c.requires.asks refl refl;
+      done = c.in_ok-serving.ensures.done plan (head_line (head_of false plan)) c.requires.asks c.calling_of.ensures
+          refl;
       number = refl;
       packets = refl;
       batch = refl;

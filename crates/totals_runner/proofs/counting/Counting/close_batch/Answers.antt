@@ -9,7 +9,7 @@ use Rattle.sim_totals.specs.declared.table.ClosedTotals.{ClosedTotals}
 use Rattle.sim_totals.specs.Values.{TableValue}
 use Rattle.plain_map.specs.declared.records.CallId.{CallId}
 use Rattle.report_text.specs.Report.{order_lines}
-use Rattle.report_text.specs.Adds.{add_line, added_on}
+use Rattle.totals_runner.specs.Adds.{add_line, added_on}
 use Rattle.totals_runner.specs.declared.batch.Dealt.{Dealt}
 use Rattle.totals_runner.specs.declared.counting.Counting.{Counting}
 use Rattle.totals_runner.specs.Counted.{Counted}

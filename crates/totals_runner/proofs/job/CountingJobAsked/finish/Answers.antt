@@ -1,8 +1,8 @@
 -- The last lines make the report whole.
 use Rattle.std.proofs.Common.{◌≡◌, ◌++◌, ℕ, List, ap, ◌∙◌}
 use Rattle.sim_steps.specs.Program.{step_bound}
-use Rattle.report_text.specs.declared.parts.Ending.{Ending}
-use Rattle.report_text.specs.Adds.{totals_tail}
+use Rattle.capture_faults.specs.declared.ending.Ending.{Ending}
+use Rattle.totals_runner.specs.Adds.{totals_tail}
 use Rattle.totals_runner.specs.declared.counting.Asked.{Asked}
 use Rattle.totals_runner.specs.declared.counting.Counting.{Counting}
 use Rattle.totals_runner.specs.JobLaws.{ends_report, tail_of}

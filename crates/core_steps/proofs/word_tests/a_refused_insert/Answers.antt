@@ -1,7 +1,0 @@
--- No pairs have distinct keys.
-use Rattle.std.specs.List.{IsDistinct}
-use Rattle.core_steps.proofs.word_tests.a_refused_insert.Goals as goal
-
-pub open-requires-clause-distinct : goal.open-requires-clause-distinct
-unfolding IsDistinct
-open-requires-clause-distinct g c = tt

@@ -1,0 +1,9 @@
+-- The pieces of an endpoint, written one after another, are its text.
+use Rattle.std.proofs.Common.{arith, append_assoc}
+use Rattle.std.proofs.lemmas.Grind.{common_steps}
+use Rattle.key_texts.specs.FlowText.{endpoint_text}
+use Rattle.key_texts.proofs.written.write_endpoint.Goals as goal
+
+pub returns-clause-text : goal.returns-clause-text
+unfolding endpoint_text
+returns-clause-text c = grind (arith, common_steps, append_assoc)

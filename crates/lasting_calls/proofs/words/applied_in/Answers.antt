@@ -1,0 +1,7 @@
+use Rattle.std.proofs.Common.{sym, arith}
+use Rattle.lasting_calls.proofs.OpsLemmas.{applied_at}
+use Rattle.lasting_calls.proofs.words.applied_in.Goals as goal
+
+pub returns : goal.returns
+returns c = sym (applied_at c.args.desk.now.settings c.args.words.now c.args.desk.now.seat _ c.args.desk.now.within
+    (omega arith))

@@ -1,7 +1,0 @@
-use Rattle.std.proofs.Common.{append_assoc, rules}
-use Rattle.report_text.specs.Adds.{totals_tail}
-use Rattle.report_text.proofs.adds.put_tail.Goals as goal
-
-pub returns : goal.returns
-unfolding totals_tail
-returns c = search (rules, append_assoc)
