@@ -11,7 +11,7 @@ ghost use Rattle.batch_runner.specs.Told.{read_there};
 ghost use Rattle.batch_runner.specs.Totals.{IsTotalOf};
 
 use crate::totals::Totals;
-use plain_map::{Call, Record};
+use plain_map::{Call, MOST_SEATS, Record};
 use std::alloc::{AllocError, Global};
 use trace_share::{Outcome, Share, seat_for};
 
@@ -30,7 +30,7 @@ pub(crate) fn outcomes_of<'a>(
     ensures { IfOk result (λ outcomes.
         AreInPacketOrder calls.now (map (λ log. log.items) logs.now) (read_there outcomes.items)) }
 {
-    let mut taken = [0usize; 8];
+    let mut taken = [0usize; MOST_SEATS];
     let mut outcomes = Vec::with_capacity(alloc, calls.len())?;
     for (place, call) in calls.iter().enumerate() {
         let seat = seat_for(share, seats, calls.len(), place, call);

@@ -1,2 +1,4 @@
+pub mod CountLemmas
+pub mod AnswerLemmas
 pub mod RowLemmas
 pub mod PairLemmas

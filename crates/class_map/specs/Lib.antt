@@ -1,2 +1,4 @@
+pub mod ClassCounts
+pub mod Held
 pub mod Rows
 pub mod Pairs

@@ -7,9 +7,10 @@ ghost use Rattle.plain_map.specs.PlainObject.{InRange, IsInsertOfNew, Sessions, 
 ghost use Rattle.class_map.specs.Pairs.{AreAmong, IsHeld};
 ghost use Rattle.class_map.specs.Rows.{HasEachClass, Holds, one_class};
 
+use crate::object::PlainMap;
 use crate::pairs::{are_in, is_in};
 use hash_bits::prefix_laws;
-use plain_map::{Call, Pair, PlainMap, Reply, Rules, answer_laws};
+use plain_map::{Call, Pair, Reply, Rules, answer_laws};
 use std::alloc::{AllocError, Global};
 use std::marker::Model;
 

@@ -8,6 +8,7 @@ ghost use Rattle.std.specs.Prelude.{◌≡◌, ◌+◌, ◌*◌, ◌^◌, ◌<�
 ghost use Rattle.word_rows.specs.Shape.{AreBelow, IsShape, by_kind, count_of, number_after, record_limit};
 
 use crate::Address;
+use plain_map::MOST_SEATS;
 use step_counts::{DIRECTORY_HEAD_WORDS, OP_WORDS, SeatRows, Settings, bucket_row_words};
 
 /// The word numbers of one table.
@@ -15,7 +16,7 @@ use step_counts::{DIRECTORY_HEAD_WORDS, OP_WORDS, SeatRows, Settings, bucket_row
 pub struct Layout {
     settings: Settings,
     /// Of each seat; from the last seat on they are none.
-    ranges: [SeatRows; 8],
+    ranges: [SeatRows; MOST_SEATS],
     counts: SeatRows,
     pub ghost shaped: { IsShape (record {
       settings = settings;
@@ -64,7 +65,7 @@ impl Layout {
             bucket_words: 0,
             directory_rows: 0,
         };
-        let mut ranges = [none; 8];
+        let mut ranges = [none; MOST_SEATS];
         ranges[..rows.len()].copy_from_slice(rows);
         let counts = rows_after(settings, rows);
         Layout {

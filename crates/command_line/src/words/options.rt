@@ -2,6 +2,8 @@
 //!
 //! A new option is a row here, a row of `specs/Command.antt`, and a field of the plan.
 
+use step_counts::{MOST_DEPTH, MOST_ITEMS, MOST_SEATS};
+
 /// An option `--name` with a number in a range.
 #[derive(Clone, Copy)]
 pub struct NumberOption<'a> {
@@ -15,28 +17,28 @@ pub struct NumberOption<'a> {
 pub const SEATS: NumberOption<'static> = NumberOption {
     name: "seats",
     least: 1,
-    most: 8,
+    most: MOST_SEATS as u64,
     default: 2,
 };
 
 pub const ITEMS: NumberOption<'static> = NumberOption {
     name: "items",
     least: 1,
-    most: 16,
+    most: MOST_ITEMS as u64,
     default: 8,
 };
 
 pub const DEPTH: NumberOption<'static> = NumberOption {
     name: "depth",
     least: 0,
-    most: 12,
+    most: MOST_DEPTH as u64,
     default: 10,
 };
 
 pub const START: NumberOption<'static> = NumberOption {
     name: "start",
     least: 0,
-    most: 12,
+    most: MOST_DEPTH as u64,
     default: 0,
 };
 

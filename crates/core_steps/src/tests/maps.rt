@@ -5,9 +5,9 @@ ghost use Rattle.plain_map.specs.PlainObject.{InRange};
 ghost use Rattle.class_map.specs.Rows.{HasEachClass};
 
 use super::{key, pair};
-use class_map::ClassMap;
+use class_map::{ClassMap, PlainMap};
 use hash_bits::Hashing;
-use plain_map::{Call, PlainMap, Reply, Rules};
+use plain_map::{Call, Reply, Rules};
 use std::process::Abort;
 use std::test::Fail;
 

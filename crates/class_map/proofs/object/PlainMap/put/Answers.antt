@@ -1,0 +1,55 @@
+use Rattle.std.proofs.Common.{◌≡◌, ◌∙◌, List, OnOk, sym, ap, subst}
+use Rattle.std.specs.FinMap as finite
+use Rattle.plain_map.specs.declared.keys.Key.{Key}
+use Rattle.plain_map.specs.declared.keys.Pair.{Pair}
+use Rattle.plain_map.specs.Keys.{held_in}
+use Rattle.plain_map.specs.PlainObject.{Sessions, brought}
+use Rattle.class_map.proofs.CountLemmas.{AreCountsOf-set}
+use Rattle.plain_map.proofs.SessionLemmas.{held_at, none_at_gap, ordered-set, sessions_of-set}
+use Rattle.class_map.proofs.AnswerLemmas.{insert_reply_held, valued_held, valued_new}
+use Rattle.class_map.proofs.object.PlainMap.put.Goals as goal
+
+-- the key is held
+pub invariant_of-self : goal.invariant_of-self
+invariant_of-self c =
+    let ps : List Pair = c.self.inside.pairs.items in
+    let here = rw c.deref.ensures.value at c.in-Ok.ensures.found in
+    let p : Pair = c.index_mut.result.now in
+    let q : Pair = record { key = p.key; value = c.args.pair.value; bytes = p.bytes } in
+    let is : q.key ≡ c.args.pair.key = ap (λ (x : Pair). x.key) c.index_mut.ensures.value ∙ here.has_key p in
+    record {
+      ordered = ordered-set ps c.self.invariant.ordered c.args.pair.key c.in-Ok.at here q is;
+      counted = λ now there.
+          AreCountsOf-set ps c.in-Ok.at q now (λ d. here.has_key d ∙ sym is) (c.self.invariant.counted now there);
+    }
+
+pub returns-in-Ok-clause-reply : goal.returns-in-Ok-clause-reply
+returns-in-Ok-clause-reply c =
+    let here = rw c.deref.ensures.value at c.in-Ok.ensures.found in
+    sym (insert_reply_held c.args.rules.now c.args.self.now c.args.pair.key _
+    (held_at c.self.inside.pairs.items c.self.invariant.ordered _ c.self.view_is _ _ here c.index.result.now
+    c.index.ensures))
+
+pub returns-in-Ok-clause-change : goal.returns-in-Ok-clause-change
+returns-in-Ok-clause-change c =
+    let ps : List Pair = c.self.inside.pairs.items in
+    let key : Key = c.args.pair.key in
+    let here = rw c.deref.ensures.value at c.in-Ok.ensures.found in
+    let p : Pair = c.index_mut.result.now in
+    let q : Pair = record { key = p.key; value = c.args.pair.value; bytes = p.bytes } in
+    let is : q.key ≡ key = ap (λ (x : Pair). x.key) c.index_mut.ensures.value ∙ here.has_key p in
+    sessions_of-set ps c.self.invariant.ordered key c.in-Ok.at q here is
+    ∙ ap (λ m. finite.insert m key (held_in q)) c.self.view_is
+    ∙ sym (valued_held c.args.rules.now c.args.self.now key c.args.pair.value (held_in p)
+    (held_at ps c.self.invariant.ordered _ c.self.view_is _ _ here p c.index_mut.ensures.value))
+
+-- the key is not held
+pub returns-in-Err-clause-change : goal.returns-in-Err-clause-change
+returns-in-Err-clause-change c =
+    let gap = rw c.deref.ensures.value at c.in-Err.ensures.absent in
+    let none = none_at_gap c.self.inside.pairs.items c.self.invariant.ordered c.args.self.now c.self.view_is _ _ gap in
+    subst (λ (x : Sessions). OnOk c.insert.result (c.insert.new.self ≡ x))
+    ((λ i. brought c.args.rules.now c.args.self.now c.args.pair.key
+    (record { value = c.args.pair.value; bytes = c.requires.begins i }))
+    ∙ valued_new c.args.rules.now c.args.self.now c.args.pair.key none c.args.pair.value)
+    c.insert.ensures.change

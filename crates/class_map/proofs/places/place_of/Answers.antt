@@ -1,0 +1,12 @@
+use Rattle.std.proofs.Common.{rules}
+use Rattle.std.proofs.lemmas.List.Sorted.{answers_always}
+use Rattle.plain_map.specs.declared.keys.Pair.{Pair}
+use Rattle.plain_map.proofs.PlaceLemmas.{searched}
+use Rattle.class_map.proofs.places.place_of.Goals as goal
+
+-- the closure gives a pair's key
+pub returns : goal.returns
+returns c =
+    let facts = c.binary_search_by_key.ensures in
+    let by_key = facts.position (λ (pair : Pair). pair.key) (answers_always _ _ _ (λ f a r g called. search rules)) in
+    searched c.args.pairs.now c.requires c.args.key.now _ facts.bound by_key
