@@ -72,10 +72,10 @@ static size_t bytes_of(const struct flowdir_options *options, struct flowdir_tab
 }
 
 /* What an opening lays its first pairs out in. For each class of keys there are two places of 104 bytes, for a bucket
- * before and after it is filled; the bucket's room, with 56 bytes for each item and 4 and 24 for each seat's last update
+ * before and after it is filled; the bucket's room, with 56 bytes for each item and 8 and 24 for each seat's last update
  * and its reply; a count of 4 bytes; and two numbers of 8 bytes in directories. */
 static size_t layout_of(const struct flowdir_options *options) {
-    return ((size_t)56 * options->items + 28 * options->seats + 2 * 104 + 4 + 2 * 8) << options->depth;
+    return ((size_t)56 * options->items + 32 * options->seats + 2 * 104 + 4 + 2 * 8) << options->depth;
 }
 
 /* A reopening asks for these bytes, and beside them for the room of each seat, the table itself and three pairs. */

@@ -108,7 +108,7 @@ uint32_t flowdir_rows_by(const struct flowdir_options *options, uint32_t updates
                          struct flowdir_rows *rows);
 
 /* The bytes of the words that an opening takes with these options: those of the table, and as many from which they are
- * copied. Beside them an opening takes (56 * items + 28 * seats + 228) << depth bytes to lay its first pairs out in.
+ * copied. Beside them an opening takes (56 * items + 32 * seats + 228) << depth bytes to lay its first pairs out in.
  * flowdir_open gives back both the words to copy from and the layout; a table of flowdir_reopen keeps them. It also
  * takes less than 240,000 bytes for each seat, and copies its first pairs. 0 where the options are out of their ranges.
  * Any number of threads at once. */
