@@ -1,0 +1,3 @@
+pub mod RowLemmas
+pub mod PlaceLemmas
+pub mod OpenLemmas
