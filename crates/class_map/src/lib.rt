@@ -1,4 +1,5 @@
-//! The plain map as code; and the same with each class kept apart, so that a call touches the keys of its own class alone.
+//! The plain map as code; and the same with each class kept apart, so that a call touches the keys of its own class
+//! alone.
 #![tactic(auto)]
 
 mod class_counts;

@@ -47,7 +47,8 @@ row_of_unused plan state unused =
 -- a row that says nothing
 nothing_said : (seats i : ℕ) → get_or (fresh_row seats []) i 0 ≡ 0
 nothing_said seats i =
-    ap (λ (words : List ℕ). get_or (replicate (1 + SEAT_WORDS * seats) 0 ++ 0 ∷ words) i 0) (blocks_zero (item_place []))
+    ap (λ (words : List ℕ). get_or (replicate (1 + SEAT_WORDS * seats) 0 ++ 0 ∷ words) i 0)
+    (blocks_zero (item_place []))
     ∙ zeros_behind (replicate (1 + SEAT_WORDS * seats) 0) 1 i ∙ zero_at (1 + SEAT_WORDS * seats) i
 
 -- the leaves of an opening: no more than there are buckets, none with more items than it may have, and no update in any
@@ -72,7 +73,8 @@ module _ (plan : Plan) (some : 1 ≤ plan.rows) (fresh : AreFresh plan) where
   items_are b =
       ap (λ (items : List (List Pair)). get_or items b [])
       (sym (map-map (λ (state : BucketState). state.items) (λ (leaf : NewLeaf). leaf.bucket) leaves))
-      ∙ get_or-map-default (λ (state : BucketState). state.items) (map (λ leaf. leaf.bucket) leaves) b (empty_state s.seats)
+      ∙ get_or-map-default (λ (state : BucketState). state.items) (map (λ leaf. leaf.bucket) leaves) b
+      (empty_state s.seats)
 
   -- which has no update
   state_unused : (b : ℕ) → IsUnused s.seats (opening_state plan b)
@@ -114,7 +116,8 @@ module _ (plan : Plan) (some : 1 ≤ plan.rows) (fresh : AreFresh plan) where
   heads_long = length-replicate {A = ℕ} (head_width s) 0
 
   buckets_long : length bucket_part ≡ buckets_of s
-  buckets_long = length-map (range_with_len 0 (buckets_of s)) (row_for s plan.rows) ∙ length-range_with_len 0 (buckets_of s)
+  buckets_long =
+      length-map (range_with_len 0 (buckets_of s)) (row_for s plan.rows) ∙ length-range_with_len 0 (buckets_of s)
 
   -- a word before the bucket words
   head_at : (i : ℕ) → i < head_width s → get_or (words_with s plan.rows leaves) i 0 ≡ 0
@@ -159,7 +162,8 @@ module _ (plan : Plan) (some : 1 ≤ plan.rows) (fresh : AreFresh plan) where
           ≡ cond inside (get_or (row_words (ample plan) 0 (opening_state plan (bucket_of_row plan row))) i 0) 0
       go true is =
           ap (λ (items : List Pair). get_or (fresh_row s.seats items) i 0) (items_are (bucket_of_row plan row))
-          ∙ ap (λ (words : List ℕ). get_or words i 0) (sym (row_of_unused plan (opening_state plan (bucket_of_row plan row))
+          ∙ ap (λ (words : List ℕ). get_or words i 0)
+          (sym (row_of_unused plan (opening_state plan (bucket_of_row plan row))
           (state_unused (bucket_of_row plan row))))
       go false is =
           ap (λ (items : List Pair). get_or (fresh_row s.seats items) i 0)

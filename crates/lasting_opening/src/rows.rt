@@ -12,8 +12,8 @@ use std::alloc::{AllocError, Global};
 use step_counts::{ITEM_WORDS, OP_WORDS, SEAT_WORDS, Settings};
 use word_rows::write_pair;
 
-// What stands before the bucket words of a seat: its announcement, its want and hold words, and its op, which is an op's
-// words but for the number.
+// What stands before the bucket words, for each seat: its announcement, its want and hold words, and its op without the
+// number.
 const HEAD_WORDS: usize = 3 + OP_WORDS - 1;
 
 // The words of a row before its items: its generation, those of the seats, and the count.
@@ -42,8 +42,8 @@ fn push_pair(pair: &Pair, words: &mut Vec<u64>) -> Result<(), AllocError>
     words.extend_from_slice(&item)
 }
 
-// Appends a row with these items. No update is in it yet: so its generation and the words of the seats are 0, as are the
-// words behind the items.
+// Appends a row with these items. No update is in it yet: so its generation and the words of the seats are 0. So are
+// the words behind the items.
 fn push_row(settings: &Settings, items: &[Pair], words: &mut Vec<u64>) -> Result<(), AllocError>
     requires fit { length items.now ≤ settings.now.items }
     ensures { OnOk result (words.new.items ≡ words.old.items ++ whole_row settings.now items.now) }

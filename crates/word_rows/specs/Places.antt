@@ -19,8 +19,8 @@ IsAddress shape (OpWord row i) = (row < count_of shape OpRows) × (i < OP_WORDS)
 IsAddress shape (BucketRowWord row i) = (row < count_of shape BucketRows) × (i < bucket_row_words shape.settings)
 IsAddress shape (DirectoryWord row i) = (row < count_of shape DirRows) × (i < directory_row_words shape.settings)
 
--- the first word of what a seat stores of its own. Such words of two seats lie 128 bytes apart, and as far from the root:
--- words between them say nothing
+-- the first word of what a seat stores of its own. Such words of two seats lie 128 bytes apart, and as far from the
+-- root. Words between them say nothing
 abbrev pub own_words : (seat : ℕ) → ℕ
 own_words seat = APART * (1 + seat)
 

@@ -1,10 +1,10 @@
 //! Where each word of a table lies.
 //!
-//! The words stand in this order: the root, an announcement and a done word for each seat, bucket words, op rows, bucket
-//! rows, directory rows. Seats store announcements and done words often, and all look at them and at the root: so these
-//! lie 128 bytes apart, and no pair of lines of a processor's cache has two of them. Of the bucket words, the bucket rows
-//! and the directory rows the opening has the first, and of all four kinds each seat has a range of its own, in the order
-//! of the seats.
+//! The words stand in this order: the root, an announcement and a done word for each seat, bucket words, op rows,
+//! bucket rows, directory rows. Seats store announcements and done words often, and all look at them and at the root.
+//! So these lie 128 bytes apart, and no pair of lines of a processor's cache has those of two seats. Of the bucket
+//! words, the bucket rows and the directory rows the opening has the first, and of all four kinds each seat has a range
+//! of its own, in the order of the seats.
 
 ghost use Rattle.std.specs.Prelude.{◌≡◌, ◌+◌, ◌*◌, ◌^◌, ◌<◌, ◌↔◌, IsTrue, take};
 ghost use Rattle.word_rows.specs.Places;

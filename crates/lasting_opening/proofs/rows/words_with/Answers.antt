@@ -23,7 +23,8 @@ loop-bucket-preserved c =
 pub loop-row-init : goal.loop-row-init
 loop-row-init c =
     let settings = c.args.settings.now in
-    let all : c.loop-bucket.bucket ≡ buckets_of settings = omega (arith, c.loop-bucket-test.false, c.buckets-bucket-end.ensures.exact) in
+    let all : c.loop-bucket.bucket ≡ buckets_of settings =
+    omega (arith, c.loop-bucket-test.false, c.buckets-bucket-end.ensures.exact) in
     c.loop-bucket.invariant
     ∙ ap (λ (n : ℕ). replicate (head_width settings) 0 ++ map (row_for settings c.args.rows) (range_with_len 0 n)) all
     ∙ no_row (replicate (head_width settings) 0)
