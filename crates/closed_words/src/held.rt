@@ -2,7 +2,7 @@
 //!
 //! The only error of each is want of memory.
 
-ghost use Rattle.std.specs.Prelude.{◌≡◌, ◌<◌, IfOk, map, slice_index};
+ghost use Rattle.std.specs.Prelude.{◌≡◌, ◌<◌, ◌++◌, IfOk, OnOk, map, slice_index};
 ghost use Rattle.step_counts.specs.declared.TheConstants.{ITEM_WORDS};
 ghost use Rattle.word_rows.specs.Blocks.{block};
 ghost use Rattle.word_rows.specs.BucketWords.{item_part};
@@ -70,27 +70,25 @@ pub fn closed_pairs<W: Words>(
     let buckets = closed_buckets(alloc, starts, words)?;
     let mut pairs = Vec::new(alloc);
     for bucket in &buckets {
-        let items = row_items(alloc, starts, words, row_of(starts, words, *bucket))?;
-        pairs.extend_from_slice(&items)?;
+        push_items(starts, words, row_of(starts, words, *bucket), &mut pairs)?;
     }
     Ok(pairs)
 }
 
-/// The items of a bucket row, so many as its count says. Behind the room for items they are zeros.
-pub fn row_items<W: Words>(
-    alloc: Global,
+// Appends the items of a bucket row, so many as its count says. Behind the room for items they are zeros.
+fn push_items<W: Words>(
     starts: &Starts,
     words: &W,
     row: u64,
-) -> Result<Vec<Pair>, AllocError>
-    ensures { IfOk result (λ items. items.items ≡ (bucket_at (shape_of starts.now.layout)
+    pairs: &mut Vec<Pair>,
+) -> Result<(), AllocError>
+    ensures { OnOk result (pairs.new.items ≡ pairs.old.items ++ (bucket_at (shape_of starts.now.layout)
         (W.words words.now) row).items) }
 {
-    let mut items = Vec::new(alloc);
     for i in 0..row_word(starts, words, row, COUNT_PLACE as u64) {
-        items.push(item_at(starts, words, row, i))?;
+        pairs.push(item_at(starts, words, row, i))?;
     }
-    Ok(items)
+    Ok(())
 }
 
 // The item at the i-th place.

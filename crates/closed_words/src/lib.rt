@@ -13,7 +13,7 @@ mod values;
 mod walking;
 mod words;
 
-pub use held::{closed_buckets, closed_leaves, closed_pairs, row_items};
+pub use held::{closed_buckets, closed_leaves, closed_pairs};
 pub use marks::{meet, was_met};
 pub use new_numbers::new_number;
 pub use published::{
