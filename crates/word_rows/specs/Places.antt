@@ -1,11 +1,9 @@
--- Which word of a table is what. All words stand in one list, in the order of the variants of an address, but that what
--- a seat stores of its own stands together.
+-- Which word of a table is what. All words stand in one list, in the order of the variants of an address.
 use Rattle.std.specs.Prelude.{ℕ, ◌+◌, ◌*◌, ◌<◌}
 use Rattle.step_counts.specs.declared.TheConstants.{OP_WORDS}
 use Rattle.step_counts.specs.StepCounts.{bucket_row_words, directory_row_words}
 use Rattle.plain_map.specs.declared.full.FullKind.TheVariants.{OpRows, BucketRows, BucketWords, DirRows}
 use Rattle.word_rows.specs.Shape.{Shape, count_of}
-use Rattle.word_rows.specs.declared.layout.TheConstants.{APART}
 pub use Rattle.word_rows.specs.declared.addresses.Address.{Address}
 pub use Rattle.word_rows.specs.declared.addresses.Address.TheVariants.{Root, Announcement, Done, BucketWord, OpWord, BucketRowWord, DirectoryWord}
 
@@ -19,14 +17,9 @@ IsAddress shape (OpWord row i) = (row < count_of shape OpRows) × (i < OP_WORDS)
 IsAddress shape (BucketRowWord row i) = (row < count_of shape BucketRows) × (i < bucket_row_words shape.settings)
 IsAddress shape (DirectoryWord row i) = (row < count_of shape DirRows) × (i < directory_row_words shape.settings)
 
--- the first word of what a seat stores of its own. Such words of two seats lie 128 bytes apart, and as far from the
--- root. Words between them say nothing
-abbrev pub own_words : (seat : ℕ) → ℕ
-own_words seat = APART * (1 + seat)
-
 -- the first word of each part that follows the root, the announcements and the done words
 abbrev pub bucket_words_start : Shape → ℕ
-bucket_words_start shape = own_words shape.settings.seats
+bucket_words_start shape = 1 + 2 * shape.settings.seats
 
 -- of the op rows
 abbrev pub op_rows_start : Shape → ℕ
@@ -47,8 +40,8 @@ word_count shape = directory_rows_start shape + count_of shape DirRows * directo
 -- the number of the word at an address, from 0
 abbrev pub place : Shape → Address → ℕ
 place shape Root = 0
-place shape (Announcement seat) = own_words seat
-place shape (Done seat) = own_words seat + 1
+place shape (Announcement seat) = 1 + seat
+place shape (Done seat) = 1 + shape.settings.seats + seat
 place shape (BucketWord bucket) = bucket_words_start shape + bucket
 place shape (OpWord row i) = op_rows_start shape + (row * OP_WORDS + i)
 place shape (BucketRowWord row i) = bucket_rows_start shape + (row * bucket_row_words shape.settings + i)

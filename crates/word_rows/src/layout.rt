@@ -1,21 +1,15 @@
 //! Where each word of a table lies.
 //!
-//! The words stand in this order: the root, an announcement and a done word for each seat, bucket words, op rows,
-//! bucket rows, directory rows. Seats store announcements and done words often, and all look at them and at the root.
-//! So these lie 128 bytes apart, and no pair of lines of a processor's cache has those of two seats. Of the bucket
-//! words, the bucket rows and the directory rows the opening has the first, and of all four kinds each seat has a range
-//! of its own, in the order of the seats.
+//! The words stand in this order: the root, an announcement for each seat, a done word for each seat, bucket words,
+//! op rows, bucket rows, directory rows. Of the bucket words, the bucket rows and the directory rows the opening has
+//! the first, and of all four kinds each seat has a range of its own, in the order of the seats.
 
 ghost use Rattle.std.specs.Prelude.{◌≡◌, ◌+◌, ◌*◌, ◌^◌, ◌<◌, ◌↔◌, IsTrue, take};
-ghost use Rattle.word_rows.specs.Places;
 ghost use Rattle.word_rows.specs.Shape.{AreBelow, IsShape, by_kind, count_of, number_after, record_limit};
 
 use crate::Address;
 use plain_map::MOST_SEATS;
 use step_counts::{DIRECTORY_HEAD_WORDS, OP_WORDS, SeatRows, Settings, bucket_row_words};
-
-/// So many words are 128 bytes.
-pub const APART: u64 = 16;
 
 /// The word numbers of one table.
 #[derive(Clone, Copy)]
@@ -126,10 +120,11 @@ impl Layout {
         ensures few { result < 2 ^ 80 }
         ensures within { IsAddress (shape_of self.now) address.now → result < 2 ^ 52 }
     {
+        let seats = u128::from(self.settings.seats);
         match *address {
             Address::Root => 0,
-            Address::Announcement(seat) => u128::from(APART) * (1 + u128::from(seat)),
-            Address::Done(seat) => u128::from(APART) * (1 + u128::from(seat)) + 1,
+            Address::Announcement(seat) => 1 + u128::from(seat),
+            Address::Done(seat) => 1 + seats + u128::from(seat),
             Address::BucketWord(bucket) => {
                 u128::from(self.bucket_words_start()) + u128::from(bucket)
             }
@@ -157,7 +152,7 @@ impl Layout {
         requires { IsAddress (shape_of self.now) (Announcement seat) }
         ensures { result ≡ place (shape_of self.now) (Announcement seat) }
     {
-        own_words(seat)
+        1 + seat as u64
     }
 
     /// The seat's done word, which holds how many calls it has finished.
@@ -165,7 +160,7 @@ impl Layout {
         requires { IsAddress (shape_of self.now) (Done seat) }
         ensures { result ≡ place (shape_of self.now) (Done seat) }
     {
-        own_words(seat) + 1
+        1 + self.settings.seats as u64 + seat as u64
     }
 
     /// The bucket's word, which holds the number of its row in use.
@@ -221,7 +216,7 @@ impl Layout {
     fn bucket_words_start(&self) -> u64
         ensures { result ≡ bucket_words_start (shape_of self.now) }
     {
-        own_words(self.settings.seats)
+        1 + 2 * self.settings.seats as u64
     }
 
     // The first word of the op rows.
@@ -255,14 +250,6 @@ impl Layout {
     {
         DIRECTORY_HEAD_WORDS as u64 + (1u64 << self.settings.depth)
     }
-}
-
-// The first word of what a seat stores of its own.
-fn own_words(seat: u32) -> u64
-    ensures value { result ≡ Places.own_words seat }
-    ensures few { result < 2 ^ 37 }
-{
-    APART * (1 + seat as u64)
 }
 
 // The number of word `i` of a row, where rows of this width begin at `start`.
