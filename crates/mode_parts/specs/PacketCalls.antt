@@ -2,17 +2,17 @@
 use Rattle.std.specs.Prelude.{◌≡◌, ℕ, suc, List, [], ◌∷◌, ◌++◌, Option, Some, None}
 use Rattle.mode_parts.specs.declared.calling.Calling.{Calling}
 use Rattle.packet_heads.specs.declared.packet.Heads.{Heads}
-use Rattle.packet_heads.specs.Heads.{HasHeads}
+use Rattle.packet_heads.specs.Heads.{HasHeads, HasWidths}
 use Rattle.plain_map.specs.declared.calls.Call.{Call}
+use Rattle.plain_map.specs.Serving.{IsAskable}
 use Rattle.flow_keys.specs.Flow.{flow_call}
-use Rattle.report_promises.specs.Good.{IsFitting}
 
--- the packet with this number, so framed and by this rule, makes this call, which can be told, or none where it has no
--- heads
+-- the packet with this number, so framed and by this rule, makes this call, which can be asked, or none where it has no
+-- heads; the numbers of its heads fit their fields
 abbrev pub MakesCall : Calling → ℕ → List ℕ → Option Call → Type 0
 MakesCall calling number packet (Some call) =
     (heads : Heads) × HasHeads calling.framing packet heads × (call ≡ flow_call calling.calls heads number)
-    × IsFitting calling.calls (number, call)
+    × HasWidths heads × IsAskable call
 MakesCall calling number packet None = (heads : Heads) → HasHeads calling.framing packet heads → ⊥
 
 -- the call with its packet's number, where there is one

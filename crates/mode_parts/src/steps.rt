@@ -12,7 +12,6 @@ use crate::calling::Calling;
 use flow_keys::call_of;
 use packet_heads::heads;
 use plain_map::Call;
-use report_promises::call_laws;
 use std::alloc::AllocError;
 
 /// The call of the packet with this number, so framed and by this rule, or `None` where it makes none.
@@ -20,7 +19,6 @@ fn call_in(calling: &Calling, packet: &[u8], number: u32) -> Option<Call>
     ensures made { MakesCall calling.now number packet.now result }
     ensures fits { IfSome result (λ call. IsAskable call × HasText (key_in call) × IsKey (key_in call)) }
 {
-    call_laws();
     match heads(&calling.framing, packet) {
         Some(heads) => {
             let call = call_of(calling.calls, &heads, number);

@@ -75,12 +75,13 @@ few_played link bytes left packets (Limit limit) serves =
 play_certified : GoodIsCertified → (plan : Plan) (bytes : List ℕ) (left : Option (List ℕ)) (ending : Ending)
     (text : List ℕ) → PlayReports plan bytes left ending text → Certified text
 play_certified good plan bytes left ending text (packets, calls, serves, makes, is) =
+    let few : length packets ≤ play_limit =
+    few_played (number_in plan.framing.link) bytes left packets ending serves in
     subst Certified (sym is.text_is)
     (good (play_report plan is.service (length packets) (length calls) is.played ending)
     (order_of (play_setup is.service calls).shape (closing_of (play_in plan is.service calls).world))
-    (play_is_good plan packets calls ending text is makes (few_played (number_in plan.framing.link) bytes left packets
-    ending serves)
-    (calls_fit (calling_of plan) 1 packets calls makes) is.head is.tail))
+    (play_is_good plan packets calls ending text is makes few
+    (calls_fit (calling_of plan) 1 packets calls (omega (arith, few)) makes) is.head is.tail))
 
 -- a report that was put whole leaves what its ending's status says
 LeavesPlay-whole :
