@@ -75,7 +75,8 @@ enum flowdir_status {
                                 * its pairs are not listed */
     FLOWDIR_NO_ROOM = 3,       /* more first pairs of one class than it has room for */
     FLOWDIR_FULL = 4,          /* the rows of the seat are used up, for every further update */
-    FLOWDIR_BUSY = 5           /* sit: no seat is left; close: a seat or a reader is out; both: the table is closed */
+    FLOWDIR_BUSY = 5,          /* sit: no seat is left; close: a seat or a reader is out; both: the table is closed */
+    FLOWDIR_AGAIN = 6          /* a peek at a lasting table was disturbed in each of its tries */
 };
 
 enum flowdir_kind {
@@ -197,6 +198,113 @@ void flowdir_free(struct flowdir_table *table);
 
 /* Gives a seat up without its table: the table can never be closed then. As flowdir_leave. */
 void flowdir_drop(struct flowdir_seat *seat);
+
+/* ---- The table that lasts
+ *
+ * For programs without an end: a load balancer, a firewall, a cache. Its rows are used again, so no update is refused,
+ * and no call answers FLOWDIR_FULL. It begins at its full depth, and never closes: no two threads ever have to meet.
+ * A bucket has each class of keys, items << depth keys at most, and fewer by chance as above. No call takes memory but
+ * open, sit and read, and none gives any back but leave, drop and free, and an open that fails.
+ *
+ * What a caller owes is the same as above. A thread takes a seat; when it gives it back, by flowdir_lasting_rise, the
+ * next sit of any thread can have it. A thread that ends in the middle of a call takes its seat with it: the others go
+ * on, and its rows stay with it. An update takes at most flowdir_lasting_bound(options) atomic steps, wherever the
+ * other threads stand or stop. Steps are not counted here: in each reply their number is 0. A seat makes at most 2^48
+ * updates, and asks at most 2^62 times for a row to be held for it, each call once at most; then it answers FLOWDIR_BAD.
+ */
+
+/* Handles: the address of what they lead to. */
+struct flowdir_lasting { void *at; };
+struct flowdir_lasting_seat { void *at; };
+struct flowdir_lasting_reader { void *at; };
+
+struct flowdir_lasting_options {
+    uint32_t seats;            /* 1 to 8 */
+    uint32_t items;            /* room of a class of keys, 1 to 16 */
+    uint32_t depth;            /* hash bits that tell classes apart, 0 to 12: there are 2^depth buckets */
+    uint64_t seed;             /* of the hash */
+};
+
+/* The most atomic steps of an update, or 0 where the options are out of their ranges. Any number of threads at once. */
+uint64_t flowdir_lasting_bound(const struct flowdir_lasting_options *options);
+
+/* The bytes of the words of such a table, which it keeps until it is given up; 0 where the options are out of their
+ * ranges. An opening takes as many again while it lasts. Each seat has some memory beside them. Any number of threads at
+ * once. */
+uint64_t flowdir_lasting_memory(const struct flowdir_lasting_options *options);
+
+/* Opens a table that holds these pairs. BAD: options, values or bytes out of their ranges, which is told before memory
+ * is asked for, or a key that stands twice; NO_ROOM: more pairs of one class than it has room for; MEMORY. Any number of
+ * threads at once, each with a handle of its own. */
+uint32_t flowdir_lasting_open(const struct flowdir_lasting_options *options, const struct flowdir_pair *first,
+                              size_t count, struct flowdir_lasting *table);
+
+/* Takes a seat that nobody has now. BUSY: none is left; MEMORY. One thread at a time for a table. */
+uint32_t flowdir_lasting_sit(struct flowdir_lasting *table, struct flowdir_lasting_seat *seat);
+
+/* Gives a seat back to the table that it came from; its handle leads to nothing then. BAD: the table has no place for
+ * it, which never comes with a seat that came from it. One thread at a time for a table. */
+uint32_t flowdir_lasting_rise(struct flowdir_lasting *table, struct flowdir_lasting_seat *seat);
+
+/* Gives the key this value, where it has none: NEW, OLD or NOROOM. BAD: a value of 2^61 or more, or updates used up.
+ * Each seat by one thread at a time, all seats and readers at once. */
+uint32_t flowdir_lasting_insert(struct flowdir_lasting_seat *seat, const struct flowdir_key *key, uint64_t value,
+                                struct flowdir_reply *reply);
+
+/* Takes the key out: GONE or ABSENT. BAD: updates used up. As flowdir_lasting_insert. */
+uint32_t flowdir_lasting_remove(struct flowdir_lasting_seat *seat, const struct flowdir_key *key,
+                                struct flowdir_reply *reply);
+
+/* Adds so many bytes to the key's: SUM or ABSENT, as flowdir_tally. BAD: 2^61 bytes or more, or updates used up. As
+ * flowdir_lasting_insert. */
+uint32_t flowdir_lasting_tally(struct flowdir_lasting_seat *seat, const struct flowdir_key *key, uint64_t bytes,
+                               struct flowdir_reply *reply);
+
+/* Counts so many bytes of the key: SUM, NEW or NOROOM, as flowdir_count. BAD: a value or bytes of 2^61 or more, or
+ * updates used up. As flowdir_lasting_insert. */
+uint32_t flowdir_lasting_count(struct flowdir_lasting_seat *seat, const struct flowdir_key *key, uint64_t value,
+                               uint64_t bytes, struct flowdir_reply *reply);
+
+/* Gives the key this value, and lets it keep its bytes: OLD, NEW or NOROOM, as flowdir_put. BAD: a value of 2^61 or
+ * more, or updates used up. As flowdir_lasting_insert. */
+uint32_t flowdir_lasting_put(struct flowdir_lasting_seat *seat, const struct flowdir_key *key, uint64_t value,
+                             struct flowdir_reply *reply);
+
+/* Asks for the key's value: FOUND or ABSENT. BAD: lookups used up. As flowdir_lasting_insert. A seat is never told to
+ * try again. */
+uint32_t flowdir_lasting_lookup(struct flowdir_lasting_seat *seat, const struct flowdir_key *key,
+                                struct flowdir_reply *reply);
+
+/* Copies the pairs of one bucket, in no order, and tells how many there are. There is room for `room` pairs, which is to
+ * be no less than items. The pairs are those that the bucket had at one moment of the call; so where no update is under
+ * way the copies of all buckets are the pairs of the table. BAD: no such bucket (they are numbered from 0 to
+ * 2^depth - 1), too little room, or copies used up. As flowdir_lasting_insert. */
+uint32_t flowdir_lasting_look_at(struct flowdir_lasting_seat *seat, uint64_t bucket, struct flowdir_pair *pairs,
+                                 size_t room, size_t *count);
+
+/* The same of a table at rest, none of whose seats is out, without taking one. BUSY: one is out. One thread at a time
+ * for a table. */
+uint32_t flowdir_lasting_at_rest(struct flowdir_lasting *table, uint64_t bucket, struct flowdir_pair *pairs, size_t room,
+                                 size_t *count);
+
+/* Takes a reader, of which there may be any number. MEMORY. One thread at a time for a table. */
+uint32_t flowdir_lasting_read(struct flowdir_lasting *table, struct flowdir_lasting_reader *reader);
+
+/* Asks for the key's value by loads alone: FOUND or ABSENT, as at one moment of the call. AGAIN: each of so many tries
+ * was disturbed by updates; the call can be made again, or a seat asked, which always has an answer. BAD: no tries. Each
+ * reader by one thread at a time, all seats and readers at once. */
+uint32_t flowdir_lasting_peek(struct flowdir_lasting_reader *reader, const struct flowdir_key *key, uint64_t tries,
+                              struct flowdir_reply *reply);
+
+/* Gives a reader up; its handle leads to nothing then. Any number of threads at once, each with a handle of its own. */
+void flowdir_lasting_leave(struct flowdir_lasting_reader *reader);
+
+/* Gives a seat up without its table: nobody can have it again. As flowdir_lasting_leave. */
+void flowdir_lasting_drop(struct flowdir_lasting_seat *seat);
+
+/* Gives a table up; its handle leads to nothing then. Seats and readers that are out stay usable, and have to be given
+ * up too: a seat by flowdir_lasting_drop. Its memory goes with the last of them. One thread at a time for a table. */
+void flowdir_lasting_free(struct flowdir_lasting *table);
 
 #ifdef __cplusplus
 }

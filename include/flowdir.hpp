@@ -177,6 +177,139 @@ private:
     bool is_closed_ = false;
 };
 
+/* ---- The table that lasts */
+
+using LastingOptions = flowdir_lasting_options;
+
+/* The bytes of the words of such a table, or 0 where the options are out of their ranges. */
+inline uint64_t memory(const LastingOptions &options) { return flowdir_lasting_memory(&options); }
+
+/* The most atomic steps of an update, or 0 where the options are out of their ranges. */
+inline uint64_t bound(const LastingOptions &options) { return flowdir_lasting_bound(&options); }
+
+/* One thread's place at a lasting table. It goes back to its table when it ends, and can be taken again. */
+class LastingSeat {
+public:
+    LastingSeat(LastingSeat &&other) noexcept : table_(other.table_), seat_(std::exchange(other.seat_, {})) {}
+    LastingSeat(const LastingSeat &) = delete;
+    LastingSeat &operator=(const LastingSeat &) = delete;
+    LastingSeat &operator=(LastingSeat &&) = delete;
+    ~LastingSeat() {
+        if (seat_.at) flowdir_lasting_rise(table_, &seat_);
+    }
+
+    flowdir_reply insert(const Key &key, uint64_t value) {
+        flowdir_reply reply;
+        check(flowdir_lasting_insert(&seat_, &key, value, &reply));
+        return reply;
+    }
+
+    flowdir_reply remove(const Key &key) {
+        flowdir_reply reply;
+        check(flowdir_lasting_remove(&seat_, &key, &reply));
+        return reply;
+    }
+
+    /* Adds bytes to the key's, if it is there. */
+    flowdir_reply tally(const Key &key, uint64_t bytes) {
+        flowdir_reply reply;
+        check(flowdir_lasting_tally(&seat_, &key, bytes, &reply));
+        return reply;
+    }
+
+    /* Adds bytes to the key's, or inserts the key with this value and these bytes. */
+    flowdir_reply count(const Key &key, uint64_t value, uint64_t bytes) {
+        flowdir_reply reply;
+        check(flowdir_lasting_count(&seat_, &key, value, bytes, &reply));
+        return reply;
+    }
+
+    /* Gives the key this value, whether it is there or not. */
+    flowdir_reply put(const Key &key, uint64_t value) {
+        flowdir_reply reply;
+        check(flowdir_lasting_put(&seat_, &key, value, &reply));
+        return reply;
+    }
+
+    /* The key's value, if it is there. */
+    std::optional<uint64_t> find(const Key &key) {
+        flowdir_reply reply;
+        check(flowdir_lasting_lookup(&seat_, &key, &reply));
+        return reply.kind == FLOWDIR_FOUND ? std::optional<uint64_t>(reply.value) : std::nullopt;
+    }
+
+    /* The pairs of one bucket, at one moment of the call, in no order. The vector takes memory. */
+    std::vector<Pair> look_at(uint64_t bucket) {
+        std::vector<Pair> pairs(16);
+        std::size_t count = 0;
+        check(flowdir_lasting_look_at(&seat_, bucket, pairs.data(), pairs.size(), &count));
+        pairs.resize(count);
+        return pairs;
+    }
+
+private:
+    friend class LastingTable;
+    explicit LastingSeat(flowdir_lasting *table) : table_(table) { check(flowdir_lasting_sit(table, &seat_)); }
+
+    flowdir_lasting *table_;
+    flowdir_lasting_seat seat_{};
+};
+
+/* One thread's view of a lasting table, by loads alone. */
+class LastingReader {
+public:
+    LastingReader(LastingReader &&other) noexcept : reader_(std::exchange(other.reader_, {})) {}
+    LastingReader(const LastingReader &) = delete;
+    LastingReader &operator=(const LastingReader &) = delete;
+    LastingReader &operator=(LastingReader &&) = delete;
+    ~LastingReader() {
+        if (reader_.at) flowdir_lasting_leave(&reader_);
+    }
+
+    /* The reply of a peek, FOUND or ABSENT, or nothing if each of so many tries was disturbed. */
+    std::optional<flowdir_reply> peek(const Key &key, uint64_t tries) {
+        flowdir_reply reply;
+        uint32_t status = flowdir_lasting_peek(&reader_, &key, tries, &reply);
+        if (status == FLOWDIR_AGAIN) return std::nullopt;
+        check(status);
+        return reply;
+    }
+
+private:
+    friend class LastingTable;
+    explicit LastingReader(flowdir_lasting *table) { check(flowdir_lasting_read(table, &reader_)); }
+
+    flowdir_lasting_reader reader_{};
+};
+
+/* A lasting table. sit, read, the end of a seat and at_rest are for one thread at a time. */
+class LastingTable {
+public:
+    explicit LastingTable(const LastingOptions &options, const std::vector<Pair> &first = {}) {
+        check(flowdir_lasting_open(&options, first.data(), first.size(), &table_));
+    }
+    LastingTable(const LastingTable &) = delete;
+    LastingTable &operator=(const LastingTable &) = delete;
+    ~LastingTable() {
+        if (table_.at) flowdir_lasting_free(&table_);
+    }
+
+    LastingSeat sit() { return LastingSeat(&table_); }
+    LastingReader read() { return LastingReader(&table_); }
+
+    /* The pairs of one bucket, while no seat is out. */
+    std::vector<Pair> at_rest(uint64_t bucket) {
+        std::vector<Pair> pairs(16);
+        std::size_t count = 0;
+        check(flowdir_lasting_at_rest(&table_, bucket, pairs.data(), pairs.size(), &count));
+        pairs.resize(count);
+        return pairs;
+    }
+
+private:
+    flowdir_lasting table_{};
+};
+
 }  // namespace flowdir
 
 #endif

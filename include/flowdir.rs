@@ -77,6 +77,29 @@ extern "C" {
     fn flowdir_pair_at(table: *mut Handle, at: usize, pair: *mut Pair) -> u32;
     fn flowdir_reopen(options: *const Options, closed: *mut Handle, table: *mut Handle) -> u32;
     fn flowdir_free(table: *mut Handle);
+    fn flowdir_lasting_bound(options: *const LastingOptions) -> u64;
+    fn flowdir_lasting_memory(options: *const LastingOptions) -> u64;
+    fn flowdir_lasting_open(o: *const LastingOptions, first: *const Pair, count: usize, table: *mut Handle) -> u32;
+    fn flowdir_lasting_sit(table: *mut Handle, seat: *mut Handle) -> u32;
+    fn flowdir_lasting_rise(table: *mut Handle, seat: *mut Handle) -> u32;
+    fn flowdir_lasting_insert(seat: *mut Handle, key: *const Key, value: u64, reply: *mut RawReply) -> u32;
+    fn flowdir_lasting_remove(seat: *mut Handle, key: *const Key, reply: *mut RawReply) -> u32;
+    fn flowdir_lasting_tally(seat: *mut Handle, key: *const Key, bytes: u64, reply: *mut RawReply) -> u32;
+    fn flowdir_lasting_count(
+        seat: *mut Handle,
+        key: *const Key,
+        value: u64,
+        bytes: u64,
+        reply: *mut RawReply,
+    ) -> u32;
+    fn flowdir_lasting_put(seat: *mut Handle, key: *const Key, value: u64, reply: *mut RawReply) -> u32;
+    fn flowdir_lasting_lookup(seat: *mut Handle, key: *const Key, reply: *mut RawReply) -> u32;
+    fn flowdir_lasting_look_at(seat: *mut Handle, bucket: u64, pairs: *mut Pair, room: usize, count: *mut usize) -> u32;
+    fn flowdir_lasting_at_rest(table: *mut Handle, bucket: u64, pairs: *mut Pair, room: usize, count: *mut usize) -> u32;
+    fn flowdir_lasting_read(table: *mut Handle, reader: *mut Handle) -> u32;
+    fn flowdir_lasting_peek(reader: *mut Handle, key: *const Key, tries: u64, reply: *mut RawReply) -> u32;
+    fn flowdir_lasting_leave(reader: *mut Handle);
+    fn flowdir_lasting_free(table: *mut Handle);
 }
 
 /// Why a call was not made; then nothing happened.
@@ -92,6 +115,8 @@ pub enum Refused {
     Full,
     /// No seat is left.
     Busy,
+    /// Each try of a peek was disturbed.
+    Again,
 }
 
 /// What a call was told.
@@ -114,6 +139,7 @@ fn done(status: u32) -> Result<(), Refused> {
         3 => Err(Refused::NoRoom),
         4 => Err(Refused::Full),
         5 => Err(Refused::Busy),
+        6 => Err(Refused::Again),
         _ => Err(Refused::Bad),
     }
 }
@@ -309,5 +335,152 @@ impl Reader<'_> {
 impl Drop for Reader<'_> {
     fn drop(&mut self) {
         unsafe { flowdir_leave(&mut self.handle) }
+    }
+}
+
+/// What a table that lasts is opened with.
+#[repr(C)]
+#[derive(Clone, Copy, Debug, Default)]
+pub struct LastingOptions {
+    pub seats: u32,
+    pub items: u32,
+    pub depth: u32,
+    pub seed: u64,
+}
+
+impl LastingOptions {
+    /// The bytes of the words of such a table, or 0 where the options are out of their ranges.
+    pub fn memory(&self) -> u64 {
+        unsafe { flowdir_lasting_memory(self) }
+    }
+
+    /// The most atomic steps of an update, or 0 where the options are out of their ranges.
+    pub fn bound(&self) -> u64 {
+        unsafe { flowdir_lasting_bound(self) }
+    }
+}
+
+/// A table that lasts, and where its seats and readers come from.
+pub struct LastingTable {
+    // Seats and readers come and go one at a time.
+    handle: Mutex<Handle>,
+}
+
+impl LastingTable {
+    /// Opens a table that holds these pairs.
+    pub fn open(options: &LastingOptions, first: &[Pair]) -> Result<LastingTable, Refused> {
+        let mut handle = Handle(std::ptr::null_mut());
+        done(unsafe { flowdir_lasting_open(options, first.as_ptr(), first.len(), &mut handle) })?;
+        Ok(LastingTable { handle: Mutex::new(handle) })
+    }
+
+    fn turn(&self) -> MutexGuard<'_, Handle> {
+        self.handle.lock().unwrap_or_else(|poisoned| poisoned.into_inner())
+    }
+
+    /// Takes a seat that nobody has now.
+    pub fn sit(&self) -> Result<LastingSeat<'_>, Refused> {
+        let mut handle = Handle(std::ptr::null_mut());
+        done(unsafe { flowdir_lasting_sit(&mut *self.turn(), &mut handle) })?;
+        Ok(LastingSeat { handle, table: self })
+    }
+
+    /// A new reader.
+    pub fn read(&self) -> Result<LastingReader<'_>, Refused> {
+        let mut handle = Handle(std::ptr::null_mut());
+        done(unsafe { flowdir_lasting_read(&mut *self.turn(), &mut handle) })?;
+        Ok(LastingReader { handle, table: PhantomData })
+    }
+
+    /// The pairs of one bucket, while no seat is out. The vector takes memory.
+    pub fn at_rest(&self, bucket: u64) -> Result<Vec<Pair>, Refused> {
+        let (mut pairs, mut count) = (vec![Pair::default(); 16], 0);
+        let handle = &mut *self.turn();
+        done(unsafe { flowdir_lasting_at_rest(handle, bucket, pairs.as_mut_ptr(), pairs.len(), &mut count) })?;
+        pairs.truncate(count);
+        Ok(pairs)
+    }
+}
+
+impl Drop for LastingTable {
+    fn drop(&mut self) {
+        unsafe { flowdir_lasting_free(&mut *self.turn()) }
+    }
+}
+
+/// One thread's place at a lasting table. It goes back to its table when it ends, and can be taken again.
+pub struct LastingSeat<'t> {
+    handle: Handle,
+    table: &'t LastingTable,
+}
+
+impl LastingSeat<'_> {
+    pub fn insert(&mut self, key: &Key, value: u64) -> Result<Reply, Refused> {
+        let mut reply = RawReply::default();
+        told(unsafe { flowdir_lasting_insert(&mut self.handle, key, value, &mut reply) }, reply)
+    }
+
+    pub fn remove(&mut self, key: &Key) -> Result<Reply, Refused> {
+        let mut reply = RawReply::default();
+        told(unsafe { flowdir_lasting_remove(&mut self.handle, key, &mut reply) }, reply)
+    }
+
+    /// Adds bytes to the key's, where it is there.
+    pub fn tally(&mut self, key: &Key, bytes: u64) -> Result<Reply, Refused> {
+        let mut reply = RawReply::default();
+        told(unsafe { flowdir_lasting_tally(&mut self.handle, key, bytes, &mut reply) }, reply)
+    }
+
+    /// Adds bytes to the key's, or inserts the key with this value and these bytes.
+    pub fn count(&mut self, key: &Key, value: u64, bytes: u64) -> Result<Reply, Refused> {
+        let mut reply = RawReply::default();
+        told(unsafe { flowdir_lasting_count(&mut self.handle, key, value, bytes, &mut reply) }, reply)
+    }
+
+    /// Gives the key this value, whether it is there or not.
+    pub fn put(&mut self, key: &Key, value: u64) -> Result<Reply, Refused> {
+        let mut reply = RawReply::default();
+        told(unsafe { flowdir_lasting_put(&mut self.handle, key, value, &mut reply) }, reply)
+    }
+
+    pub fn lookup(&mut self, key: &Key) -> Result<Reply, Refused> {
+        let mut reply = RawReply::default();
+        told(unsafe { flowdir_lasting_lookup(&mut self.handle, key, &mut reply) }, reply)
+    }
+
+    /// The pairs of one bucket, at one moment of the call, in no order. The vector takes memory.
+    pub fn look_at(&mut self, bucket: u64) -> Result<Vec<Pair>, Refused> {
+        let (mut pairs, mut count) = (vec![Pair::default(); 16], 0);
+        let handle = &mut self.handle;
+        done(unsafe { flowdir_lasting_look_at(handle, bucket, pairs.as_mut_ptr(), pairs.len(), &mut count) })?;
+        pairs.truncate(count);
+        Ok(pairs)
+    }
+}
+
+impl Drop for LastingSeat<'_> {
+    fn drop(&mut self) {
+        // a seat's own table has a place for it
+        let _ = unsafe { flowdir_lasting_rise(&mut *self.table.turn(), &mut self.handle) };
+    }
+}
+
+/// One thread's view of a lasting table, by loads alone.
+pub struct LastingReader<'t> {
+    handle: Handle,
+    table: PhantomData<&'t LastingTable>,
+}
+
+impl LastingReader<'_> {
+    /// `Found` or `Absent`, or `Refused::Again` if each of so many tries was disturbed.
+    pub fn peek(&mut self, key: &Key, tries: u64) -> Result<Reply, Refused> {
+        let mut reply = RawReply::default();
+        told(unsafe { flowdir_lasting_peek(&mut self.handle, key, tries, &mut reply) }, reply)
+    }
+}
+
+impl Drop for LastingReader<'_> {
+    fn drop(&mut self) {
+        unsafe { flowdir_lasting_leave(&mut self.handle) }
     }
 }

@@ -1,4 +1,4 @@
-// Calls of one table by 1 to 4 threads, in one process: flowdir by lookups and by peeks, liburcu's cds_lfht,
+// Calls of one table by 1 to 4 threads, in one process: flowdir by lookups and by peeks, its table that lasts, liburcu's cds_lfht,
 // std::unordered_map under one mutex and under 64 (by the hash), and tbb::concurrent_hash_map.
 //
 //   bench speed   [turns]  ns a call of each mix and number of threads, least of the turns
@@ -127,6 +127,44 @@ struct Peeks : Flowdir {
     bool lookup(int i, Key k) {
         flowdir_reply r;
         flowdir_peek(&readers[i], (const flowdir_key *)&k, &r);
+        return r.kind == FLOWDIR_FOUND;
+    }
+};
+
+/* The table that lasts: a thread makes all calls by its seat. */
+struct Lasting {
+    static constexpr const char *name = "flowdir, lasting";
+    flowdir_lasting t;
+    flowdir_lasting_seat seats[8];
+    int count;
+    Lasting(const Plan &p) : count(p.threads) {
+        flowdir_lasting_options o = {};
+        o.seats = p.threads, o.items = p.items, o.depth = p.depth, o.seed = 1;
+        t.at = nullptr;
+        for (auto &s : seats) s.at = nullptr;
+        if (flowdir_lasting_open(&o, nullptr, 0, &t)) abort();
+        for (int i = 0; i < count; i++)
+            if (flowdir_lasting_sit(&t, &seats[i])) abort();
+    }
+    ~Lasting() {
+        for (int i = 0; i < count; i++) flowdir_lasting_drop(&seats[i]);
+        flowdir_lasting_free(&t);
+    }
+    void enter(int) {}
+    void leave() {}
+    bool insert(int i, Key k, uint64_t v) {
+        flowdir_reply r;
+        if (flowdir_lasting_insert(&seats[i], (const flowdir_key *)&k, v, &r)) abort();
+        return r.kind == FLOWDIR_NEW;
+    }
+    bool remove(int i, Key k) {
+        flowdir_reply r;
+        if (flowdir_lasting_remove(&seats[i], (const flowdir_key *)&k, &r)) abort();
+        return r.kind == FLOWDIR_GONE;
+    }
+    bool lookup(int i, Key k) {
+        flowdir_reply r;
+        if (flowdir_lasting_lookup(&seats[i], (const flowdir_key *)&k, &r)) abort();
         return r.kind == FLOWDIR_FOUND;
     }
 };
@@ -478,6 +516,7 @@ int main(int argc, char **argv) {
 #define PART(T) if (only.empty() || only == T::name) part<T>(what, arg)
     PART(Flowdir);
     PART(Peeks);
+    PART(Lasting);
     PART(Lfht);
     PART(Locked<1>);
     PART(Locked<64>);

@@ -4,11 +4,38 @@
 #include <cstdio>
 #include <thread>
 
+/* The same on a table that lasts, whose seats are taken again and again. */
+static bool lasts() {
+    flowdir::LastingOptions options{4, 16, 4, 7};
+    flowdir::LastingTable table(options, {{{1, 2, 3, 4, 5}, 6, 0}});
+    bool wrong = flowdir::memory(options) == 0 || flowdir::bound(options) == 0;
+    for (int turn = 0; turn < 3; turn++) {
+        std::vector<flowdir::LastingSeat> seats;
+        for (int i = 0; i < 4; i++) seats.push_back(table.sit());
+        flowdir::LastingReader reader = table.read();
+        std::vector<std::thread> threads;
+        for (uint64_t i = 0; i < 4; i++)
+            threads.emplace_back([seat = &seats[i], i] {
+                for (uint64_t n = 0; n < 1000; n++) seat->count({9, i, 0, 0, 0}, i, n);
+            });
+        for (int i = 0; i < 1000; i++) {
+            auto reply = reader.peek({1, 2, 3, 4, 5}, 4);
+            wrong |= reply && reply->value != 6u;
+        }
+        for (auto &thread : threads) thread.join();
+        wrong |= seats[3].find({9, 2, 0, 0, 0}) != 2u || seats[0].put({1, 2, 3, 4, 5}, 6).kind != FLOWDIR_OLD;
+    }
+    uint64_t pairs = 0, bytes = 0;
+    for (uint64_t bucket = 0; bucket < 16; bucket++)
+        for (auto &pair : table.at_rest(bucket)) pairs++, bytes += pair.bytes;
+    return wrong || pairs != 5 || bytes != 3 * 4 * 499500;
+}
+
 int main() {
     flowdir::Options options{4, 8, 10, 0, 7, {}};
     options = flowdir::with_rows(options, 1000);
     flowdir::Table table(options, {{{1, 2, 3, 4, 5}, 6, 0}});
-    bool wrong = false;
+    bool wrong = lasts();
     {
         std::vector<flowdir::Seat> seats;
         for (int i = 0; i < 4; i++) seats.push_back(table.sit());

@@ -4,10 +4,44 @@
 #[allow(dead_code)]
 mod flowdir;
 
-use flowdir::{Key, Options, Pair, Refused, Reply, Table};
+use flowdir::{Key, LastingOptions, LastingTable, Options, Pair, Refused, Reply, Table};
 use std::thread;
 
+/// The same on a table that lasts, whose seats are taken again and again.
+fn lasts() -> Result<(), Refused> {
+    let options = LastingOptions { seats: 4, items: 16, depth: 4, seed: 7 };
+    let first = Pair { key: Key([1, 2, 3, 4, 5]), value: 6, bytes: 0 };
+    let table = LastingTable::open(&options, &[first])?;
+    for _ in 0..3 {
+        thread::scope(|scope| {
+            for i in 0..4 {
+                let mut seat = table.sit()?;
+                scope.spawn(move || {
+                    for n in 0..1000 {
+                        assert!(seat.count(&Key([9, i, 0, 0, 0]), i, n).is_ok());
+                    }
+                    assert_eq!(seat.put(&first.key, 6), Ok(Reply::Old(6)));
+                });
+            }
+            let mut reader = table.read()?;
+            for _ in 0..1000 {
+                assert!(matches!(reader.peek(&first.key, 4), Ok(Reply::Found(6)) | Err(Refused::Again)));
+            }
+            Ok::<(), Refused>(())
+        })?;
+    }
+    let mut pairs = Vec::new();
+    for bucket in 0..16 {
+        pairs.extend(table.at_rest(bucket)?);
+    }
+    assert_eq!((pairs.len(), pairs.iter().map(|pair| pair.bytes).sum()), (5, 3 * 4 * 499_500));
+    assert_eq!(table.sit()?.look_at(16), Err(Refused::Bad));
+    assert_eq!(LastingOptions { depth: 13, ..options }.memory(), 0);
+    Ok(())
+}
+
 fn main() -> Result<(), Refused> {
+    lasts()?;
     let options = Options { seats: 4, items: 8, depth: 10, seed: 7, ..Options::default() };
     let options = options.with_rows_for(1000)?;
     let first = Pair { key: Key([1, 2, 3, 4, 5]), value: 6, bytes: 0 };

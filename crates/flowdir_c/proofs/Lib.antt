@@ -1,7 +1,11 @@
 pub mod SeatHandleValues
 pub mod ReaderHandleValues
 pub mod TableHandleValues
+pub mod LastingSeatHandleValues
+pub mod LastingReaderHandleValues
+pub mod LastingHandleValues
 pub mod Apart
 pub mod FitLemmas
 pub mod Values
 pub mod ShelfLemmas
+pub mod LastingLemmas

@@ -8,3 +8,8 @@ pub mod Memory
 pub mod Shelves
 pub mod Insides
 pub mod Exports
+pub mod LastingAsked
+pub mod LastingTold
+pub mod LastingShelves
+pub mod LastingInsides
+pub mod LastingExports

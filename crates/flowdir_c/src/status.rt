@@ -17,3 +17,6 @@ pub(crate) const FULL: u32 = 4;
 
 /// No seat is left, or a seat or a reader is out; nothing happened.
 pub(crate) const BUSY: u32 = 5;
+
+/// Each try of a peek was disturbed.
+pub(crate) const AGAIN: u32 = 6;

@@ -44,7 +44,7 @@ use std::mem;
 use step_counts::{automatic_rows, bound};
 
 /// The status of an opening that failed.
-fn status_of(failed: NotOpened) -> u32
+pub(crate) fn status_of(failed: NotOpened) -> u32
     ensures failed { result ≢ 0 }
     ensures known { result ≤ 3 }
     ensures bad { (result ≡ 2) ↔ (failed ≡ Bad) }
@@ -58,7 +58,7 @@ fn status_of(failed: NotOpened) -> u32
 }
 
 /// The status of a seat that was not taken.
-fn sit_status(failed: NotTaken) -> u32
+pub(crate) fn sit_status(failed: NotTaken) -> u32
     ensures { (failed ≡ Memory → result ≡ 1) × (failed ≡ Busy → result ≡ 5) }
 {
     match failed {

@@ -13,3 +13,11 @@ mod HandLemmas
 mod TryLemmas
 mod ChangeLemmas
 mod UpdateLemmas
+mod SweepLemmas
+mod GiveLemmas
+mod SeatLemmas
+mod HomeLemmas
+mod BeginLemmas
+mod FreeLemmas
+mod MakeLemmas
+mod OpeningLemmas

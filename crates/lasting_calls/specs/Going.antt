@@ -1,5 +1,5 @@
 -- A seat or a reader, and where each step leads it: the steps of `lasting_model`, without their number.
-use Rattle.std.specs.Prelude.{◌≡◌, ℕ, ◌+◌, ◌-◌, ◌<◌, ◌≤◌, Bool, true, false, if◌then◌else◌, List, length, fold, Option, Some, None}
+use Rattle.std.specs.Prelude.{◌≡◌, ℕ, ◌+◌, ◌-◌, ◌*◌, ◌<◌, ◌≤◌, Bool, true, false, if◌then◌else◌, List, length, fold, Option, Some, None}
 use Rattle.plain_map.specs.declared.calls.Call.{Call}
 use Rattle.bucket_states.specs.Laws.{IsGood}
 use Rattle.bucket_states.specs.Values.{IsSmall}
@@ -157,6 +157,10 @@ Finds g (Glances aim glance) word = Unit {0}
 pub record Fits (g : Going) (word : ℕ) : Type 0 where
   pub open_ : IsOpen (goes g word).now.stand
   pub finds : Finds g g.now.stand word
+
+-- what is counted of a seat is small
+abbrev pub IsCounted : SeatNow → Type 0
+IsCounted now = (row : ℕ) → 3 * now.generation row ≤ now.answered + 2
 
 -- ---- words one after the other
 

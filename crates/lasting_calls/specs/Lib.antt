@@ -4,3 +4,5 @@ pub mod Desks
 pub mod Items
 pub mod Updates
 pub mod Writes
+pub mod Seats
+pub mod Sweeps

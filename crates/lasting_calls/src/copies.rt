@@ -2,7 +2,8 @@
 
 ghost use Rattle.std.specs.Prelude.{◌≡◌, ◌+◌, ◌<◌, ◌≤◌, ◌^◌, IfSome, IfNone, None, MatchOption, take, true, false, length};
 ghost use Rattle.lasting_model.specs.Steps.{GlanceWant, GlanceWord, Glances, Idle, OfBucket};
-ghost use Rattle.lasting_model.specs.Goes.{Again, Pairs, Shows, glance_lost};
+ghost use Rattle.lasting_model.specs.Goes.{Again, Copied, Pairs, Shows, glance_lost};
+ghost use Rattle.lasting_model.specs.Worlds.{LOOK_TRIES};
 ghost use Rattle.lasting_calls.specs.Desks.{IsOf};
 ghost use Rattle.lasting_calls.specs.Items.{asked_again, ended, looking};
 
@@ -85,6 +86,7 @@ pub fn copy<S: Steps>(
     requires late { time.old < 2 ^ 62 }
     requires bucket { bucket < 2 ^ desk.now.settings.depth }
     requires room { desk.now.settings.items ≤ length out.old }
+    requires may { S.may steps.old (Copied bucket) LOOK_TRIES }
     ensures told { S.now steps.new ≡ ended (S.now steps.old) time.new (Pairs (take result out.new)) }
     ensures few { result ≤ length out.new }
 {
@@ -116,6 +118,7 @@ pub fn look_at<S: Steps>(
     requires tries { 1 ≤ tries }
     requires bucket { bucket < 2 ^ desk.now.settings.depth }
     requires room { desk.now.settings.items ≤ length out.old }
+    requires may { S.may steps.old (Copied bucket) tries }
     ensures told { MatchOption result
         (S.now steps.new ≡ ended (S.now steps.old) (S.now steps.old).now.time Again)
         (λ count. (count ≤ length out.new)

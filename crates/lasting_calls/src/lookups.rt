@@ -5,7 +5,9 @@ ghost use Rattle.std.specs.Option.{option_map_or};
 ghost use Rattle.plain_map.specs.PlainObject.{class_of};
 ghost use Rattle.plain_map.specs.declared.calls.Reply.TheVariants.{Absent, Found};
 ghost use Rattle.lasting_model.specs.Steps.{GlanceWant, GlanceWord, Glances, Idle, OfKey};
-ghost use Rattle.lasting_model.specs.Goes.{Again, Replied};
+ghost use Rattle.plain_map.specs.declared.calls.Call.TheVariants.{Lookup};
+ghost use Rattle.lasting_model.specs.Goes.{Again, Called, Replied};
+ghost use Rattle.lasting_model.specs.Worlds.{LOOK_TRIES};
 ghost use Rattle.lasting_calls.specs.Desks.{IsOf};
 ghost use Rattle.lasting_calls.specs.Items.{HasShown, HasTried, asked_again, ended};
 
@@ -94,6 +96,7 @@ pub fn lookup<S: Steps>(steps: &mut S, desk: &Desk, time: &mut u64, key: &Key) -
     requires desk { IsOf (S.now steps.old) desk.now }
     requires time { time.old ≡ (S.now steps.old).now.time }
     requires few { time.old < 2 ^ 62 }
+    requires may { S.may steps.old (Called (Lookup key.now)) LOOK_TRIES }
     ensures told { S.now steps.new ≡ ended (S.now steps.old) time.new (Replied result) }
 {
     steps.begin_look(key, LOOK_TRIES);
@@ -117,6 +120,7 @@ pub fn peek<S: Steps>(steps: &mut S, desk: &Desk, tries: u64, key: &Key) -> Opti
     requires reader { (S.now steps.old).holds ≡ false }
     requires desk { IsOf (S.now steps.old) desk.now }
     requires tries { 1 ≤ tries }
+    requires may { S.may steps.old (Called (Lookup key.now)) tries }
     ensures told { MatchOption result
         (S.now steps.new ≡ ended (S.now steps.old) (S.now steps.old).now.time Again)
         (λ reply. S.now steps.new ≡ ended (S.now steps.old) (S.now steps.old).now.time (Replied reply)) }

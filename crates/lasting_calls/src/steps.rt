@@ -2,9 +2,11 @@
 
 ghost use Rattle.std.specs.Prelude.{◌≡◌, ℕ, ◌<◌, ◌≤◌, true};
 ghost use Rattle.lasting_model.specs.Plans.{buckets_of};
+ghost use Rattle.plain_map.specs.declared.calls.Call.TheVariants.{Lookup};
 ghost use Rattle.lasting_model.specs.Steps.{Idle, OfBucket, OfKey};
+ghost use Rattle.lasting_model.specs.Goes.{Asked, Called, Copied};
 ghost use Rattle.lasting_model.specs.Worlds.{CanBegin};
-ghost use Rattle.lasting_calls.specs.Going.{Going, Fits, HasTries, IsOn, begun_look, begun_update, deed, goes, task};
+ghost use Rattle.lasting_calls.specs.Going.{Going, Fits, HasTries, IsCounted, IsOn, begun_look, begun_update, deed, goes, task};
 ghost use Rattle.lasting_calls.specs.Going.Task.{Exchange, Load, Store};
 
 use plain_map::{Call, Key};
@@ -14,17 +16,22 @@ pub trait Steps {
     // Where the caller stands.
     ghost now: { Self → Going };
 
+    // What it was made for: a call, and with how many tries, none where it is an update.
+    ghost may: { Self → Asked → ℕ → Type 0 };
+
     /// An update begins, which takes no step.
     fn begin(&mut self, call: &Call)
         requires idle { (now self.old).now.stand ≡ Idle }
         requires seat { (now self.old).holds ≡ true }
         requires can { CanBegin (now self.old).now call.now }
+        requires may { may self.old (Called call.now) 0 }
         ensures { now self.new ≡ begun_update (now self.old) call.now };
 
     /// A look at a key begins, with so many tries.
     fn begin_look(&mut self, key: &Key, tries: u64)
         requires idle { (now self.old).now.stand ≡ Idle }
         requires tries { HasTries (now self.old).holds tries }
+        requires may { may self.old (Called (Lookup key.now)) tries }
         ensures { now self.new ≡ begun_look (now self.old) (OfKey key.now) tries };
 
     /// A copy of a bucket begins.
@@ -32,12 +39,19 @@ pub trait Steps {
         requires idle { (now self.old).now.stand ≡ Idle }
         requires tries { HasTries (now self.old).holds tries }
         requires bucket { bucket < buckets_of (now self.old).plan.settings }
+        requires may { may self.old (Copied bucket) tries }
         ensures { now self.new ≡ begun_look (now self.old) (OfBucket bucket) tries };
 
     /// What is asked for next is on a word of the table. The call does nothing: it tells this to the proof of the lines
     /// that follow.
     fn stands(&self)
         ensures { IsOn (now self.now).plan (deed (now self.now)) };
+
+    /// No row of the seat was published too often. The call does nothing: it tells this to the proof of the lines that
+    /// follow.
+    fn counts(&self)
+        requires seat { (now self.now).holds ≡ true }
+        ensures { IsCounted (now self.now).now };
 
     /// Loads this word.
     fn load(&mut self, at: u64) -> u64

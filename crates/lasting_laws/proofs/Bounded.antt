@@ -13,7 +13,7 @@ use Rattle.lasting_model.specs.Laws.{IsWithin, call_bound, StepsAreBounded}
 use Rattle.lasting_model.specs.Steps as S
 use Rattle.lasting_model.specs.Steps.{Step, Stand, Sweep, SeatNow, ReaderNow, Peeking, Update, Try, Course, Aim, OfKey, OfBucket, Glance, deed_of, glance_deed, sweep_deed, made, bucket_of_update}
 use Rattle.lasting_model.specs.Goes.{SweepFate, SweepsOn, Swept, sweep_fate_of, swept, sweep_begins, Fate, On, Ends, Refuses, with_free, first_fate, piece_fate, reply_by, lost, fate, with_published, GlanceFate, Looks, Shows, Disturbed, glance_fate, Asked, Called, Told, Replied, Again, Refused, asked_by_aim, told_by_items}
-use Rattle.lasting_model.specs.Worlds.{Lasting, Answer, Asker, BySeat, ByReader, Event, OfSeat, OfReader, IsEvent, AreEvents, What, Begin, Copy, Step_on, Peek, Open, Peek_on, LOOK_TRIES, seat_in, with_seat, ticked, found_by, store_after, seat_after, answers_after, with_answer, stepped, goes, glances, look_after, look_answers, peek_answers, stand_at, next_update, course_from, update_begins, look_begins, call_begins, goes_on, act, peeks_on, peek_acts, happens, nobody, opening_world, IsFlying, Fits, IsPeeking, PeekFits}
+use Rattle.lasting_model.specs.Worlds.{Lasting, Answer, Asker, BySeat, ByReader, Event, OfSeat, OfReader, IsEvent, AreEvents, What, Begin, Copy, Step_on, Peek, Open, Peek_on, LOOK_TRIES, seat_in, with_seat, ticked, found_by, store_after, seat_after, answers_after, with_answer, stepped, goes, glances, look_after, look_answers, peek_answers, stand_at, next_update, course_from, update_begins, look_begins, call_begins, goes_on, act, peeks_on, peek_acts, happens, nobody, opening_world, IsFlying, Fits, IsPeeking, PeekFits, IsRun, world_after}
 use Rattle.lasting_laws.proofs.Pools.{Pools, Room, word_in}
 use Rattle.lasting_laws.proofs.PoolSteps.{IsOther}
 use Rattle.lasting_laws.proofs.PoolEvents.{pools_keep}
@@ -70,6 +70,23 @@ module _ (plan : Plan) where
     pub seats : (p : ℕ) (inside : p < plan.settings.seats) →
         OnTime p inside (seat_in x p).sweep (seat_in x p).stand (seat_in x p).course.steps
     pub within : All (IsWithin plan.settings) x.answers
+
+  -- how far a seat has come
+  abbrev pub HasCome : (p : ℕ) → p < plan.settings.seats → Stand → Type 0
+  HasCome p inside S.Idle = Unit {0}
+  HasCome p inside (S.Goes u step) = Fine plan p inside step
+  HasCome p inside (S.Glances aim glance) = FineLook plan p inside glance
+
+  come_by : (p : ℕ) (inside : p < plan.settings.seats) (sweep : Option Sweep) (stand : Stand) (steps : ℕ) →
+      OnTime p inside sweep stand steps → HasCome p inside stand
+  come_by p inside sweep S.Idle steps k = tt
+  come_by p inside sweep (S.Goes u step) steps k = k.1
+  come_by p inside sweep (S.Glances aim glance) steps k = k.0
+
+  pub has_come : (x : Lasting) → Bounded x → (p : ℕ) (inside : p < plan.settings.seats) →
+      HasCome p inside (seat_in x p).stand
+  has_come x h p inside =
+      come_by p inside (seat_in x p).sweep (seat_in x p).stand (seat_in x p).course.steps (h.seats p inside)
 
   -- one answer more, within its bound
   one_within : (x : Lasting) (by : Asker) (asked : Asked) (told : Told) (course : Course) →
@@ -480,7 +497,11 @@ module _ (plan : Plan) where
   bounds_follow is (event ∷ events) x h follow =
       bounds_follow is events (happens plan x event) (bounds_keep is x h event follow.0) follow.1
 
+-- so it is in each run
+pub bounds_hold : (plan : Plan) (events : List Event) → IsRun plan events → Bounded plan (world_after plan events)
+bounds_hold plan events run =
+    bounds_follow plan run.opened events (opening_world plan) (bounds_open plan run.opened) run.follow
+
 -- THE RESULT
 pub steps_are_bounded : StepsAreBounded
-steps_are_bounded plan events run =
-    (bounds_follow plan run.opened events (opening_world plan) (bounds_open plan run.opened) run.follow).within
+steps_are_bounded plan events run = (bounds_hold plan events run).within

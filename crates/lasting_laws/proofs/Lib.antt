@@ -55,6 +55,8 @@ pub mod Ordered
 pub mod Counts
 pub mod Spelled
 pub mod Words
+pub mod Near
+pub mod StepsFit
 pub mod FixedDepth
 pub mod FixedRuns
 pub mod OpeningLeaves

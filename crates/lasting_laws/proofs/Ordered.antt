@@ -437,6 +437,10 @@ module _ (plan : Plan) (events : List L.Event) (run : L.IsRun plan events) where
 pub updates_are_ordered : UpdatesAreOrdered
 updates_are_ordered plan events run = record { ghost = ghost plan events run; is = ghost_is plan events run }
 
+-- each run shows its ghost
+pub shown_at : (plan : Plan) (events : List L.Event) → L.IsRun plan events → IsShown plan (L.world_after plan events)
+shown_at plan events run = (whole_run plan events run).last
+
 -- ---- no seat is stuck
 
 goes_on_of : (plan : Plan) (v : View) (q : ℕ) (stand : S.Stand) → Seated plan v q stand → GoesOn stand

@@ -1,6 +1,7 @@
 //! What holds in every run of a lasting table, and what of the core it rests on.
 
 ghost use Rattle.lasting_laws.specs.Facts.{EndedAreApplied, FixedDepthNeverFreezes, NumbersHaveOneReply};
+ghost use Rattle.lasting_laws.specs.Fits.{PeeksAreOnTable, RowsAreOfBuckets, StepsAreOnTable};
 ghost use Rattle.lasting_laws.specs.Promises.{UpdatesAreOrdered};
 ghost use Rattle.lasting_model.specs.Laws.{
   AllCountsAreSmall,
@@ -59,4 +60,12 @@ pub fn ordered_laws()
 /// seat has asked at most once in each event. So a bucket word has no more than 55 bits.
 pub fn count_laws()
     ensures small { AllCountsAreSmall }
+{}
+
+/// In every run of a lasting table each step of a seat is on a word of the table, and each step of a reader loads
+/// one. A row whose generation is the same after all its words were loaded is one of its bucket.
+pub fn word_laws()
+    ensures on_table { StepsAreOnTable }
+    ensures peeks_on_table { PeeksAreOnTable }
+    ensures rows { RowsAreOfBuckets }
 {}

@@ -3,4 +3,6 @@
 
 mod laws;
 
-pub use laws::{count_laws, hold_laws, ordered_laws, peek_laws, pool_laws, shown_facts, step_laws};
+pub use laws::{
+    count_laws, hold_laws, ordered_laws, peek_laws, pool_laws, shown_facts, step_laws, word_laws,
+};

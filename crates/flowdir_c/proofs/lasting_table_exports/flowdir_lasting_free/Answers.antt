@@ -1,0 +1,6 @@
+use Rattle.std.proofs.Common.{ap, ◌∙◌}
+use Rattle.flowdir_c.proofs.lasting_table_exports.flowdir_lasting_free.Goals as goal
+
+-- the handle that was there is the one that is taken out
+pub into_loose-requires : goal.into_loose-requires
+into_loose-requires c = (c.requires.0, ap (λ h. h.holders) c.replace.ensures.value ∙ c.requires.1)

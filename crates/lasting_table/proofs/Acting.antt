@@ -1,0 +1,331 @@
+-- One event of a party in a run: it may come, it leads to where the calls lead, and it takes its word of the table.
+use Rattle.std.proofs.Common.{◌≡◌, ℕ, ◌-◌, ◌<◌, ◌≤◌, List, [], ◌∷◌, length, refl, sym, ap, ◌∙◌, subst, arith, get_or-set_same}
+use Rattle.word_rows.proofs.MemoryLemmas.{put_same}
+use Rattle.plain_map.specs.declared.calls.Call.{Call}
+use Rattle.plain_map.specs.declared.calls.Call.TheVariants.{Insert, Remove, Lookup, Tally, Count, Put}
+use Rattle.lasting_model.specs.Plans.{Plan, ample}
+use Rattle.lasting_model.specs.Words as W
+use Rattle.lasting_model.specs.Steps as S
+use Rattle.lasting_model.specs.Steps.{Step, Stand, SeatNow, Update, Aim, OfKey, OfBucket, Glance, Course, Peeking, ReaderNow, Deed, deed_of, glance_deed}
+use Rattle.lasting_model.specs.Goes.{Fate, On, Ends, Refuses, fate, own_after, first_fate, sweep_begins, GlanceFate, Looks, Shows, Disturbed, glance_fate, Asked, Called, Copied, asked_by_aim}
+use Rattle.lasting_model.specs.Worlds.{Lasting, Answer, Asker, BySeat, ByReader, Event, OfSeat, OfReader, Begin, Copy, Step_on, Open, Peek_on, IsEvent, CanBegin, IsPeeking, IsRun, IsFlying, LOOK_TRIES, answers_after, call_begins, course_from, found_by, goes_on, happens, look_after, look_answers, look_begins, next_update, nobody, peek_acts, peek_after, peek_answers, peeks, peeks_on, seat_after, seat_in, stand_at, stepped, store_after, ticked, update_begins, with_reader, with_seat, world_after}
+use Rattle.lasting_laws.specs.Fits.{IsLoadThere, IsOnTable, next_deed}
+use Rattle.lasting_laws.proofs.Pools.{Pools}
+use Rattle.lasting_laws.proofs.PoolsOpen.{pools_hold}
+use Rattle.lasting_laws.proofs.Near.{IsTrying, NearPeeking, nearly_hold}
+use Rattle.lasting_laws.proofs.StepsFit.{peeks_are_on_table, steps_are_on_table}
+use Rattle.lasting_calls.specs.Going.{IsOn, begun_look, begun_update, deed, deed_at, goes as goes_by_word, goes_at}
+use Rattle.lasting_table.specs.Parties.{CanAsk, IsParty, Under, UnderIn, as_seat, begin_of, begun, by_event, clean, going_in, party, stand_of, step_of}
+use Rattle.lasting_table.proofs.Events.{look_begun, own_course, deed_clean, peek_begun, peek_goes, seat_happens, step_goes, step_store, update_begun}
+
+-- a load leaves all words as they are
+pub load_same : (plan : Plan) (d : Deed) (s : W.Store) → IsLoadThere plan d → store_after d s ≡ s
+load_same plan S.Nothing s k = absurd k
+load_same plan (S.Load from) s k = refl
+load_same plan (S.Store to word) s k = absurd k
+load_same plan (S.Swap at old new) s k = absurd k
+
+-- and is on the table
+load_on : (plan : Plan) (d : Deed) → IsLoadThere plan d → IsOn plan d
+load_on plan S.Nothing k = absurd k
+load_on plan (S.Load from) k = k
+load_on plan (S.Store to word) k = absurd k
+load_on plan (S.Swap at old new) k = absurd k
+
+table_on : (plan : Plan) (d : Deed) → IsOnTable plan d → IsOn plan d
+table_on plan S.Nothing k = k
+table_on plan (S.Load from) k = k
+table_on plan (S.Store to word) k = k
+table_on plan (S.Swap at old new) k = k
+
+-- whether a call is under way
+abbrev pub stand_code : Stand → ℕ
+stand_code S.Idle = 0
+stand_code (S.Goes u step) = 1
+stand_code (S.Glances aim glance) = 1
+
+-- ---- who is answered
+
+module _ (plan : Plan) (x : Lasting) (q : ℕ) (long : q < length x.seats) (asked : Asked) (start : ℕ) where
+  abbrev now : SeatNow
+  now = seat_in x q
+
+  abbrev UnderOf : SeatNow → List Answer → Type 0
+  UnderOf then answers = Under (BySeat q) asked start then then.stand answers
+
+  under_there : (store : W.Store) (then : SeatNow) (answers : List Answer) → UnderOf then answers →
+      UnderIn (BySeat q) asked start (ticked (with_seat x q store then answers))
+  under_there store then answers k =
+      subst (λ (s : SeatNow). UnderOf s answers) (sym (get_or-set_same x.seats q then nobody long)) k
+
+  update_under : (own : SeatNow) (u : Update) (next : Fate) → own.course ≡ now.course → asked ≡ Called u.call →
+      start ≤ now.course.began →
+      UnderOf (seat_after own u next) (answers_after x q u.call (stepped now.course) next)
+  update_under own u (On step) same is after =
+      (is, (let e = ap (λ (c : Course). c.began) same in omega (arith, e, after)))
+  update_under own u (Ends reply) same is after =
+      record { front = x.answers; answer = _; is = refl; by = refl; asks = sym is; after = after }
+  update_under own u Refuses same is after =
+      record { front = x.answers; answer = _; is = refl; by = refl; asks = sym is; after = after }
+
+  look_under : (aim : Aim) (was : Glance) (next : GlanceFate) → asked ≡ asked_by_aim aim → start ≤ now.course.began →
+      UnderOf (look_after now aim was next) (look_answers (ample plan) x q aim (stepped now.course) next)
+  look_under aim was (Looks glance) is after = (is, after)
+  look_under aim was (Shows items) is after =
+      record { front = x.answers; answer = _; is = refl; by = refl; asks = sym is; after = after }
+  look_under aim was Disturbed is after = (is, after)
+
+  pub step_under : (stand : Stand) → IsFlying stand → Under (BySeat q) asked start now stand x.answers →
+      UnderIn (BySeat q) asked start (ticked (goes_on plan x q now stand))
+  step_under S.Idle f k = absurd f
+  step_under (S.Goes u step) f k =
+      let word = found_by (deed_of (ample plan) q now u step) x.store in
+      let own = own_after (ample plan) q now u step word in
+      let next = fate (ample plan) q now u step word in
+      under_there (store_after (deed_of (ample plan) q now u step) x.store) (seat_after own u next)
+      (answers_after x q u.call (stepped now.course) next)
+      (update_under own u next (own_course plan q now u step word) k.0 k.1)
+  step_under (S.Glances aim glance) f k =
+      let d = glance_deed (ample plan) q now.time aim glance in
+      let next = glance_fate (ample plan) now.time aim glance (found_by d x.store) in
+      under_there (store_after d x.store) (look_after now aim glance next)
+      (look_answers (ample plan) x q aim (stepped now.course) next) (look_under aim glance next k.0 k.1)
+
+  pub look_first : (aim : Aim) → asked ≡ asked_by_aim aim → start ≤ x.clock →
+      UnderIn (BySeat q) asked start (ticked (look_begins x q now aim))
+  look_first aim is after = under_there x.store
+      (record now { stand = S.Glances aim (S.GlanceWord (LOOK_TRIES - 1)); course = course_from x.clock }) x.answers
+      (is, after)
+
+  first_under : (u : Update) (taken : SeatNow) (next : Fate) → asked ≡ Called u.call → start ≤ x.clock →
+      UnderOf (record taken { stand = stand_at u next; course = course_from x.clock })
+      (answers_after x q u.call (course_from x.clock) next)
+  first_under u taken (On step) is after = (is, after)
+  first_under u taken (Ends reply) is after =
+      record { front = x.answers; answer = _; is = refl; by = refl; asks = sym is; after = after }
+  first_under u taken Refuses is after =
+      record { front = x.answers; answer = _; is = refl; by = refl; asks = sym is; after = after }
+
+  pub update_first : (call : Call) → asked ≡ Called call → start ≤ x.clock →
+      UnderIn (BySeat q) asked start (ticked (update_begins x q now call))
+  update_first call is after =
+      let taken = sweep_begins now.named now.sweep now in
+      let u = next_update now call in
+      let next = first_fate now.free taken.sweep in
+      under_there x.store (record taken { stand = stand_at u next; course = course_from x.clock })
+      (answers_after x q call (course_from x.clock) next) (first_under u taken next is after)
+
+module _ (plan : Plan) (x : Lasting) (r : ℕ) (asked : Asked) (start : ℕ) where
+  abbrev peeking : ReaderNow
+  peeking = x.readers r
+
+  peek_there : (then : ReaderNow) (answers : List Answer) →
+      Under (ByReader r) asked start (as_seat then) (stand_of then.stand) answers →
+      UnderIn (ByReader r) asked start (ticked (with_reader x r then answers))
+  peek_there then answers k =
+      subst (λ (s : ReaderNow). Under (ByReader r) asked start (as_seat s) (stand_of s.stand) answers)
+      (sym (put_same x.readers r then)) k
+
+  peek_under : (aim : Aim) (next : GlanceFate) → asked ≡ asked_by_aim aim → start ≤ peeking.course.began →
+      Under (ByReader r) asked start (as_seat (peek_after peeking aim next)) (stand_of (peek_after peeking aim
+      next).stand)
+      (peek_answers (ample plan) x r aim (stepped peeking.course) next)
+  peek_under aim (Looks glance) is after = (is, after)
+  peek_under aim (Shows items) is after =
+      record { front = x.answers; answer = _; is = refl; by = refl; asks = sym is; after = after }
+  peek_under aim Disturbed is after =
+      record { front = x.answers; answer = _; is = refl; by = refl; asks = sym is; after = after }
+
+  pub peek_on_under : (aim : Aim) (glance : Glance) → (asked ≡ asked_by_aim aim) × (start ≤ peeking.course.began) →
+      UnderIn (ByReader r) asked start (ticked (peeks plan x r peeking aim glance))
+  peek_on_under aim glance k =
+      let next = glance_fate (ample plan) 0 aim glance (found_by (glance_deed (ample plan) 0 0 aim glance) x.store) in
+      peek_there (peek_after peeking aim next) (peek_answers (ample plan) x r aim (stepped peeking.course) next)
+      (peek_under aim next k.0 k.1)
+
+  pub peek_first : (aim : Aim) (tries : ℕ) → asked ≡ asked_by_aim aim → start ≤ x.clock →
+      UnderIn (ByReader r) asked start (ticked (peek_acts plan x r peeking (Open aim tries)))
+  peek_first aim tries is after = peek_there
+      (record { stand = S.Peeks aim (S.GlanceWord (tries - 1)); course = course_from x.clock }) x.answers (is, after)
+
+-- ---- a step of a party
+
+-- the step may come, and leads on
+pub record Steps (plan : Plan) (who : Asker) (x : Lasting) : Type 0 where
+  pub event : IsEvent plan x (step_of who)
+  pub goes : going_in plan who (happens plan x (step_of who))
+      ≡ goes_by_word (going_in plan who x) (found_by (deed (going_in plan who x)) x.store)
+  pub store : (happens plan x (step_of who)).store ≡ store_after (deed (going_in plan who x)) x.store
+  pub on_table : IsOn plan (deed (going_in plan who x))
+  pub under : (asked : Asked) (start : ℕ) → UnderIn who asked start x →
+      UnderIn who asked start (happens plan x (step_of who))
+
+-- a call may begin, and does
+pub record Begins (plan : Plan) (who : Asker) (asked : Asked) (tries : ℕ) (x : Lasting) : Type 0 where
+  pub event : Event
+  pub is : begin_of who asked tries ≡ event ∷ []
+  pub by : by_event event ≡ who
+  pub can : IsEvent plan x event
+  pub goes : going_in plan who (happens plan x event) ≡ begun asked tries (going_in plan who x)
+  pub store : (happens plan x event).store ≡ x.store
+  pub under : (start : ℕ) → start ≤ x.clock → UnderIn who asked start (happens plan x event)
+
+module _ (plan : Plan) (events : List Event) (run : IsRun plan events) where
+  abbrev x : Lasting
+  x = world_after plan events
+
+  pools : Pools plan x
+  pools = pools_hold plan events run
+
+  -- the next step of a seat is on the table
+  on_at : (q : ℕ) (stand : Stand) → IsOnTable plan (next_deed plan q (seat_in x q) stand) →
+      IsOn plan (deed_at (going_in plan (BySeat q) x) stand)
+  on_at q S.Idle k = tt
+  on_at q (S.Goes u step) k = table_on plan (deed_of (ample plan) q (clean (seat_in x q)) u step)
+      (subst (IsOnTable plan) (sym (deed_clean plan q (seat_in x q) u step)) k)
+  on_at q (S.Glances aim glance) k = table_on plan (glance_deed (ample plan) q (seat_in x q).time aim glance) k
+
+  seat_long : (q : ℕ) → q < plan.settings.seats → q < length x.seats
+  seat_long q inside = omega (arith, inside, pools.long)
+
+  seat_steps : (q : ℕ) → q < plan.settings.seats → IsFlying (seat_in x q).stand → Steps plan (BySeat q) x
+  seat_steps q inside flies =
+      let now = seat_in x q in
+      let acts = seat_happens plan x q Step_on inside in
+      record {
+        event = (inside, flies);
+        goes = ap (going_in plan (BySeat q)) acts ∙ step_goes plan x q (seat_long q inside) now.stand refl flies;
+        store = ap (λ (z : Lasting). z.store) acts ∙ step_store plan x q (seat_long q inside) now.stand flies;
+        on_table = on_at q now.stand (steps_are_on_table plan events q run inside);
+        under = λ asked start k. subst (UnderIn (BySeat q) asked start) (sym acts)
+            (step_under plan x q (seat_long q inside) asked start now.stand flies k);
+      }
+
+  -- a reader's look is one of its tries
+  peeking_near : (r : ℕ) (aim : Aim) (glance : Glance) → (x.readers r).stand ≡ S.Peeks aim glance → IsTrying plan glance
+  peeking_near r aim glance e =
+      (subst (NearPeeking plan) e ((nearly_hold plan events run).near.readers r)).2
+
+  reader_steps : (r : ℕ) (stand : Peeking) → (x.readers r).stand ≡ stand → IsFlying (stand_of stand) →
+      Steps plan (ByReader r) x
+  reader_steps r S.Rests e flies = absurd flies
+  reader_steps r (S.Peeks aim glance) e flies =
+      let peeking = x.readers r in
+      let there = peeks_are_on_table plan events r aim glance run e in
+      let d = glance_deed (ample plan) 0 0 aim glance in
+      let acts : happens plan x (OfReader r Peek_on) ≡ ticked (peeks plan x r peeking aim glance) =
+      ap (λ (s : Peeking). ticked (peeks_on plan x r peeking s)) e in
+      let same : deed (going_in plan (ByReader r) x) ≡ d =
+      ap (λ (s : Peeking). deed_at (going_in plan (ByReader r) x) (stand_of s)) e in
+      record {
+        event = subst IsPeeking (sym e) tt;
+        goes = ap (going_in plan (ByReader r)) acts
+            ∙ peek_goes plan x r (S.Peeks aim glance) e aim glance refl (peeking_near r aim glance e)
+            ∙ sym (ap (λ (s : Peeking). goes_at (going_in plan (ByReader r) x) (stand_of s)
+            (found_by (deed_at (going_in plan (ByReader r) x) (stand_of s)) x.store)) e);
+        store = ap (λ (z : Lasting). z.store) acts ∙ sym (load_same plan d x.store there)
+            ∙ ap (λ (k : Deed). store_after k x.store) (sym same);
+        on_table = subst (IsOn plan) (sym same) (load_on plan d there);
+        under = λ asked start k. subst (UnderIn (ByReader r) asked start) (sym acts)
+            (peek_on_under plan x r asked start aim glance
+            (subst (λ (s : Peeking). Under (ByReader r) asked start (as_seat peeking) (stand_of s) x.answers) e k));
+      }
+
+  -- THE RESULT
+  pub steps_on : (who : Asker) → IsParty plan who → IsFlying (party x who).stand → Steps plan who x
+  steps_on (BySeat q) inside flies = seat_steps q inside flies
+  steps_on (ByReader r) inside flies = reader_steps r (x.readers r).stand refl flies
+
+  -- ---- a begin
+
+  resting : (stand : Peeking) → stand_of stand ≡ S.Idle → stand ≡ S.Rests
+  resting S.Rests e = refl
+  resting (S.Peeks aim glance) e = absurd (omega (arith, ap stand_code e))
+
+  seat_update : (q : ℕ) → q < plan.settings.seats → (call : Call) (tries : ℕ) → (seat_in x q).stand ≡ S.Idle →
+      CanBegin (seat_in x q) call →
+      ticked (call_begins x q (seat_in x q) call) ≡ ticked (update_begins x q (seat_in x q) call) →
+      begun (Called call) tries (going_in plan (BySeat q) x) ≡ begun_update (going_in plan (BySeat q) x) call →
+      Begins plan (BySeat q) (Called call) tries x
+  seat_update q inside call tries idle can updates same =
+      let acts = seat_happens plan x q (Begin call) inside ∙ updates in
+      record {
+        event = OfSeat q (Begin call);
+        is = refl;
+        by = refl;
+        can = (inside, (idle, can));
+        goes = ap (going_in plan (BySeat q)) acts ∙ update_begun plan x q (seat_long q inside) call ∙ sym same;
+        store = ap (λ (z : Lasting). z.store) acts;
+        under = λ start after. subst (UnderIn (BySeat q) (Called call) start) (sym acts)
+            (update_first plan x q (seat_long q inside) (Called call) start call refl after);
+      }
+
+  seat_begins : (q : ℕ) → q < plan.settings.seats → (asked : Asked) (tries : ℕ) → (seat_in x q).stand ≡ S.Idle →
+      CanAsk plan (BySeat q) (seat_in x q) asked tries → Begins plan (BySeat q) asked tries x
+  seat_begins q inside (Called (Lookup key)) tries idle can =
+      let acts = seat_happens plan x q (Begin (Lookup key)) inside in
+      record {
+        event = OfSeat q (Begin (Lookup key));
+        is = refl;
+        by = refl;
+        can = (inside, (idle, can.0));
+        goes = ap (going_in plan (BySeat q)) acts ∙ look_begun plan x q (seat_long q inside) (OfKey key)
+            ∙ ap (begun_look (going_in plan (BySeat q) x) (OfKey key)) (sym can.1);
+        store = ap (λ (z : Lasting). z.store) acts;
+        under = λ start after. subst (UnderIn (BySeat q) (Called (Lookup key)) start) (sym acts)
+            (look_first plan x q (seat_long q inside) (Called (Lookup key)) start (OfKey key) refl after);
+      }
+  seat_begins q inside (Called (Insert key value)) tries idle can =
+      seat_update q inside (Insert key value) tries idle can refl refl
+  seat_begins q inside (Called (Remove key)) tries idle can = seat_update q inside (Remove key) tries idle can refl refl
+  seat_begins q inside (Called (Tally key amount)) tries idle can =
+      seat_update q inside (Tally key amount) tries idle can refl refl
+  seat_begins q inside (Called (Count key value amount)) tries idle can =
+      seat_update q inside (Count key value amount) tries idle can refl refl
+  seat_begins q inside (Called (Put key value)) tries idle can =
+      seat_update q inside (Put key value) tries idle can refl refl
+  seat_begins q inside (Copied bucket) tries idle can =
+      let acts = seat_happens plan x q (Copy bucket) inside in
+      record {
+        event = OfSeat q (Copy bucket);
+        is = refl;
+        by = refl;
+        can = (inside, (idle, can.0));
+        goes = ap (going_in plan (BySeat q)) acts ∙ look_begun plan x q (seat_long q inside) (OfBucket bucket)
+            ∙ ap (begun_look (going_in plan (BySeat q) x) (OfBucket bucket)) (sym can.1);
+        store = ap (λ (z : Lasting). z.store) acts;
+        under = λ start after. subst (UnderIn (BySeat q) (Copied bucket) start) (sym acts)
+            (look_first plan x q (seat_long q inside) (Copied bucket) start (OfBucket bucket) refl after);
+      }
+
+  reader_begins : (r : ℕ) (asked : Asked) (tries : ℕ) → stand_of (x.readers r).stand ≡ S.Idle →
+      CanAsk plan (ByReader r) (as_seat (x.readers r)) asked tries → Begins plan (ByReader r) asked tries x
+  reader_begins r (Called (Lookup key)) tries idle can = record {
+    event = OfReader r (Open (OfKey key) tries);
+    is = refl;
+    by = refl;
+    can = (resting (x.readers r).stand idle, can.0, can.1);
+    goes = peek_begun plan x r (OfKey key) tries;
+    store = refl;
+    under = λ start after. peek_first plan x r (Called (Lookup key)) start (OfKey key) tries refl after;
+  }
+  reader_begins r (Called (Insert key value)) tries idle can = absurd can
+  reader_begins r (Called (Remove key)) tries idle can = absurd can
+  reader_begins r (Called (Tally key amount)) tries idle can = absurd can
+  reader_begins r (Called (Count key value amount)) tries idle can = absurd can
+  reader_begins r (Called (Put key value)) tries idle can = absurd can
+  reader_begins r (Copied bucket) tries idle can = record {
+    event = OfReader r (Open (OfBucket bucket) tries);
+    is = refl;
+    by = refl;
+    can = (resting (x.readers r).stand idle, can.0, can.1);
+    goes = peek_begun plan x r (OfBucket bucket) tries;
+    store = refl;
+    under = λ start after. peek_first plan x r (Copied bucket) start (OfBucket bucket) tries refl after;
+  }
+
+  -- THE RESULT
+  pub begins_on : (who : Asker) → IsParty plan who → (asked : Asked) (tries : ℕ) → (party x who).stand ≡ S.Idle →
+      CanAsk plan who (party x who) asked tries → Begins plan who asked tries x
+  begins_on (BySeat q) inside asked tries idle can = seat_begins q inside asked tries idle can
+  begins_on (ByReader r) inside asked tries idle can = reader_begins r asked tries idle can

@@ -1,0 +1,531 @@
+-- What an event of a party changes: its own state, as the calls have it, and no other's.
+use Rattle.std.proofs.Common.{◌≡◌, ◌≢◌, ℕ, ◌+◌, ◌-◌, ◌<◌, Bool, true, false, cond, List, [], ◌∷◌, ◌++◌, length, Option, Some, None, refl, sym, ap, ◌∙◌, arith, get_or-set_same, get_or-set_other, lt-ltb}
+use Rattle.std.specs.Prelude.{◌==◌, fold}
+use Rattle.word_rows.proofs.MemoryLemmas.{put_same, put_other}
+use Rattle.plain_map.specs.declared.calls.Call.{Call}
+use Rattle.plain_map.specs.declared.calls.Call.TheVariants.{Insert, Remove, Lookup, Tally, Count, Put}
+use Rattle.lasting_model.specs.Plans.{Plan, ample}
+use Rattle.lasting_model.specs.Words as W
+use Rattle.lasting_model.specs.Steps as S
+use Rattle.lasting_model.specs.Steps.{Step, Stand, Sweep, SeatNow, Update, Aim, OfKey, OfBucket, Glance, Course, Peeking, ReaderNow, Deed, deed_of, glance_deed, bucket_of_update}
+use Rattle.lasting_model.specs.Goes.{time_after, SweepFate, SweepsOn, Swept, swept, sweep_begins, sweep_fate_of, Fate, On, Ends, Refuses, fate, own_after, first_fate, with_published, GlanceFate, Looks, Shows, Disturbed, glance_fate, Called, Replied, Again, Refused, asked_by_aim, told_by_items}
+use Rattle.lasting_model.specs.Worlds.{Lasting, Answer, Asker, BySeat, ByReader, Event, OfSeat, OfReader, What, Begin, Copy, Step_on, Peek, Open, Peek_on, IsEvent, AreEvents, IsRun, IsFlying, IsPeeking, Fits, PeekFits, LOOK_TRIES, act, answers_after, call_begins, course_from, found_by, glances, goes, goes_on, happens, look_after, look_answers, look_begins, next_update, nobody, opening_world, peek_acts, peek_after, peek_answers, peeks, peeks_on, seat_after, seat_in, stand_at, stepped, store_after, ticked, update_begins, with_reader, with_seat, world_after}
+use Rattle.lasting_laws.proofs.Peeks.{after_both}
+use Rattle.lasting_laws.proofs.Near.{IsTrying}
+use Rattle.lasting_calls.specs.Going.{Going, after_glance, begun_look, begun_update, deed_at, goes_at, told_by}
+use Rattle.lasting_table.specs.Parties.{as_seat, by_event, clean, going_in, last_told, party, stand_of, told_at}
+
+-- ---- runs with one event more
+
+follow_more : (plan : Plan) (es : List Event) (x : Lasting) (e : Event) → AreEvents plan x es →
+    IsEvent plan (fold (happens plan) x es) e → AreEvents plan x (es ++ e ∷ [])
+follow_more plan [] x e f k = (k, tt)
+follow_more plan (d ∷ es) x e f k = (f.0, follow_more plan es (happens plan x d) e f.1 k)
+
+pub run_more : (plan : Plan) (es : List Event) (e : Event) → IsRun plan es → IsEvent plan (world_after plan es) e →
+    IsRun plan (es ++ e ∷ [])
+run_more plan es e run k =
+    record { opened = run.opened; follow = follow_more plan es (opening_world plan) e run.follow k }
+
+pub world_more : (plan : Plan) (es : List Event) (e : Event) →
+    world_after plan (es ++ e ∷ []) ≡ happens plan (world_after plan es) e
+world_more plan es e = after_both plan es (e ∷ []) (opening_world plan)
+
+-- ---- what one event leaves
+
+-- another seat in the place of this one
+pub record SeatForm (x : Lasting) (q : ℕ) (y : Lasting) : Type 0 where
+  pub store : W.Store
+  pub then : SeatNow
+  pub answers : List Answer
+  pub is : y ≡ with_seat x q store then answers
+
+pub record ReaderForm (x : Lasting) (r : ℕ) (y : Lasting) : Type 0 where
+  pub then : ReaderNow
+  pub answers : List Answer
+  pub is : y ≡ with_reader x r then answers
+
+module _ (plan : Plan) (x : Lasting) where
+  begin_form : (q : ℕ) (now : SeatNow) (call : Call) → SeatForm x q (call_begins x q now call)
+  begin_form q now (Lookup key) = record { store = _; then = _; answers = _; is = refl }
+  begin_form q now (Insert key value) = record { store = _; then = _; answers = _; is = refl }
+  begin_form q now (Remove key) = record { store = _; then = _; answers = _; is = refl }
+  begin_form q now (Tally key amount) = record { store = _; then = _; answers = _; is = refl }
+  begin_form q now (Count key value amount) = record { store = _; then = _; answers = _; is = refl }
+  begin_form q now (Put key value) = record { store = _; then = _; answers = _; is = refl }
+
+  goes_form : (q : ℕ) (now : SeatNow) (stand : Stand) → IsFlying stand → SeatForm x q (goes_on plan x q now stand)
+  goes_form q now S.Idle f = absurd f
+  goes_form q now (S.Goes u step) f = record { store = _; then = _; answers = _; is = refl }
+  goes_form q now (S.Glances aim glance) f = record { store = _; then = _; answers = _; is = refl }
+
+  act_form : (q : ℕ) (now : SeatNow) (what : What) → Fits plan now what → SeatForm x q (act plan x q now what)
+  act_form q now (Begin call) f = begin_form q now call
+  act_form q now (Copy bucket) f = record { store = _; then = _; answers = _; is = refl }
+  act_form q now Step_on f = goes_form q now now.stand f
+
+  peeks_form : (r : ℕ) (now : ReaderNow) (stand : Peeking) → IsPeeking stand →
+      ReaderForm x r (peeks_on plan x r now stand)
+  peeks_form r now S.Rests f = absurd f
+  peeks_form r now (S.Peeks aim glance) f = record { then = _; answers = _; is = refl }
+
+  peek_form : (r : ℕ) (now : ReaderNow) (peek : Peek) → PeekFits plan now peek →
+      ReaderForm x r (peek_acts plan x r now peek)
+  peek_form r now (Open aim tries) f = record { then = _; answers = _; is = refl }
+  peek_form r now Peek_on f = peeks_form r now now.stand f
+
+  -- an event of a seat acts
+  pub seat_happens : (q : ℕ) (what : What) → q < plan.settings.seats →
+      happens plan x (OfSeat q what) ≡ ticked (act plan x q (seat_in x q) what)
+  seat_happens q what inside = ap (λ (b : Bool). cond b (ticked (act plan x q (seat_in x q) what)) x)
+      (lt-ltb q plan.settings.seats inside)
+
+  seat_other : (q : ℕ) (y : Lasting) (f : SeatForm x q y) (who : Asker) → BySeat q ≢ who →
+      party (ticked y) who ≡ party x who
+  seat_other q y f (BySeat p) n = ap (λ (z : Lasting). seat_in z p) f.is
+      ∙ get_or-set_other x.seats q p f.then nobody (λ e. n (ap BySeat (sym e)))
+  seat_other q y f (ByReader r) n = ap (λ (z : Lasting). as_seat (z.readers r)) f.is
+
+  reader_other : (r : ℕ) (y : Lasting) (f : ReaderForm x r y) (who : Asker) → ByReader r ≢ who →
+      party (ticked y) who ≡ party x who
+  reader_other r y f (BySeat p) n = ap (λ (z : Lasting). seat_in z p) f.is
+  reader_other r y f (ByReader k) n = ap (λ (z : Lasting). as_seat (z.readers k)) f.is
+      ∙ ap as_seat (put_other x.readers r f.then k (λ e. n (ap ByReader (sym e))))
+
+  -- others stand as before
+  pub party_other : (e : Event) → IsEvent plan x e → (who : Asker) → by_event e ≢ who →
+      party (happens plan x e) who ≡ party x who
+  party_other (OfSeat q what) k who n =
+      ap (λ (z : Lasting). party z who) (seat_happens q what k.0)
+      ∙ seat_other q (act plan x q (seat_in x q) what) (act_form q (seat_in x q) what k.1) who n
+  party_other (OfReader r peek) k who n =
+      reader_other r (peek_acts plan x r (x.readers r) peek) (peek_form r (x.readers r) peek k) who n
+
+  -- and one event more has come
+  pub clock_more : (e : Event) → IsEvent plan x e → (happens plan x e).clock ≡ x.clock + 1
+  clock_more (OfSeat q what) k =
+      ap (λ (z : Lasting). z.clock) (seat_happens q what k.0)
+      ∙ ap (λ (z : Lasting). z.clock + 1) (act_form q (seat_in x q) what k.1).is
+  clock_more (OfReader r peek) k = ap (λ (z : Lasting). z.clock + 1) (peek_form r (x.readers r) peek k).is
+
+clock_follow : (plan : Plan) (es : List Event) (x : Lasting) → AreEvents plan x es →
+    (fold (happens plan) x es).clock ≡ x.clock + length es
+clock_follow plan [] x f = (let none : x.clock ≡ x.clock + 0 = omega arith in none)
+clock_follow plan (e ∷ es) x f =
+    (let rest = clock_follow plan es (happens plan x e) f.1 in
+    let one = clock_more plan x e f.0 in omega (arith, rest, one))
+
+-- as many events came as there are
+pub clock_is : (plan : Plan) (es : List Event) → IsRun plan es → (world_after plan es).clock ≡ length es
+clock_is plan es run =
+    (let all = clock_follow plan es (opening_world plan) run.follow in omega (arith, all))
+
+-- ---- what was told last
+
+pub told_more : (answers : List Answer) (a : Answer) → last_told (answers ++ a ∷ []) ≡ Some a.told
+told_more [] a = refl
+told_more (b ∷ []) a = refl
+told_more (b ∷ c ∷ answers) a = told_more (c ∷ answers) a
+
+-- ---- the course of a call is looked at by none of its steps
+
+module _ (plan : Plan) (q : ℕ) (now : SeatNow) (u : Update) where
+  pub deed_clean : (step : Step) → deed_of (ample plan) q (clean now) u step ≡ deed_of (ample plan) q now u step
+  deed_clean (S.Sweeps rows) = refl
+  deed_clean (S.StoreOp i) = refl
+  deed_clean S.Announce = refl
+  deed_clean (S.LoadWord turn) = refl
+  deed_clean (S.LoadRow turn word words) = refl
+  deed_clean (S.CheckRow turn word words) = refl
+  deed_clean (S.LoadAnnounced t found) = refl
+  deed_clean (S.LoadOp t found announced words) = refl
+  deed_clean (S.StoreRow t found i) = refl
+  deed_clean (S.Exchange t found) = refl
+  deed_clean S.StoreWant = refl
+  deed_clean S.StoreAsking = refl
+  deed_clean S.HeldWord = refl
+  deed_clean (S.TakeHold word) = refl
+  deed_clean (S.HeldNumber row) = refl
+  deed_clean (S.HeldReply row) = refl
+  deed_clean S.Stuck = refl
+
+  fate_clean : (step : Step) (word : ℕ) → fate (ample plan) q (clean now) u step word ≡ fate (ample plan) q now u
+      step word
+  fate_clean (S.Sweeps rows) word = refl
+  fate_clean (S.StoreOp i) word = refl
+  fate_clean S.Announce word = refl
+  fate_clean (S.LoadWord turn) word = refl
+  fate_clean (S.LoadRow turn old words) word = refl
+  fate_clean (S.CheckRow turn old words) word = refl
+  fate_clean (S.LoadAnnounced t found) word = refl
+  fate_clean (S.LoadOp t found announced words) word = refl
+  fate_clean (S.StoreRow t found i) word = refl
+  fate_clean (S.Exchange t found) word = refl
+  fate_clean S.StoreWant word = refl
+  fate_clean S.StoreAsking word = refl
+  fate_clean S.HeldWord word = refl
+  fate_clean (S.TakeHold old) word = refl
+  fate_clean (S.HeldNumber row) word = refl
+  fate_clean (S.HeldReply row) word = refl
+  fate_clean S.Stuck word = refl
+
+  swept_clean : (f : SweepFate) → swept (clean now) f ≡ clean (swept now f)
+  swept_clean (SweepsOn kept sweep) = refl
+  swept_clean (Swept kept gone) = refl
+
+  either_clean : (c : Bool) (a b : SeatNow) → cond c (clean a) (clean b) ≡ clean (cond c a b)
+  either_clean true a b = refl
+  either_clean false a b = refl
+
+  own_clean : (step : Step) (word : ℕ) →
+      own_after (ample plan) q (clean now) u step word ≡ clean (own_after (ample plan) q now u step word)
+  own_clean (S.Sweeps rows) word = swept_clean (sweep_fate_of (ample plan) q now.sweep word)
+  own_clean (S.StoreOp i) word = refl
+  own_clean S.Announce word = refl
+  own_clean (S.LoadWord turn) word = refl
+  own_clean (S.LoadRow turn old words) word = refl
+  own_clean (S.CheckRow turn old words) word = refl
+  own_clean (S.LoadAnnounced t found) word = refl
+  own_clean (S.LoadOp t found announced words) word = refl
+  own_clean (S.StoreRow t found i) word = refl
+  own_clean (S.Exchange t found) word =
+      either_clean (word == t.word) (with_published now (bucket_of_update (ample plan) u)) now
+  own_clean S.StoreWant word = refl
+  own_clean S.StoreAsking word = refl
+  own_clean S.HeldWord word = refl
+  own_clean (S.TakeHold old) word = refl
+  own_clean (S.HeldNumber row) word = refl
+  own_clean (S.HeldReply row) word = refl
+  own_clean S.Stuck word = refl
+
+  swept_course : (f : SweepFate) → (swept now f).course ≡ now.course
+  swept_course (SweepsOn kept sweep) = refl
+  swept_course (Swept kept gone) = refl
+
+  either_course : (c : Bool) (a b : SeatNow) → a.course ≡ now.course → b.course ≡ now.course →
+      (cond c a b).course ≡ now.course
+  either_course true a b ea eb = ea
+  either_course false a b ea eb = eb
+
+  -- and none changes it
+  pub own_course : (step : Step) (word : ℕ) → (own_after (ample plan) q now u step word).course ≡ now.course
+  own_course (S.Sweeps rows) word = swept_course (sweep_fate_of (ample plan) q now.sweep word)
+  own_course (S.StoreOp i) word = refl
+  own_course S.Announce word = refl
+  own_course (S.LoadWord turn) word = refl
+  own_course (S.LoadRow turn old words) word = refl
+  own_course (S.CheckRow turn old words) word = refl
+  own_course (S.LoadAnnounced t found) word = refl
+  own_course (S.LoadOp t found announced words) word = refl
+  own_course (S.StoreRow t found i) word = refl
+  own_course (S.Exchange t found) word =
+      either_course (word == t.word) (with_published now (bucket_of_update (ample plan) u)) now refl refl
+  own_course S.StoreWant word = refl
+  own_course S.StoreAsking word = refl
+  own_course S.HeldWord word = refl
+  own_course (S.TakeHold old) word = refl
+  own_course (S.HeldNumber row) word = refl
+  own_course (S.HeldReply row) word = refl
+  own_course S.Stuck word = refl
+
+begins_clean : (named : List (ℕ × ℕ)) (sweep : Option Sweep) (now : SeatNow) →
+    sweep_begins named sweep (clean now) ≡ clean (sweep_begins named sweep now)
+begins_clean named (Some sweep) now = refl
+begins_clean [] None now = refl
+begins_clean (row ∷ named) None now = refl
+
+-- ---- a seat's own event
+
+module _ (plan : Plan) (x : Lasting) (q : ℕ) (long : q < length x.seats) where
+  abbrev now : SeatNow
+  now = seat_in x q
+
+  abbrev g : Going
+  g = going_in plan (BySeat q) x
+
+  -- a seat as the calls see it
+  abbrev seen : SeatNow → List Answer → Going
+  seen then answers = record {
+    plan = plan;
+    holds = true;
+    seat = q;
+    now = clean then;
+    told = told_at then.stand answers;
+  }
+
+  seen_there : (store : W.Store) (then : SeatNow) (answers : List Answer) →
+      going_in plan (BySeat q) (ticked (with_seat x q store then answers)) ≡ seen then answers
+  seen_there store then answers = ap (λ (s : SeatNow). seen s answers) (get_or-set_same x.seats q then nobody long)
+
+  -- an update goes on
+  update_seen : (own : SeatNow) (u : Update) (course : Course) (next : Fate) →
+      seen (seat_after own u next) (answers_after x q u.call course next)
+      ≡ record {
+        plan = plan;
+        holds = true;
+        seat = q;
+        now = clean (seat_after (clean own) u next);
+        told = told_by
+            next None;
+      }
+  update_seen own u course (On step) = refl
+  update_seen own u course (Ends reply) = λ i. record {
+    plan = plan;
+    holds = true;
+    seat = q;
+    now = clean (seat_after (clean own) u (Ends reply));
+    told = told_more x.answers (record {
+      by = BySeat q;
+      asked = Called u.call;
+      told = Replied reply;
+      began = course.began;
+      ended = x.clock + 1;
+      steps = course.steps;
+    }) i;
+  }
+  update_seen own u course Refuses = λ i. record {
+    plan = plan;
+    holds = true;
+    seat = q;
+    now = clean (seat_after (clean own) u Refuses);
+    told = told_more x.answers (record {
+      by = BySeat q;
+      asked = Called u.call;
+      told = Refused;
+      began = course.began;
+      ended = x.clock + 1;
+      steps = course.steps;
+    }) i;
+  }
+
+  update_goes : (u : Update) (step : Step) → now.stand ≡ S.Goes u step →
+      going_in plan (BySeat q) (ticked (goes plan x q now u step))
+      ≡ goes_at g (S.Goes u step) (found_by (deed_at g (S.Goes u step)) x.store)
+  update_goes u step stood =
+      let word = found_by (deed_of (ample plan) q now u step) x.store in
+      let own = own_after (ample plan) q now u step word in
+      let next = fate (ample plan) q now u step word in
+      let none : g.told ≡ None = ap (λ (s : Stand). told_at s x.answers) stood in
+      seen_there (store_after (deed_of (ample plan) q now u step) x.store) (seat_after own u next)
+      (answers_after x q u.call (stepped now.course) next)
+      ∙ update_seen own u (stepped now.course) next
+      ∙ sym (λ i. record {
+        plan = plan;
+        holds = true;
+        seat = q;
+        now = clean (seat_after (own_clean plan q now u step word i) u (fate_clean plan q now u step word i));
+        told = told_by (fate_clean plan q now u step word i) (none i);
+      })
+      ∙ sym (ap (λ (d : Deed). goes_at g (S.Goes u step) (found_by d x.store)) (deed_clean plan q now u step))
+
+  -- a look goes on
+  look_seen : (aim : Aim) (was : Glance) (course : Course) (next : GlanceFate) → g.told ≡ None →
+      seen (look_after now aim was next) (look_answers (ample plan) x q aim course next) ≡ after_glance g aim was next
+  look_seen aim was course (Looks glance) none = λ i. record {
+    plan = plan;
+    holds = true;
+    seat = q;
+    now = clean (look_after now aim was (Looks glance));
+    told = sym none i;
+  }
+  look_seen aim was course (Shows items) none = λ i. record {
+    plan = plan;
+    holds = true;
+    seat = q;
+    now = clean (look_after now aim was (Shows items));
+    told = told_more x.answers (record {
+      by = BySeat q;
+      asked = asked_by_aim aim;
+      told = told_by_items (ample plan) aim items;
+      began = course.began;
+      ended = x.clock + 1;
+      steps = course.steps;
+    }) i;
+  }
+  look_seen aim was course Disturbed none = λ i. record {
+    plan = plan;
+    holds = true;
+    seat = q;
+    now = clean (look_after now aim was Disturbed);
+    told = sym none i;
+  }
+
+  look_goes : (aim : Aim) (glance : Glance) → now.stand ≡ S.Glances aim glance →
+      going_in plan (BySeat q) (ticked (glances plan x q now aim glance))
+      ≡ goes_at g (S.Glances aim glance) (found_by (deed_at g (S.Glances aim glance)) x.store)
+  look_goes aim glance stood =
+      let deed = glance_deed (ample plan) q now.time aim glance in
+      let next = glance_fate (ample plan) now.time aim glance (found_by deed x.store) in
+      seen_there (store_after deed x.store) (look_after now aim glance next)
+      (look_answers (ample plan) x q aim (stepped now.course) next)
+      ∙ look_seen aim glance (stepped now.course) next (ap (λ (s : Stand). told_at s x.answers) stood)
+
+  -- so does each step
+  pub step_goes : (stand : Stand) → now.stand ≡ stand → IsFlying stand →
+      going_in plan (BySeat q) (ticked (goes_on plan x q now stand)) ≡ goes_at g stand (found_by (deed_at g stand)
+      x.store)
+  step_goes S.Idle e f = absurd f
+  step_goes (S.Goes u step) e f = update_goes u step e
+  step_goes (S.Glances aim glance) e f = look_goes aim glance e
+
+  pub step_store : (stand : Stand) → IsFlying stand →
+      (ticked (goes_on plan x q now stand)).store ≡ store_after (deed_at g stand) x.store
+  step_store S.Idle f = absurd f
+  step_store (S.Goes u step) f = ap (λ (d : Deed). store_after d x.store) (sym (deed_clean plan q now u step))
+  step_store (S.Glances aim glance) f = refl
+
+  -- ---- its begin
+
+  first_seen : (u : Update) (taken : SeatNow) (call : Call) (course : Course) (next : Fate) →
+      seen (record taken { stand = stand_at u next; course = course }) (answers_after x q call course next)
+      ≡ record {
+        plan = plan;
+        holds = true;
+        seat = q;
+        now = clean (record (clean taken) { stand = stand_at u next });
+        told = told_by next None;
+      }
+  first_seen u taken call course (On step) = refl
+  first_seen u taken call course (Ends reply) = λ i. record {
+    plan = plan;
+    holds = true;
+    seat = q;
+    now = clean (record taken { stand = S.Idle });
+    told = told_more x.answers (record {
+      by = BySeat q;
+      asked = Called call;
+      told = Replied reply;
+      began = course.began;
+      ended = x.clock + 1;
+      steps = course.steps;
+    }) i;
+  }
+  first_seen u taken call course Refuses = λ i. record {
+    plan = plan;
+    holds = true;
+    seat = q;
+    now = clean (record taken { stand = S.Idle });
+    told = told_more x.answers (record {
+      by = BySeat q;
+      asked = Called call;
+      told = Refused;
+      began = course.began;
+      ended = x.clock + 1;
+      steps = course.steps;
+    }) i;
+  }
+
+  pub update_begun : (call : Call) → going_in plan (BySeat q) (ticked (update_begins x q now call)) ≡ begun_update g
+      call
+  update_begun call =
+      let taken = sweep_begins now.named now.sweep now in
+      let u = next_update now call in
+      let next = first_fate now.free taken.sweep in
+      seen_there x.store (record taken { stand = stand_at u next; course = course_from x.clock })
+      (answers_after x q call (course_from x.clock) next)
+      ∙ first_seen u taken call (course_from x.clock) next
+      ∙ sym (λ i. record {
+        plan = plan;
+        holds = true;
+        seat = q;
+        now = clean (record (begins_clean now.named now.sweep now i) {
+          stand = stand_at u (first_fate now.free (begins_clean now.named now.sweep now i).sweep);
+        });
+        told = told_by (first_fate now.free (begins_clean now.named now.sweep now i).sweep) None;
+      })
+
+  pub look_begun : (aim : Aim) → going_in plan (BySeat q) (ticked (look_begins x q now aim)) ≡ begun_look g aim
+      LOOK_TRIES
+  look_begun aim = seen_there x.store
+      (record now { stand = S.Glances aim (S.GlanceWord (LOOK_TRIES - 1)); course = course_from x.clock }) x.answers
+
+-- ---- a reader's own event
+
+module _ (plan : Plan) (x : Lasting) (r : ℕ) where
+  abbrev peeking : ReaderNow
+  peeking = x.readers r
+
+  abbrev gr : Going
+  gr = going_in plan (ByReader r) x
+
+  abbrev peeked : ReaderNow → List Answer → Going
+  peeked then answers = record {
+    plan = plan;
+    holds = false;
+    seat = 0;
+    now = clean (as_seat then);
+    told = told_at (stand_of then.stand) answers;
+  }
+
+  peeked_there : (then : ReaderNow) (answers : List Answer) →
+      going_in plan (ByReader r) (ticked (with_reader x r then answers)) ≡ peeked then answers
+  peeked_there then answers = ap (λ (s : ReaderNow). peeked s answers) (put_same x.readers r then)
+
+  -- a reader never asks for a hold
+  time_none : (was : Glance) → IsTrying plan was → time_after 0 was ≡ 0
+  time_none (S.GlanceWord left) t = refl
+  time_none (S.GlanceCount source) t = refl
+  time_none (S.GlanceItem source scan) t = refl
+  time_none (S.GlanceCheck left word kept) t = refl
+  time_none S.GlanceWant t = refl
+  time_none S.GlanceAsking t = absurd t
+  time_none S.GlanceHeld t = refl
+  time_none (S.GlanceTake word) t = refl
+
+  look_peeked : (aim : Aim) (was : Glance) (course : Course) (next : GlanceFate) → IsTrying plan was →
+      gr.told ≡ None →
+      peeked (peek_after peeking aim next) (peek_answers (ample plan) x r aim course next)
+      ≡ after_glance gr aim was next
+  look_peeked aim was course (Looks glance) t none = λ i. record {
+    plan = plan;
+    holds = false;
+    seat = 0;
+    now = record (clean (as_seat peeking)) { time = sym (time_none was t) i; stand = S.Glances aim glance };
+    told = sym none i;
+  }
+  look_peeked aim was course (Shows items) t none = λ i. record {
+    plan = plan;
+    holds = false;
+    seat = 0;
+    now = record (clean (as_seat peeking)) { stand = S.Idle };
+    told = told_more x.answers (record {
+      by = ByReader r;
+      asked = asked_by_aim aim;
+      told = told_by_items (ample plan) aim items;
+      began = course.began;
+      ended = x.clock + 1;
+      steps = course.steps;
+    }) i;
+  }
+  look_peeked aim was course Disturbed t none = λ i. record {
+    plan = plan;
+    holds = false;
+    seat = 0;
+    now = record (clean (as_seat peeking)) { stand = S.Idle };
+    told = told_more x.answers (record {
+      by = ByReader r;
+      asked = asked_by_aim aim;
+      told = Again;
+      began = course.began;
+      ended = x.clock + 1;
+      steps = course.steps;
+    }) i;
+  }
+
+  -- its step
+  pub peek_goes : (stand : Peeking) → peeking.stand ≡ stand → (aim : Aim) (glance : Glance) →
+      stand ≡ S.Peeks aim glance → IsTrying plan glance →
+      going_in plan (ByReader r) (ticked (peeks plan x r peeking aim glance))
+      ≡ goes_at gr (S.Glances aim glance) (found_by (deed_at gr (S.Glances aim glance)) x.store)
+  peek_goes stand e aim glance is t =
+      let next = glance_fate (ample plan) 0 aim glance (found_by (glance_deed (ample plan) 0 0 aim glance) x.store) in
+      peeked_there (peek_after peeking aim next)
+      (peek_answers (ample plan) x r aim (stepped peeking.course) next)
+      ∙ look_peeked aim glance (stepped peeking.course) next t
+      (ap (λ (s : Peeking). told_at (stand_of s) x.answers) (e ∙ is))
+
+  -- and its begin
+  pub peek_begun : (aim : Aim) (tries : ℕ) →
+      going_in plan (ByReader r) (ticked (peek_acts plan x r peeking (Open aim tries))) ≡ begun_look gr aim tries
+  peek_begun aim tries = peeked_there
+      (record { stand = S.Peeks aim (S.GlanceWord (tries - 1)); course = course_from x.clock }) x.answers

@@ -1,0 +1,12 @@
+pub mod Events
+pub mod Acting
+pub mod Places
+pub mod Moves
+pub mod Allowed
+pub mod OnTheWay
+pub mod Ends
+pub mod Opens
+pub mod Callers
+pub mod Seated
+pub mod OpeningWords
+pub mod Planned

@@ -1,0 +1,120 @@
+-- What contracts see of a table, of its seats and of its readers.
+use Rattle.std.specs.Prelude.{◌≡◌, ℕ, ◌≤◌, Bool, true, List, [], ◌∷◌, ◌++◌, length, take, Option, Some, None}
+use Rattle.atomic_table.specs.Seated.{TableId}
+use Rattle.plain_map.specs.declared.calls.Reply.{Reply}
+use Rattle.plain_map.specs.declared.keys.Pair.{Pair}
+use Rattle.lasting_model.specs.Plans.{Plan}
+use Rattle.lasting_model.specs.Laws.{call_bound}
+use Rattle.lasting_model.specs.Goes.{Asked, Told, Again, Pairs, Replied}
+use Rattle.lasting_model.specs.Worlds.{Answer, BySeat, Event, IsRun, world_after}
+use Rattle.lasting_laws.specs.Promises.{HasGhost}
+use Rattle.lasting_calls.specs.Desks.{IsOf}
+use Rattle.lasting_calls.specs.Seats.{IsSeatOf}
+use Rattle.lasting_calls.specs.declared.desk.Desk.{Desk}
+use Rattle.lasting_calls.specs.declared.seat_state.SeatState.{SeatState}
+use Rattle.lasting_table.specs.declared.view.View.{View}
+use Rattle.lasting_table.specs.declared.rule.Opening.{Opening}
+use Rattle.lasting_table.specs.Parties.{Holding, PartyValue, IsParty, going_of, has_hold, party}
+use Rattle.lasting_table.specs.Rule.{M, alone, first_or, fresh, lone, plain}
+use Rattle.lasting_table.specs.Calls.{IsIdle, holding_of}
+
+-- a table that runs: which one, and what it was opened with
+pub record TableValue : Type 0 where
+  pub table_id : TableId
+  pub plan : Plan
+
+-- it is one of the table's
+pub record IsPartyOf (t : TableValue) (p : PartyValue) : Type 0 where
+  pub table : p.table_id ≡ t.table_id
+  pub plan : p.holding.plan ≡ t.plan
+
+-- it stays the same one of the same table
+pub record IsSame (a b : PartyValue) : Type 0 where
+  pub table : b.table_id ≡ a.table_id
+  pub plan : b.holding.plan ≡ a.holding.plan
+  pub who : b.holding.who ≡ a.holding.who
+
+-- how often a seat has asked for a hold
+abbrev pub asked_times : PartyValue → ℕ
+asked_times p = (party (world_after p.holding.plan p.holding.known) p.holding.who).time
+
+-- how many updates it has answered
+abbrev pub answered_updates : PartyValue → ℕ
+answered_updates p = (party (world_after p.holding.plan p.holding.known) p.holding.who).answered
+
+-- the call was answered so. What is known goes on, and is a run of the table. The answer is the last of the run, and
+-- the call began after all that was known before it. A seat's took no more steps than its bound. All updates of the run
+-- have one order, in which each has the reply of the plain map. Each lookup and each copy tells what that map had at
+-- one moment of its call
+pub record Answers (asked : Asked) (told : Told) (was now : PartyValue) : Type 0 where
+  pub later : List Event
+  pub grown : now.holding.known ≡ was.holding.known ++ later
+  pub run : IsRun now.holding.plan now.holding.known
+  pub before : List Answer
+  pub answer : Answer
+  pub last : (world_after now.holding.plan now.holding.known).answers ≡ before ++ answer ∷ []
+  pub by : answer.by ≡ now.holding.who
+  pub asks : answer.asked ≡ asked
+  pub tells : answer.told ≡ told
+  pub after : length was.holding.known ≤ answer.began
+  pub bounded : (seat : ℕ) → answer.by ≡ BySeat seat → answer.steps ≤ call_bound now.holding.plan.settings asked
+  pub ordered : HasGhost now.holding.plan now.holding.known
+
+-- a token of one party that stands between two calls
+pub record IsResting (key : Opening) (m : M) : Type 0 where
+  pub one : m ≡ alone (holding_of key m)
+  pub opened : (holding_of key m).plan ≡ plain key
+  pub run : IsRun (holding_of key m).plan (holding_of key m).known
+  pub inside : IsParty (holding_of key m).plan (holding_of key m).who
+  pub idle : IsIdle (holding_of key m)
+
+-- what a reader is told
+abbrev pub told_by_peek : Option Reply → Told
+told_by_peek None = Again
+told_by_peek (Some reply) = Replied reply
+
+-- and of a copy
+abbrev pub told_by_look : Option ℕ → List Pair → Told
+told_by_look None pairs = Again
+told_by_look (Some count) pairs = Pairs (take count pairs)
+
+-- ---- by their fields
+
+-- the holdings of a badge, which has one view or none
+abbrev pub bundle_of : List View → List Holding
+bundle_of [] = []
+bundle_of (view ∷ views) = view.bundle
+
+-- a party of a desk that knows nothing; it stands where a badge has no view, which none has that is used
+abbrev pub holding_of_desk : Desk → Holding
+holding_of_desk desk = record {
+  plan = record { settings = desk.settings; hashing = desk.rules.hashing; first = []; rows = desk.rows };
+  who = BySeat desk.seat;
+  known = [];
+}
+
+-- what it knows, by its badge
+abbrev pub holding_in : Desk → List View → Holding
+holding_in desk views = first_or (holding_of_desk desk) (bundle_of views)
+
+-- what contracts see of it
+abbrev pub party_value : Desk → TableId → List View → PartyValue
+party_value desk table_id views = record { table_id = table_id; holding = holding_in desk views }
+
+-- it stands between two calls, at its desk
+pub record PartyStands (holds : Bool) (desk : Desk) (views : List View) : Type 0 where
+  pub one : views ≡ lone (holding_in desk views) ∷ []
+  pub run : IsRun (holding_in desk views).plan (holding_in desk views).known
+  pub inside : IsParty (holding_in desk views).plan (holding_in desk views).who
+  pub idle : IsIdle (holding_in desk views)
+  pub at_desk : IsOf (going_of (holding_in desk views)) desk
+  pub kind : has_hold (holding_in desk views).who ≡ holds
+
+-- a seat has beside it what it keeps for its updates
+pub record SeatStands (desk : Desk) (views : List View) (state : SeatState) : Type 0 where
+  pub stands : PartyStands true desk views
+  pub keeps : IsSeatOf (going_of (holding_in desk views)) state
+
+-- a seat that has made no call
+abbrev pub new_seat : TableValue → (seat : ℕ) → PartyValue
+new_seat t seat = record { table_id = t.table_id; holding = fresh t.plan seat }

@@ -1,0 +1,83 @@
+//! The rule of the table.
+
+ghost use Rattle.std.specs.Prelude.{ℕ, List, []};
+ghost use Rattle.lasting_table.specs.Parties.{PartyValue};
+ghost use Rattle.lasting_model.specs.Goes.{Asked as AskedCall};
+ghost use Rattle.lasting_table.specs.Rule.{Holds, acted, entered, foremost, no_call, others, plain, stored, whole};
+
+use crate::view::View;
+use atomic_table::{Play, Split, TableRule};
+use hash_bits::Hashing;
+use std::marker::{Brand, PhantomData};
+use step_counts::Settings;
+
+/// What a table is opened with.
+#[derive(Clone, Copy, Drop)]
+pub struct Opening {
+    pub settings: Settings,
+    pub hashing: Hashing,
+    // How many rows each seat has.
+    pub rows: u32,
+}
+
+/// There is a run of the lasting table, and all that is known is of it.
+pub struct OneRun;
+
+impl TableRule<(), View, Opening> for OneRun {
+    ghost holds = { λ opening. Holds (plain opening) };
+
+    ghost first = { λ opening. whole (plain opening) };
+}
+
+/// The call that is being made. Each call picks it.
+pub trait Asked {
+    ghost asked: { AskedCall };
+
+    // With how many tries, none where it is an update.
+    ghost tries: { ℕ };
+
+    // What the caller is as the call begins.
+    ghost since: { List PartyValue };
+}
+
+impl Asked for Brand {
+    ghost asked = { no_call };
+
+    ghost tries = { 0 };
+
+    ghost since = { [] };
+}
+
+/// A load or an exchange.
+pub struct Acts<B> {
+    marker: PhantomData<B>,
+}
+
+impl<B: Asked> Play<(), View> for Acts<B> {
+    ghost then = { acted B.asked B.tries };
+}
+
+/// A store.
+pub struct Stores<B> {
+    marker: PhantomData<B>,
+}
+
+impl<B: Asked> Play<(), View> for Stores<B> {
+    ghost then = { stored B.asked B.tries };
+}
+
+/// A new reader.
+pub struct Enters;
+
+impl Play<(), View> for Enters {
+    ghost then = { entered };
+}
+
+/// The first seat of a view is cut off.
+pub struct Deal;
+
+impl Split<View> for Deal {
+    ghost left = { others };
+
+    ghost right = { foremost };
+}

@@ -1,0 +1,12 @@
+mod RingLemmas
+mod SwapLemmas
+mod MoveLemmas
+mod KeepLemmas
+mod MovedLemmas
+mod HomeLemmas
+mod LostLemmas
+mod JoinLemmas
+mod HeldLemmas
+mod PublishLemmas
+mod AddLemmas
+mod OpenLemmas

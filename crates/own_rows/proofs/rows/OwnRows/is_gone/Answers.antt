@@ -1,0 +1,1 @@
+-- It is gone where it was lost in this sweep.
