@@ -65,15 +65,16 @@ module _ (service : Service) (served : Served) (batch : Batch) (is : IsServed se
   told_then before = ap (with_counts before)
       (told.answered ∙ sym (map-map (λ (log : List Record). length log) records_in served.logs))
 
-  -- what holds of the calls that were asked holds of those that are told
-  pub told_calls : (P : Call → Type 0) → All (λ (call : ℕ × Call). P call.1) served.calls →
-      All (λ (o : ℕ × Outcome). P (call_in o.1)) served.outcomes
-  told_calls P all =
-      let Q : ℕ × Call → Type 0 = λ (call : ℕ × Call). P call.1 in
-      All-weaker (λ (o : ℕ × Outcome). P (asked_in o.1).1) (λ (o : ℕ × Outcome). P (call_in o.1))
-      (λ o. same_call o.1) served.outcomes
-      (unmap_all Q (λ (o : ℕ × Outcome). asked_in o.1) served.outcomes (subst (All Q) (sym is.outcomes.asked) all))
-    where
-      same_call : (o : Outcome) → P (asked_in o).1 → P (call_in o)
-      same_call (Answered made) p = p
-      same_call (Refused packet call full) p = p
+-- what holds of the calls that were asked holds of those that are told
+pub told_calls : (P : Call → Type 0) (calls : List (ℕ × Call)) (outcomes : List (ℕ × Outcome)) →
+    map (λ (o : ℕ × Outcome). asked_in o.1) outcomes ≡ calls → All (λ (call : ℕ × Call). P call.1) calls →
+    All (λ (o : ℕ × Outcome). P (call_in o.1)) outcomes
+told_calls P calls outcomes asked all =
+    let Q : ℕ × Call → Type 0 = λ (call : ℕ × Call). P call.1 in
+    All-weaker (λ (o : ℕ × Outcome). P (asked_in o.1).1) (λ (o : ℕ × Outcome). P (call_in o.1))
+    (λ o. same_call o.1) outcomes
+    (unmap_all Q (λ (o : ℕ × Outcome). asked_in o.1) outcomes (subst (All Q) (sym asked) all))
+  where
+    same_call : (o : Outcome) → P (asked_in o).1 → P (call_in o)
+    same_call (Answered made) p = p
+    same_call (Refused packet call full) p = p

@@ -1,5 +1,5 @@
 -- The workers of a table, as they are made and taken apart.
-use Rattle.std.proofs.Common.{◌≡◌, ℕ, zero, suc, ◌<◌, ◌≤◌, ◌+◌, ◌^◌, List, [], ◌∷◌, ◌++◌, Some, length, map, take, drop, reverse, refl, sym, ap, ◌∙◌, subst, vec_len, Vec, Global, arith, append_assoc, append-nil}
+use Rattle.std.proofs.Common.{◌≡◌, ℕ, zero, suc, ◌<◌, ◌+◌, ◌^◌, List, [], ◌∷◌, ◌++◌, Some, length, map, take, drop, reverse, refl, sym, ap, ◌∙◌, subst, vec_len, Vec, Global, arith, append_assoc, append-nil}
 use Rattle.std.specs.Prelude.{All}
 use Rattle.std.specs.List.{AllZip}
 use Rattle.std.proofs.lemmas.List.{reverse-append}
@@ -16,9 +16,7 @@ use Rattle.shared_table.specs.SeatValues.{SeatValue}
 use Rattle.shared_table.specs.declared.caller.Caller.{Caller}
 use Rattle.shared_table.specs.Values.{IsSame, TableValue, new_seat, new_seats}
 use Rattle.trace_share.specs.declared.outcome.Outcome.{Outcome}
-use Rattle.trace_share.specs.declared.workers.Worker.{Worker}
 use Rattle.trace_share.specs.Outcomes.{ComesTo, RefusedByRoom, records_in}
-use Rattle.trace_share.specs.Work.{IsReady, IsDone}
 use Rattle.list_laws.proofs.Cuts.{whole_slice}
 use Rattle.batch_runner.specs.declared.workers.SeatWorker.{SeatWorker}
 use Rattle.batch_runner.specs.Seats.{AreFresh, AreThrough, HasMade, HasWorked, HaveMade, IsFresh, IsThrough, MayWork, answered_by, needed_by, ranges_of, spent_by}
@@ -115,38 +113,22 @@ module _ {K : Type 0} (holds : K → List Outcome → Type 0) (room : K → ℕ)
       })
       (all_ready t (suc n) shares ws (All-tail IsShort share shares short) f.1)
 
-  -- the worker that a seat becomes is ready
-  pub ready_there : (t : TableValue) (w : SeatWorker K) (v : Worker Caller K) → (may : MayWork holds room t w) →
-      v.server.seat ≡ may.own → v.calls ≡ w.calls → v.kept ≡ w.kept → IsReady answered holds room v
-  ready_there t w v may seat calls kept = record {
-    none = subst (λ (k : K). holds k []) (sym kept) may.none;
-    room_left = subst (λ (k : K). vec_len v.calls ≤ room k) (sym kept)
-        (subst (λ (c : Vec (ℕ × Call) Global). vec_len c ≤ room w.kept) (sym calls) may.room_left);
-    askable = subst (λ (c : Vec (ℕ × Call) Global). All (λ (call : ℕ × Call). IsAskable call.1) c.items) (sym calls)
-        may.askable;
-    countable = subst (λ (s : SeatValue). length (answered_by s) + vec_len v.calls < 2 ^ 32) (sym seat)
-        (subst (λ (c : Vec (ℕ × Call) Global). length (answered_by may.own) + vec_len c < 2 ^ 32) (sym calls)
-        may.countable);
-  }
-
-  -- and when it is done, so has the seat
-  pub worked_there : (w x : SeatWorker K) (v u : Worker Caller K) (own after : SeatValue) → w.seat ≡ Some own →
-      v.server.seat ≡ own → v.calls ≡ w.calls → u.server.seat ≡ after → x.seat ≡ Some after → x.kept ≡ u.kept →
-      IsDone answered spent rows need stays holds v u → HasWorked holds w x
-  worked_there w x v u own after had seat calls seat_then has kept d = record {
+  -- when its caller has made the calls, it has worked
+  pub worked_there : (w x : SeatWorker K) (was now : Caller) (own : SeatValue) → w.seat ≡ Some own → was.seat ≡ own →
+      x.seat ≡ Some now.seat → (log : List Outcome) → holds x.kept log → (calls : List (ℕ × Call)) →
+      calls ≡ w.calls.items → ComesTo answered spent rows need stays calls log was now → HasWorked holds w x
+  worked_there w x was now own had seat has log kept calls same c = record {
     before = own;
-    after = after;
+    after = now.seat;
     had = had;
     has = has;
-    log = d.log;
-    kept = subst (λ (k : K). holds k d.log) (sym kept) d.kept;
-    came_to = subst (λ (b : SeatValue).
-        ComesTo answered_by spent_by ranges_of needed_by IsSame w.calls.items d.log own b) seat_then
-        (subst (λ (a : SeatValue).
-        ComesTo answered_by spent_by ranges_of needed_by IsSame w.calls.items d.log a u.server.seat) seat
-        (subst (λ (c : Vec (ℕ × Call) Global).
-        ComesTo answered_by spent_by ranges_of needed_by IsSame c.items d.log v.server.seat u.server.seat) calls
-        (by_seat v.calls.items d.log v.server u.server d.came_to)));
+    log = log;
+    kept = kept;
+    came_to = subst (λ (a : SeatValue).
+        ComesTo answered_by spent_by ranges_of needed_by IsSame w.calls.items log a now.seat) seat
+        (subst (λ (cs : List (ℕ × Call)).
+        ComesTo answered_by spent_by ranges_of needed_by IsSame cs log was.seat now.seat) same
+        (by_seat calls log was now c));
   }
 
   -- one that has worked has made its calls

@@ -3,8 +3,6 @@ use Rattle.std.specs.Prelude.{◌≡◌, ℕ, ◌≤◌, All, List, [], length, 
 use Rattle.std.specs.Borrow.{Bor}
 use Rattle.plain_map.specs.declared.calls.Call.{Call}
 use Rattle.plain_map.specs.declared.keys.Pair.{Pair}
-use Rattle.plain_map.specs.declared.records.CallId.{CallId}
-use Rattle.plain_map.specs.History.{ids_of}
 use Rattle.table_model.specs.Closed.{closed_depth}
 use Rattle.table_model.specs.Closing.{IsOfARun}
 use Rattle.shared_table.specs.Values.{ClosedValue}
@@ -14,7 +12,7 @@ use Rattle.batch_rows.specs.Depths.{IsTableFor}
 use Rattle.batch_deals.specs.declared.service.Service.{Service}
 use Rattle.batch_runner.specs.declared.batch.Batch.{Batch}
 use Rattle.batch_runner.specs.Totals.{totals_of}
-use Rattle.batch_runner.specs.Served.{AreInPacketOrder, IsOfRun, IsServed, Served, depth_in, leaves_in, order_in, setup_in}
+use Rattle.batch_runner.specs.Served.{AreInPacketOrder, IsOfRun, IsServed, Served, depth_in, leaves_in, setup_in}
 use Rattle.batch_deals.specs.Opens.{CanOpen, rules_of}
 use Rattle.batch_deals.specs.Dealt.{shares_of}
 
@@ -25,10 +23,6 @@ pub record IsToldBy (service : Service) (served : Served) (batch : Batch) : Type
   pub pairs : batch.pairs.items ≡ served.pairs
   pub leaves : batch.leaves ≡ length (leaves_in service served)
   pub depth : batch.depth ≡ depth_in service served
-
--- this is the order of its answered calls
-abbrev pub IsOrderOf : Service → Served → List CallId → Type 0
-IsOrderOf service served order = order ≡ ids_of (order_in service served)
 
 -- the table of a batch is closed, with these settings and words, and the calls of its seats came to these logs
 pub record IsClosedBatch (service : Service) (first : List Pair) (calls : List (ℕ × Call)) (closed : ClosedValue)

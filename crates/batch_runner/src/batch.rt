@@ -1,15 +1,12 @@
 //! One batch.
 
-ghost use Rattle.std.specs.Prelude.{◌≡◌, ◌^◌, ◌<◌, ◌≤◌, ◌++◌, All, IfOk, List, OnErr, length, map, vec_len};
+ghost use Rattle.std.specs.Prelude.{◌≡◌, ◌^◌, ◌<◌, ◌≤◌, All, IfOk, List, length, map, vec_len};
 ghost use Rattle.std.specs.List.{AllZip};
 ghost use Rattle.std.specs.Option.{ForSome};
-ghost use Rattle.plain_map.specs.Calls.{key_in};
 ghost use Rattle.plain_map.specs.Serving.{IsAskable};
-ghost use Rattle.key_texts.specs.FlowText.{HasText};
 ghost use Rattle.word_rows.specs.Shape.{AreBelow};
 ghost use Rattle.table_model.specs.Setup.{settings_of};
 ghost use Rattle.shared_table.specs.Values.{new_seats};
-ghost use Rattle.report_text.specs.Report.{batch_lines};
 ghost use Rattle.trace_share.specs.declared.outcome.Outcome.{Outcome as AnOutcome};
 ghost use Rattle.trace_share.specs.Work.{IsLogOf, room_in};
 ghost use Rattle.batch_rows.specs.Demands.{IsDemandOf};
@@ -18,26 +15,21 @@ ghost use Rattle.batch_rows.specs.declared.rows.TheConstants.{CALL_LIMIT};
 ghost use Rattle.batch_deals.specs.Opens.{CanOpen, rules_of};
 ghost use Rattle.batch_runner.specs.Served.{IsServed, Served, setup_in};
 ghost use Rattle.batch_deals.specs.Dealt.{shares_of};
-ghost use Rattle.batch_runner.specs.Printed.{lines_of};
 ghost use Rattle.batch_runner.specs.Opened.{IsOpened, IsWorked};
 ghost use Rattle.batch_runner.specs.Seats.{MayWork};
-ghost use Rattle.batch_runner.specs.Told.{CanGoOn, HasOutcomes, IsClosedBatch, IsOrderOf, IsToldBy};
+ghost use Rattle.batch_runner.specs.Told.{CanGoOn, HasOutcomes, IsClosedBatch, IsToldBy};
 ghost use Rattle.batch_runner.specs.Totals.{IsTotalOf, room_of};
 
-use crate::ordering::order_in;
-use crate::outcomes::{counts_of, outcomes_of};
-use crate::text::{Printed, put_lines};
+use crate::outcomes::counts_of;
 use crate::totals::{Totals, totals_in};
 use crate::workers::{SeatWorker, take_apart, workers_of};
 use crate::workspace::Workspace;
-use batch_deals::{Dealt, Service, deal_batch};
+use batch_deals::Service;
 use batch_rows::{Demand, sizes_for};
-use edge_traits::Gate;
-use plain_map::{Call, CallId, MOST_SEATS, OpenFault, Pair};
+use plain_map::{Call, OpenFault, Pair};
 use shared_table::{ClosedTable, Directory, Seat, order_laws};
 use std::alloc::{AllocError, Global};
-use std::thread::Threads;
-use trace_share::{Collector, Outcome, serve_on};
+use trace_share::{Collector, Outcome};
 
 /// What a batch is asked, and how it is served.
 #[derive(Clone, Copy)]
@@ -70,16 +62,6 @@ pub struct Batch {
     pub leaves: u64,
     /// The depth of its directory.
     pub depth: u32,
-}
-
-/// What a batch came to, call by call.
-#[derive(Drop)]
-pub struct Account {
-    pub batch: Batch,
-    /// What each seat's calls came to, seat 0 first, each seat's in their order.
-    pub logs: Vec<Vec<Outcome>>,
-    /// The one order of the answered calls.
-    pub order: Vec<CallId>,
 }
 
 /// Opens a table with the pairs of a batch whose calls are dealt already, and of which it is told what they ask of the
@@ -116,55 +98,34 @@ pub fn open_batch<K: Collector>(
     Ok(OpenBatch { directory, workers })
 }
 
-/// Closes the table of a batch whose workers have made their calls, and tells what it came to; appends the lines of the
-/// calls and of their one order.
-///
-/// `before` has how many calls each seat had answered before. Where there are several seats, the lines of the calls are
-/// written in a thread of their own while the order is made; where no thread can be made, the caller's does both. The
-/// only error is want of memory, after which the text is what it was. What is left can open the next batch.
-pub fn close_printed<R: Threads>(
-    rt: &R,
+/// Closes the table of a batch whose workers have made their calls and kept a log of them. Gives the closed table, the
+/// logs, seat 0 first, and what the batch came to. The only error is want of memory. What is left can open the next
+/// batch.
+pub fn close_logged(
     alloc: Global,
     asked: &Asked,
-    workspace: &mut Workspace,
     begun: OpenBatch<Vec<Outcome>>,
-    before: &[u32; MOST_SEATS],
-    out: &mut Vec<u8>,
-) -> Result<Batch, AllocError>
+) -> Result<(ClosedTable, Vec<Vec<Outcome>>, Batch), AllocError>
     requires few { length asked.now.calls.now < CALL_LIMIT }
-    requires texts { All (λ call. HasText (key_in call.1)) asked.now.calls.now }
     requires worked { IsWorked IsLogOf room_in asked.now.service.now asked.now.first.now asked.now.calls.now
         begun.directory begun.workers.items }
-    ensures served { IfOk result (λ batch. (served : Served) × (served.first ≡ asked.now.first.now)
-        × (served.calls ≡ asked.now.calls.now) × IsServed asked.now.service.now served
-        × IsToldBy asked.now.service.now served batch × (out.new.items ≡ out.old.items
-        ++ batch_lines asked.now.service.now.settings.seats (lines_of asked.now.service.now before.now served))) }
-    ensures goes_on { IfOk result (CanGoOn asked.now.service.now asked.now.calls.now) }
-    ensures kept { OnErr result (out.new.items ≡ out.old.items) }
+    ensures closed { IfOk result (λ done. IsClosedBatch asked.now.service.now asked.now.first.now asked.now.calls.now
+        done.0 (map (λ log. log.items) done.1.items)) }
+    ensures told { IfOk result (λ done. HasOutcomes asked.now.service.now asked.now.first.now asked.now.calls.now
+        (map (λ log. log.items) done.1.items) done.0 done.2) }
+    ensures goes_on { IfOk result (λ done. CanGoOn asked.now.service.now asked.now.calls.now done.2) }
 {
-    let (closed, logs, batch) = logged_batch(alloc, asked, begun)?;
-    let service = asked.service;
-    let outcomes = outcomes_of(
+    let (closed, logs) = close_batch::<Vec<Outcome>>(alloc, asked, begun)?;
+    let totals = totals_in(alloc, &logs)?;
+    let batch = told(
         alloc,
-        service.share,
-        service.settings.seats,
+        asked.service,
+        asked.first,
         asked.calls,
-        &logs,
+        &closed,
+        &totals,
     )?;
-    let start = out.len();
-    let printed = Printed {
-        closed: &closed,
-        logs: &logs,
-        seats: service.settings.seats,
-        before,
-        outcomes: &outcomes,
-    };
-    if let Err(failed) = put_lines(rt, alloc, &mut workspace.tables, &printed, out) {
-        out.truncate(start);
-        return Err(failed);
-    }
-    workspace.blank.keep(closed);
-    Ok(batch)
+    Ok((closed, logs, batch))
 }
 
 /// Closes the table of a batch whose workers have made their calls and kept no more than what these came to, and tells
@@ -194,76 +155,6 @@ pub fn close_counted(
     )?;
     workspace.blank.keep(closed);
     Ok(batch)
-}
-
-/// Serves a batch without lines: opens its table, lets the seats make the calls that are dealt to them, in threads of
-/// their own, and closes it. What each call came to, and the order, come beside what the batch came to.
-///
-/// The gate is passed before each call and told of each answer. The only error is want of memory.
-pub fn serve_batch<R: Threads + Sync, G: Gate + Sync>(
-    rt: &R,
-    alloc: Global,
-    service: &Service,
-    workspace: &mut Workspace,
-    first: &[Pair],
-    calls: &[(u32, Call)],
-    gate: &G,
-) -> Result<Account, AllocError>
-    requires given { ForSome service.now.rows (AreBelow (2 ^ 32)) }
-    requires few { length calls.now < CALL_LIMIT }
-    requires askable { All (λ call. IsAskable call.1) calls.now }
-    requires opens { CanOpen (rules_of service.now) first.now }
-    ensures served { IfOk result (λ account. (served : Served) × (served.first ≡ first.now)
-        × (served.calls ≡ calls.now) × IsServed service.now served × IsToldBy service.now served account.batch
-        × (map (λ log. log.items) account.logs.items ≡ served.logs)
-        × IsOrderOf service.now served account.order.items) }
-    ensures goes_on { IfOk result (λ account. CanGoOn service.now calls.now account.batch) }
-{
-    let asked = Asked {
-        service,
-        first,
-        calls,
-    };
-    let Dealt { shares, demand } = deal_batch(alloc, service, calls)?;
-    let mut begun = open_batch::<Vec<Outcome>>(alloc, &asked, workspace, shares, &demand)?;
-    serve_on(
-        rt,
-        &begun.directory,
-        begun.workers.as_mut_slice(),
-        gate,
-        &mut || {},
-    );
-    let (closed, logs, batch) = logged_batch(alloc, &asked, begun)?;
-    let order = order_in(alloc, &mut workspace.tables, &closed, &logs)?;
-    workspace.blank.keep(closed);
-    Ok(Account { batch, logs, order })
-}
-
-// Closes a batch of which the log of each seat is kept: the closed table, the logs, and what the batch came to.
-fn logged_batch(
-    alloc: Global,
-    asked: &Asked,
-    begun: OpenBatch<Vec<Outcome>>,
-) -> Result<(ClosedTable, Vec<Vec<Outcome>>, Batch), AllocError>
-    requires few { length asked.now.calls.now < CALL_LIMIT }
-    requires worked { IsWorked IsLogOf room_in asked.now.service.now asked.now.first.now asked.now.calls.now
-        begun.directory begun.workers.items }
-    ensures closed { IfOk result (λ done. IsClosedBatch asked.now.service.now asked.now.first.now asked.now.calls.now
-        done.0 (map (λ log. log.items) done.1.items)) }
-    ensures told { IfOk result (λ done. HasOutcomes asked.now.service.now asked.now.first.now asked.now.calls.now
-        (map (λ log. log.items) done.1.items) done.0 done.2) }
-{
-    let (closed, logs) = close_batch::<Vec<Outcome>>(alloc, asked, begun)?;
-    let totals = totals_in(alloc, &logs)?;
-    let batch = told(
-        alloc,
-        asked.service,
-        asked.first,
-        asked.calls,
-        &closed,
-        &totals,
-    )?;
-    Ok((closed, logs, batch))
 }
 
 // Closes the table of a batch whose workers have made their calls; with what was kept of each

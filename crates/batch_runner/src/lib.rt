@@ -11,11 +11,10 @@ mod totals;
 mod workers;
 mod workspace;
 
-pub use batch::{
-    Account, Asked, Batch, OpenBatch, close_counted, close_printed, open_batch, serve_batch,
-};
+pub use batch::{Asked, Batch, OpenBatch, close_counted, close_logged, open_batch};
 pub use counts::go_on;
 pub use laws::served_laws;
+pub use text::{Untold, lines_text};
 pub use totals::{Replies, Totals};
 pub use workers::SeatWorker;
 pub use workspace::Workspace;

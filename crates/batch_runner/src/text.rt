@@ -8,20 +8,79 @@ ghost use Rattle.table_model.specs.Order.{order_of};
 ghost use Rattle.table_model.specs.Closing.{IsOfARun, closing_with};
 ghost use Rattle.trace_share.specs.Outcomes.{records_in};
 ghost use Rattle.report_text.specs.Report.{call_in, order_lines, outcome_line};
-ghost use Rattle.batch_runner.specs.Printed.{outcome_on};
+ghost use Rattle.batch_runner.specs.Printed.{AreLines, CanBeTold, outcome_on};
 
 use crate::ordering::order_in;
+use crate::outcomes::outcomes_of;
+use crate::workspace::Workspace;
+use batch_deals::Service;
 use history_order::Tables;
-use plain_map::{CallId, MOST_SEATS};
+use plain_map::{Call, CallId, MOST_SEATS};
 use report_text::{Line, order_text, outcome_text};
 use shared_table::ClosedTable;
 use std::alloc::{AllocError, Global};
 use std::thread::{Threads, join_mut};
 use trace_share::Outcome;
 
-/// What the lines of a batch are written from.
+/// A batch that is closed, of which no line is written yet.
 #[derive(Clone, Copy)]
-pub(crate) struct Printed<'a> {
+pub struct Untold<'a> {
+    pub service: &'a Service,
+    /// Its calls, each with the packet that it came from.
+    pub calls: &'a [(u32, Call)],
+    /// How many calls each seat had answered before.
+    pub before: &'a [u32; MOST_SEATS],
+    pub closed: &'a ClosedTable,
+    /// What each seat's calls came to, seat 0 first.
+    pub logs: &'a [Vec<Outcome>],
+}
+
+/// Appends the lines of the calls of a batch, and of their one order.
+///
+/// Where there are several seats, the lines of the calls are written in a thread of their own while the order is made;
+/// where no thread can be made, the caller's does both. The only error is want of memory, after which the text is what
+/// it was.
+pub fn lines_text<R: Threads>(
+    rt: &R,
+    alloc: Global,
+    workspace: &mut Workspace,
+    untold: &Untold,
+    out: &mut Vec<u8>,
+) -> Result<(), AllocError>
+    requires { CanBeTold untold.now.service.now untold.now.calls.now untold.now.closed.now
+        (map (λ log. log.items) untold.now.logs.now) }
+    ensures told { OnOk result ((lines : List ℕ) × AreLines untold.now.service.now untold.now.before.now
+        untold.now.calls.now untold.now.closed.now (map (λ log. log.items) untold.now.logs.now) lines
+        × (out.new.items ≡ out.old.items ++ lines)) }
+    ensures kept { OnErr result (out.new.items ≡ out.old.items) }
+{
+    let Untold {
+        service,
+        calls,
+        before,
+        closed,
+        logs,
+    } = *untold;
+    let seats = service.settings.seats;
+    let outcomes = outcomes_of(alloc, service.share, seats, calls, logs)?;
+    let start = out.len();
+    let printed = Printed {
+        closed,
+        logs,
+        seats,
+        before,
+        outcomes: &outcomes,
+    };
+    if let Err(failed) = put_lines(rt, alloc, &mut workspace.tables, &printed, out) {
+        out.truncate(start);
+        return Err(failed);
+    }
+    Ok(())
+}
+
+// What the lines of a batch are written from.
+#[derive(Clone, Copy)]
+struct Printed<'a> {
     pub closed: &'a ClosedTable,
     /// What each seat's calls came to, seat 0 first.
     pub logs: &'a [Vec<Outcome>],
@@ -33,11 +92,11 @@ pub(crate) struct Printed<'a> {
     pub outcomes: &'a [(u32, &'a Outcome)],
 }
 
-/// Appends the lines of the calls, and of the order of the logs. After want of memory some may stand there.
-///
-/// Where there are several seats, a thread of its own writes the lines of the calls while this one makes the order. It
-/// asks for memory only where the text has no room left. For one seat a second thread costs more than it saves.
-pub(crate) fn put_lines<R: Threads>(
+// Appends the lines of the calls, and of the order of the logs. After want of memory some may stand there.
+//
+// Where there are several seats, a thread of its own writes the lines of the calls while this one makes the order. It
+// asks for memory only where the text has no room left. For one seat a second thread costs more than it saves.
+fn put_lines<R: Threads>(
     rt: &R,
     alloc: Global,
     tables: &mut Tables,

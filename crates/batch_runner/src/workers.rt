@@ -12,7 +12,7 @@ use plain_map::Call;
 use shared_table::{Caller, Directory, Seat};
 use std::alloc::{AllocError, Global};
 use std::mem;
-use trace_share::{Collector, Worker, Works, WorksOn};
+use trace_share::{Collector, WorksOn, make_calls};
 
 /// A seat of a table, with the calls that it is to make, and what is kept of how they ended.
 #[derive(Drop)]
@@ -30,24 +30,17 @@ impl<K: Collector> WorksOn<Directory> for SeatWorker<K> {
 
     ghost done = { λ _ was now. HasWorked K.holds was now };
 
+    // What is kept is taken out of the worker meanwhile: it is written at each call, and the worker that lies beside
+    // this one would else lose that part of memory each time.
     fn work_on<G: Gate>(&mut self, on: &Directory, seat: u32, gate: &G) {
         let Some(own) = self.seat.take() else {
             unreachable!()
         };
-        let alloc = *self.calls.allocator();
-        let mut worker = Worker {
-            server: Caller::new(own, on),
-            calls: mem::replace(&mut self.calls, Vec::new(alloc)),
-            kept: mem::replace(&mut self.kept, K::empty(alloc)),
-        };
-        worker.work(seat, gate);
-        let Worker {
-            server,
-            calls,
-            kept,
-        } = worker;
-        self.seat = Some(server.into_seat());
-        self.calls = calls;
+        let none = K::empty(*self.calls.allocator());
+        let mut kept = mem::replace(&mut self.kept, none);
+        let mut caller = Caller::new(own, on);
+        make_calls(&mut caller, self.calls.as_slice(), &mut kept, seat, gate);
+        self.seat = Some(caller.into_seat());
         self.kept = kept;
     }
 }

@@ -1,7 +1,7 @@
 //! What is kept from one batch to the next, so that a batch takes little memory anew.
 
 use history_order::Tables;
-use shared_table::Blank;
+use shared_table::{Blank, ClosedTable};
 use std::alloc::Global;
 
 /// Memory that batches use, one after the other. What it holds between them tells nothing.
@@ -36,6 +36,11 @@ impl Workspace {
             blank,
             tables: Tables::new(alloc),
         }
+    }
+
+    /// Takes a closed table of which nothing more is wanted, so that its words serve the next one.
+    pub fn keep(&mut self, closed: ClosedTable) {
+        self.blank.keep(closed);
     }
 }
 

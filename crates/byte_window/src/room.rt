@@ -4,14 +4,11 @@ ghost use Rattle.std.specs.Prelude.{◌≡◌, ◌≤◌, ◌+◌, ◌-◌, take
 
 use crate::window::{CAPACITY, MOST_HELD, PIECE};
 
-/// So many bytes of the buffer are used at first. The memory behind them is touched by and by, and hardly where an
-/// input is short.
+/// So many bytes of the buffer are used at first. The memory behind them is touched only where an input is long.
 pub const FIRST_LENGTH: usize = 2 * PIECE;
-// And so many more each time that there is no room for a piece in what is used.
-const GROWTH: usize = PIECE / 8;
 
 /// Moves the bytes from `start` to `end` to the front where there is no room for a piece behind
-/// them, and answers where they begin and end now. Then some more of the buffer is used from now on.
+/// them, and answers where they begin and end now. Then twice as much of the buffer is used from now on.
 pub fn make_room(buf: &mut Vec<u8>, start: usize, end: usize) -> (usize, usize)
     requires capacity { CAPACITY ≤ vec_capacity buf.old }
     requires few_used { vec_len buf.old ≤ CAPACITY }
@@ -32,7 +29,7 @@ pub fn make_room(buf: &mut Vec<u8>, start: usize, end: usize) -> (usize, usize)
     (0, end - start)
 }
 
-/// Uses some more of the buffer, and at least so much, where it has more. It takes no memory.
+/// Uses twice as much of the buffer, and at least so much, where it has more. It takes no memory.
 fn use_more(buf: &mut Vec<u8>, least: usize)
     requires capacity { CAPACITY ≤ vec_capacity buf.old }
     requires few_used { vec_len buf.old ≤ CAPACITY }
@@ -43,7 +40,7 @@ fn use_more(buf: &mut Vec<u8>, least: usize)
     ensures more { vec_len buf.old ≤ vec_len buf.new }
     ensures bytes { take (vec_len buf.old) buf.new.items ≡ buf.old.items }
 {
-    let length = CAPACITY.min(buf.len() + GROWTH).max(least);
+    let length = CAPACITY.min(2 * buf.len()).max(least);
     let Ok(()) = buf.resize(length, 0u8) else {
         unreachable!()
     };

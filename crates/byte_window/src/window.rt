@@ -15,9 +15,9 @@ use std::marker::Model;
 
 /// The least piece that a source is asked for, in bytes.
 pub const PIECE: usize = 65_536;
-/// The size of the buffer in bytes. The longest record of a savefile and a piece behind it have room, and so have
-/// more bytes, so that few are moved.
-pub const CAPACITY: usize = 524_288;
+/// The size of the buffer in bytes. It holds many batches of packets, so that one can be taken while another is served.
+/// The longest record of a savefile and a piece behind it have room.
+pub const CAPACITY: usize = 4_194_304;
 /// The most bytes behind which there is room for a piece.
 pub const MOST_HELD: usize = CAPACITY - PIECE;
 

@@ -265,26 +265,6 @@ module _ (size : ℕ) (lines : Lines) (report : Reports) (can_end : Ending → T
           );
         }
 
-  -- a run that stops for want of memory
-  pub leaves_memory : (result : Result Ending Stop) →
-      IsErr result × IsErrAnd result (λ (stop : Stop). stop ≡ Memory) →
-      LoopLeavesAll size lines report can_end link first left before after (Err Memory) →
-      LoopLeavesAll size lines report can_end link first left before after result
-  leaves_memory (Ok ending) is leaves = absurd (cc)
-  leaves_memory (Err stop) is leaves =
-      subst (λ (s : Stop). LoopLeavesAll size lines report can_end link first left before after (Err s)) (sym is.1)
-      leaves
-
-  -- and one that stops since a write failed
-  pub leaves_not_put : (result : Result Ending Stop) →
-      IsErr result × IsErrAnd result (λ (stop : Stop). stop ≡ NotPut) →
-      LoopLeavesAll size lines report can_end link first left before after (Err NotPut) →
-      LoopLeavesAll size lines report can_end link first left before after result
-  leaves_not_put (Ok ending) is leaves = absurd (cc)
-  leaves_not_put (Err stop) is leaves =
-      subst (λ (s : Stop). LoopLeavesAll size lines report can_end link first left before after (Err s)) (sym is.1)
-      leaves
-
   -- a run that stops leaves what it leaves where a write failed, and where memory ran out
   pub leaves_stop : (stop : Stop) (A B : Type 0) →
       OnNotPut {T = Unit {0}} (Err stop) A → OnMemory {T = Unit {0}} (Err stop) B →

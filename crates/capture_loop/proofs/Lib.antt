@@ -3,3 +3,4 @@ pub mod LoopLemmas
 pub mod PacketLemmas
 pub mod ReadingLemmas
 pub mod ServingLemmas
+pub mod StandingLemmas

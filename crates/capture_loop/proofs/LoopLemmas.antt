@@ -1,6 +1,8 @@
 -- What the last lines, and a batch that could not be served or put, make of what a run leaves.
-use Rattle.std.proofs.Common.{◌≡◌, ◌<◌, ◌≤◌, ◌+◌, ◌⊎◌, ℕ, List, [], ◌∷◌, ◌++◌, length, Option, Some, None, MatchOption, IfNone, IfOk, Result, Ok, Err, inl, inr, refl, sym, ap, subst, ◌∙◌, append_assoc, length-append, arith}
-use Rattle.std.specs.List.{flat_map}
+use Rattle.std.proofs.Common.{◌≡◌, ◌<◌, ◌≤◌, ◌+◌, ◌⊎◌, ℕ, List, [], ◌∷◌, ◌++◌, length, Option, Some, None, MatchOption, IfNone, IfOk, Result, Ok, Err, inl, inr, refl, sym, ap, subst, ◌∙◌, append_assoc, length-append, take, drop, arith}
+use Rattle.std.specs.List.{AllZip, flat_map}
+use Rattle.std.proofs.lemmas.List.Elements.{length_all_zip}
+use Rattle.list_laws.proofs.Cuts.{whole_slice}
 use Rattle.std.specs.Io.KnownBytes.{Appends}
 use Rattle.std.proofs.KnownBytes.{Appends-trans}
 use Rattle.edge_traits.specs.Edge.{AppendsFront}
@@ -144,28 +146,6 @@ at_start size served link first before now held done put =
       put = put;
     }
 
--- one whole batch more
-pub Stands-more : (size : ℕ) (served served_then : List (List (List ℕ)) → List ℕ → Type 0) (link : ℕ)
-    (first left : Option (List ℕ))
-    (reading : Reading) (many more : ℕ) (all last : List (List ℕ)) (before mid after : Option (List ℕ))
-    (held held_then lines : List ℕ) → (stands : Stands size served link first many all before mid held) →
-    HaveCome link first left reading (all ++ last) → length last ≡ more → more ≡ size → many + more ≤ packet_limit →
-    served_then (stands.batches ++ last ∷ []) (stands.text ++ lines) →
-    HasPut before after held_then (stands.text ++ lines) →
-    Stands size served_then link first (many + more) (all ++ last) before after held_then
-Stands-more size served served_then link first left reading many more all last before mid after held held_then lines
-    stands come long whole few done put =
-    let count : length (all ++ last) ≡ many + more = omega (arith, length-append all last, stands.count, long) in
-    record {
-      batches = stands.batches ++ last ∷ [];
-      text = stands.text ++ lines;
-      count = count;
-      firsts = HaveFirst-come link first left reading (all ++ last) (omega (arith, count, few)) come;
-      whole = AreWhole-more size all last stands.batches stands.whole (long ∙ whole);
-      done = done;
-      put = put;
-    }
-
 -- no read has failed where the input goes on
 pub none_failed : (ending : Option Ending) (before after : ℕ) → ending ≡ None → HasFailed ending before after →
     after ≡ before
@@ -198,3 +178,12 @@ Marks-none (Ok (Done rest)) ending old P same none = refl
 Marks-none (Ok ReadFault) ending old P same none = refl
 Marks-none (Ok (Fault found)) ending old P same none = refl
 Marks-none (Err stop) ending old P same none = refl
+
+-- ---- workers
+
+-- what holds of workers in a slice, and of those that it leaves, holds of those in the whole
+pub all_zip_slice : {A : Type 0} (R : A → A → Type 0) (slice ws vs : List A) (n : ℕ) → slice ≡ ws → n ≡ length ws →
+    AllZip R slice vs → AllZip R ws (take n (vs ++ drop (length vs) ws))
+all_zip_slice {A} R slice ws vs n same is zip =
+    let zip_there : AllZip R ws vs = subst (λ (us : List A). AllZip R us vs) same zip in
+    subst (AllZip R ws) (sym (whole_slice ws vs n is (sym (length_all_zip R ws vs zip_there)))) zip_there

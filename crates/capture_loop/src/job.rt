@@ -84,8 +84,8 @@ pub struct Opened<T: Drop, W: Drop, K: Drop> {
 
 /// A mode that goes through a capture batch by batch, by a plan.
 ///
-/// A batch is opened, its workers work, each in a thread of its own, and it is closed. The threads are no job's own,
-/// since no method of a trait can start them.
+/// A batch is opened, its workers work, each in a thread of its own, and it is closed. Then its lines are told; another
+/// batch may be open by that time. The threads are no job's own, since no method of a trait can start them.
 pub trait Job<P> {
     /// What it keeps of a batch's packets.
     type Pile: Pile;
@@ -98,6 +98,9 @@ pub trait Job<P> {
 
     /// What is kept of a batch while it is served.
     type Kept: Drop;
+
+    /// What the lines of a batch are made from, once it is closed. It stays in the thread that closed it.
+    type Closed: Drop;
 
     // The text is the head line and the lines of these batches; the text is a report of them, with this ending.
     ghost lines: { P → List (List (List ℕ)) → List ℕ → Type 0 };
@@ -115,6 +118,9 @@ pub trait Job<P> {
 
     // With these workers, on what they share, it may serve these packets, which stand behind so many.
     ghost opened: { Self → Self.Shared → List Self.Worker → Self.Kept → ℕ → List (List ℕ) → Type 0 };
+
+    // These may be told as the lines of a batch that is closed.
+    ghost tells: { Self.Closed → List ℕ → Type 0 };
 
     /// Makes ready what the packets of one batch more are served with. The only error is want of memory.
     fn open(
@@ -136,15 +142,13 @@ pub trait Job<P> {
             Self.Pile.holds pile.old before packets →
             opened self.new made.shared made.workers.items made.kept before packets) };
 
-    /// Takes apart what a batch was served with, whose workers are through, and appends its lines. The only error is
+    /// Takes apart what a batch was served with, whose workers are through. Its lines are told later. The only error is
     /// want of memory.
-    fn close<R: Threads>(
+    fn close(
         &mut self,
-        rt: &R,
         alloc: Global,
         made: Opened<Self::Shared, Self::Worker, Self::Kept>,
-        text: &mut Vec<u8>,
-    ) -> Result<(), AllocError>
+    ) -> Result<Self::Closed, AllocError>
         requires going { (started : List Self.Worker) × (before : ℕ) × (packets : List (List ℕ)) × going self.old before
             × opened self.old made.shared started made.kept before packets
             × AllZip (Self.Worker.done made.shared) started made.workers.items × (length packets ≤ MOST_BATCH)
@@ -154,12 +158,31 @@ pub trait Job<P> {
             going self.old before → opened self.old made.shared started made.kept before packets →
             AllZip (Self.Worker.done made.shared) started made.workers.items →
             going self.new (before + length packets)) }
-        ensures served { OnOk result ((plan : P) (batches : List (List (List ℕ))) (put : List ℕ)
+        ensures some { IfOk result (λ closed. (lines : List ℕ) × tells closed lines) }
+        ensures served { IfOk result (λ closed. (plan : P) (batches : List (List (List ℕ))) (put : List ℕ)
             (started : List Self.Worker) (before : ℕ) (packets : List (List ℕ)) → done self.old plan batches put →
             going self.old before → opened self.old made.shared started made.kept before packets →
-            AllZip (Self.Worker.done made.shared) started made.workers.items →
-            (lines : List ℕ) × (text.new.items ≡ text.old.items ++ lines)
-            × done self.new plan (batches ++ packets ∷ []) (put ++ lines)) };
+            AllZip (Self.Worker.done made.shared) started made.workers.items → (lines : List ℕ) →
+            tells closed lines → done self.new plan (batches ++ packets ∷ []) (put ++ lines)) };
+
+    /// Appends the lines of a batch that is closed. Another may be open meanwhile. The only error is want of memory.
+    fn tell<R: Threads>(
+        &mut self,
+        rt: &R,
+        alloc: Global,
+        closed: Self::Closed,
+        text: &mut Vec<u8>,
+    ) -> Result<(), AllocError>
+        requires some { (lines : List ℕ) × tells closed lines }
+        ensures way { OnOk result (way self.new ≡ way self.old) }
+        ensures going { OnOk result ((before : ℕ) → going self.old before → going self.new before) }
+        ensures done { OnOk result ((plan : P) (batches : List (List (List ℕ))) (put : List ℕ) →
+            done self.old plan batches put → done self.new plan batches put) }
+        ensures opened { OnOk result ((shared : Self.Shared) (workers : List Self.Worker) (kept : Self.Kept)
+            (before : ℕ) (packets : List (List ℕ)) → opened self.old shared workers kept before packets →
+            opened self.new shared workers kept before packets) }
+        ensures told { OnOk result ((lines : List ℕ) × tells closed lines
+            × (text.new.items ≡ text.old.items ++ lines)) };
 
     /// Appends the last lines. The only error is want of memory.
     fn finish(&self, packets: u32, ending: &Ending, text: &mut Vec<u8>) -> Result<(), AllocError>

@@ -1,6 +1,9 @@
-//! The loop: a batch is read, served and put before more is read.
+//! The loop: what is read is served and put before more is read.
 
-ghost use Rattle.std.specs.Prelude.{◌≡◌, ◌≤◌, ◌<◌, ◌+◌, ℕ, List, [], ◌∷◌, ◌++◌, length, false, Option, Ok, IfOk, OnOk, OnErr};
+ghost use Rattle.std.specs.Prelude.{◌≡◌, ◌≤◌, ◌<◌, ◌+◌, ℕ, List, [], ◌∷◌, ◌++◌, length, false, Option, None, MatchOption, IfNone, Ok, Err, IfOk, IfErr, OnOk, OnErr};
+ghost use Rattle.std.specs.List.{All, AllZip};
+ghost use Rattle.std.specs.Option.{ForSome};
+ghost use Rattle.std.specs.Thread.{IsSync};
 ghost use Rattle.std.specs.Io.KnownBytes.{Appends};
 ghost use Rattle.edge_traits.specs.Edge.{AppendsFront, Rose, count_after};
 ghost use Rattle.pcapng_reader.specs.Reading.{IsAtStart};
@@ -8,7 +11,7 @@ ghost use Rattle.capture_faults.specs.Endings.{IsEnding};
 ghost use Rattle.capture_loop.specs.Batches.{AreBatches};
 ghost use Rattle.capture_loop.specs.Intake.{IsTaken};
 ghost use Rattle.capture_loop.specs.Leaves.{EndsBy, IsMet, LoopLeavesAll, Marks, RunReads, RunWrites};
-ghost use Rattle.capture_loop.specs.Looping.{HasPut, OnMemory, OnNotPut, Stands};
+ghost use Rattle.capture_loop.specs.Looping.{HasPut, OnMemory, OnNotPut, Standing, Stands};
 ghost use Rattle.capture_loop.specs.Reading.{HaveCome, HaveEnded};
 ghost use Rattle.capture_loop.specs.Endings.{OnLimit};
 ghost use Rattle.capture_loop.specs.Input.{StopsAt, packet_limit};
@@ -20,16 +23,17 @@ use crate::stop::Stop;
 use capture_faults::Ending;
 use edge_traits::{Failed, Gate, Sink, Source, write_all};
 use pcapng_reader::AnyReader;
-use std::alloc::AllocError;
+use std::alloc::{AllocError, Global};
 use std::mem;
-use std::thread::Threads;
-use trace_share::serve_on;
+use std::thread::{Threads, join_mut};
+use trace_share::{WorksOn, serve_on};
 
 /// Goes through the source's packets of this link type batch by batch, as the job does, and puts its report into the
 /// sink. The text holds the head line, and the first pile is empty.
 ///
-/// While a batch is served, packets of the next one that the reader holds are taken into the other pile; the source is
-/// read only behind the lines of the batch. A read that fails is the input's end, and a write that fails ends the run.
+/// While a batch is served, the lines of the one before are told and put, and packets of the next one that the reader
+/// holds are taken into the other pile. The source is read only behind the lines of all that was served. A read that
+/// fails is the input's end, and a write that fails ends the run.
 pub fn run_job<R: Threads + Sync, S: Source, K: Sink, G: Gate + Sync, P, J: Job<P>>(
     means: &Means<R, G>,
     link: u16,
@@ -94,7 +98,19 @@ struct Last {
     ending: Ending,
 }
 
+/// The batches that are served so far.
+#[derive(Drop)]
+struct Batches<C: Drop> {
+    /// How many packets they have.
+    packets: u32,
+    /// The last of them, where none of its lines is told yet.
+    untold: Option<C>,
+}
+
 /// The same behind the head of an input.
+///
+/// Where the reader holds a whole batch, this is served while the lines of the one before are told and put. Otherwise
+/// all that was served is told and put, and then the source is read.
 fn go_through<R: Threads + Sync, S: Source, K: Sink, G: Gate + Sync, P, J: Job<P>>(
     means: &Means<R, G>,
     job: &mut J,
@@ -128,125 +144,279 @@ fn go_through<R: Threads + Sync, S: Source, K: Sink, G: Gate + Sync, P, J: Job<P
     ensures writes { RunWrites result (K.failed sink.old) (K.failed sink.new) }
     ensures counted { (S.faults source.old ≤ S.faults source.new) × (K.faults sink.old ≤ K.faults sink.new) }
 {
-    let mut packets = 0;
+    let batch = means.batch;
+    let mut so_far = Batches {
+        packets: 0,
+        untold: None,
+    };
     let mut ahead = 0;
     'batches: loop {
-        let batch = means.batch;
-        let pile = &mut piles.now;
-        let part = read_rest(reader, source, batch, packets, ahead, PACKET_LIMIT, pile)?;
-        match part.ending {
-            Some(ending) => {
+        if ahead == batch && so_far.packets + ahead < PACKET_LIMIT {
+            ahead = turn(means, job, piles, &mut so_far, reader, text, sink)?;
+        } else {
+            let written = settle(means.rt, means.alloc, job, &mut so_far.untold, text, sink)?;
+            written?;
+            let before = so_far.packets;
+            let pile = &mut piles.now;
+            let part = read_rest(reader, source, batch, before, ahead, PACKET_LIMIT, pile)?;
+            if let Some(ending) = part.ending {
                 let last = Last {
                     packets: part.packets,
                     ending,
                 };
-                return serve_last(means, job, &mut piles.now, packets, last, text, sink);
+                return serve_last(means, job, &mut piles.now, before, last, text, sink);
             }
-            None => {
-                packets += part.packets;
-                piles.next.clear(packets);
-                let pile = &mut piles.now;
-                let next = &mut piles.next;
-                let taken = serve_ahead::<R, G, P, J>(
-                    means, job, pile, text, reader, packets, next,
-                )?;
-                put(sink, text)?;
-                ahead = taken?;
-                mem::swap(&mut piles.now, &mut piles.next);
-            }
+            ahead = part.packets;
         }
     }
 }
 
-/// Serves the packets of one batch more, and appends their lines. Before the caller's thread serves it does this once,
-/// and answers what this gave. The only error is want of memory.
-fn serve<R: Threads + Sync, G: Gate + Sync, P, J: Job<P>, F: FnMut() -> A, A: Drop>(
+/// Serves the batch of the pile. Meanwhile the lines of the batch before it are told and put, where they are not yet,
+/// and what the reader holds of the next batch is taken. Answers how many packets that are.
+fn turn<R: Threads + Sync, K: Sink, G: Gate + Sync, P, J: Job<P>>(
     means: &Means<R, G>,
     job: &mut J,
-    pile: &mut J::Pile,
+    piles: &mut Piles<J::Pile>,
+    so_far: &mut Batches<J::Closed>,
+    reader: &mut AnyReader,
     text: &mut Vec<u8>,
-    beside: &mut F,
-) -> Result<A, AllocError>
-    requires going { (before : ℕ) × (packets : List (List ℕ)) × J.going job.old before
-        × J.Pile.holds pile.old before packets × (length packets ≤ MOST_BATCH)
-        × (before + length packets ≤ PACKET_LIMIT) }
-    requires way { J.Pile.way pile.old ≡ J.way job.old }
-    requires beside { F.pre beside.old }
-    ensures ways { OnOk result ((J.way job.new ≡ J.way job.old) × (J.Pile.way pile.new ≡ J.Pile.way pile.old)) }
-    ensures going { OnOk result ((before : ℕ) (packets : List (List ℕ)) → J.going job.old before →
-        J.Pile.holds pile.old before packets → J.going job.new (before + length packets)) }
-    ensures served { OnOk result ((plan : P) (batches : List (List (List ℕ))) (put : List ℕ) (before : ℕ)
-        (packets : List (List ℕ)) → J.done job.old plan batches put → J.going job.old before →
-        J.Pile.holds pile.old before packets → (lines : List ℕ) × (text.new.items ≡ text.old.items ++ lines)
-        × J.done job.new plan (batches ++ packets ∷ []) (put ++ lines)) }
-    ensures beside { IfOk result (λ made. F.step beside.old made beside.new) }
+    sink: &mut K,
+) -> Result<u32, Stop>
+    requires batch { means.now.batch ≤ MOST_BATCH }
+    requires reads { reader.old.ended ≡ false }
+    requires given { reader.old.given ≡ so_far.old.packets + means.now.batch }
+    requires few { so_far.old.packets + means.now.batch < PACKET_LIMIT }
+    requires going { J.going job.old so_far.old.packets }
+    requires piled { (packets : List (List ℕ)) × J.Pile.holds piles.old.now so_far.old.packets packets
+        × (length packets ≡ means.now.batch) }
+    requires ways { (J.Pile.way piles.old.now ≡ J.way job.old) × (J.Pile.way piles.old.next ≡ J.way job.old) }
+    requires some { ForSome so_far.old.untold (λ closed. (lines : List ℕ) × J.tells closed lines) }
+    ensures packets { OnOk result (so_far.new.packets ≡ so_far.old.packets + means.now.batch) }
+    ensures reads { OnOk result (reader.new.ended ≡ false) }
+    ensures given { IfOk result (λ ahead. reader.new.given ≡ so_far.new.packets + ahead) }
+    ensures few { IfOk result (λ ahead. (ahead ≤ means.now.batch) × (so_far.new.packets + ahead ≤ PACKET_LIMIT)) }
+    ensures going { OnOk result (J.going job.new so_far.new.packets) }
+    ensures piled { IfOk result (λ ahead. (packets : List (List ℕ))
+        × J.Pile.holds piles.new.now so_far.new.packets packets × (length packets ≡ ahead)) }
+    ensures ways { OnOk result ((J.Pile.way piles.new.now ≡ J.way job.new)
+        × (J.Pile.way piles.new.next ≡ J.way job.new)) }
+    ensures kept { piles.new.beyond ≡ piles.old.beyond }
+    ensures some { OnOk result (ForSome so_far.new.untold (λ closed. (lines : List ℕ) × J.tells closed lines)) }
+    ensures held { OnOk result (IfNone so_far.new.untold (text.new.items ≡ [])) }
+    ensures stands { IfOk result (λ ahead. (plan : P) (link : ℕ) (first left before : Option (List ℕ))
+        (all packets : List (List ℕ)) →
+        Standing means.now.batch (J.done job.old plan) (J.lines plan) J.tells so_far.old.untold link first left
+        so_far.old.packets all before (K.put sink.old) text.old.items →
+        J.Pile.holds piles.old.now so_far.old.packets packets → length packets ≡ means.now.batch →
+        HaveCome link first left reader.old (all ++ packets) → (held : List (List ℕ))
+        × Standing means.now.batch (J.done job.new plan) (J.lines plan) J.tells so_far.new.untold link first left
+        so_far.new.packets (all ++ packets) before (K.put sink.new) text.new.items
+        × J.Pile.holds piles.new.now so_far.new.packets held × (length held ≡ ahead)
+        × HaveCome link first left reader.new ((all ++ packets) ++ held)) }
+    ensures leaves { IfErr result (λ stop. (plan : P) (failed now link : ℕ)
+        (first left before : Option (List ℕ)) (all : List (List ℕ)) →
+        Standing means.now.batch (J.done job.old plan) (J.lines plan) J.tells so_far.old.untold link first left
+        so_far.old.packets all before (K.put sink.old) text.old.items →
+        LoopLeavesAll means.now.batch (J.lines plan) (J.report plan) (EndsBy failed now) link first left before
+        (K.put sink.new) (Err stop)) }
+    ensures failed { OnNotPut result (Rose (K.faults sink.old) (K.faults sink.new)) }
+    ensures writes { RunWrites result (K.failed sink.old) (K.failed sink.new) }
+    ensures counted { K.faults sink.old ≤ K.faults sink.new }
 {
+    let batch = means.batch;
+    let packets = so_far.packets + batch;
     let Opened {
         shared,
         mut workers,
         kept,
-    } = job.open(means.alloc, pile)?;
-    let made = serve_on(
-        means.rt,
+    } = job.open(means.alloc, &mut piles.now)?;
+    piles.next.clear(packets);
+    let apart = so_far.untold.is_some();
+    let untold = &mut so_far.untold;
+    let next = &mut piles.next;
+    let (told, taken) = work(
+        means,
+        apart,
         &shared,
         workers.as_mut_slice(),
-        means.gate,
-        beside,
+        &mut || -> (
+            Result<Result<(), Failed>, AllocError>,
+            Result<u32, AllocError>,
+        )
+            requires some { ForSome untold.now (λ closed. (lines : List ℕ) × J.tells closed lines) }
+            requires held { (reader.now.ended ≡ false) × (reader.now.given ≡ packets) × (packets < PACKET_LIMIT)
+                × (batch ≤ MOST_BATCH) × J.Pile.holds next.now packets [] }
+            ensures memory { OnErr result.0 ((plan : P) (failed now size link many : ℕ)
+                (first left before : Option (List ℕ)) (all : List (List ℕ)) →
+                Standing size (J.done job.entry.now plan) (J.lines plan) J.tells untold.entry.now link first left many
+                all before (K.put sink.entry.now) text.entry.now.items →
+                LoopLeavesAll size (J.lines plan) (J.report plan) (EndsBy failed now) link first left before
+                (K.put sink.exit.now) (Err Stop.Memory)) }
+            ensures front { IfOk result.0 (λ put. OnErr put ((plan : P) (failed now size link many : ℕ)
+                (first left before : Option (List ℕ)) (all : List (List ℕ)) →
+                Standing size (J.done job.entry.now plan) (J.lines plan) J.tells untold.entry.now link first left many
+                all before (K.put sink.entry.now) text.entry.now.items →
+                LoopLeavesAll size (J.lines plan) (J.report plan) (EndsBy failed now) link first left before
+                (K.put sink.exit.now) (Err Stop.NotPut))) }
+            ensures stands { IfOk result.0 (λ put. OnOk put ((plan : P) (size link many : ℕ)
+                (first left before : Option (List ℕ)) (all : List (List ℕ)) →
+                Standing size (J.done job.entry.now plan) (J.lines plan) J.tells untold.entry.now link first left many
+                all before (K.put sink.entry.now) text.entry.now.items →
+                Stands size (J.done job.exit.now plan) link first many all before (K.put sink.exit.now)
+                text.exit.now.items)) }
+            ensures job { OnOk result.0 ((J.way job.exit.now ≡ J.way job.entry.now)
+                × ((before : ℕ) → J.going job.entry.now before → J.going job.exit.now before)
+                × ((shared : J.Shared) (workers : List J.Worker) (kept : J.Kept)
+                (before : ℕ) (packets : List (List ℕ)) → J.opened job.entry.now shared workers kept before packets →
+                J.opened job.exit.now shared workers kept before packets)) }
+            ensures failed { IfOk result.0 (λ put. OnErr put ((Rose (K.faults sink.entry.now) (K.faults sink.exit.now))
+                × (K.failed sink.exit.now ≡ count_after (K.failed sink.entry.now) 1))) }
+            ensures none_failed { OnErr result.0 (K.failed sink.exit.now ≡ K.failed sink.entry.now) }
+            ensures none_failed_put { IfOk result.0 (λ put.
+                OnOk put (K.failed sink.exit.now ≡ K.failed sink.entry.now)) }
+            ensures counted { K.faults sink.entry.now ≤ K.faults sink.exit.now }
+            ensures way { J.Pile.way next.exit.now ≡ J.Pile.way next.entry.now }
+            ensures taken { IfOk result.1 (λ ahead. (more : List (List ℕ)) × J.Pile.holds next.exit.now packets more
+                × (length more ≡ ahead) × IsTaken reader.entry.now reader.exit.now batch packets more) }
+        {
+            let told = settle(means.rt, means.alloc, job, untold, text, sink);
+            (told, take_held(reader, batch, packets, next))
+        },
     );
     let served = Opened {
         shared,
         workers,
         kept,
     };
-    job.close(means.rt, means.alloc, served, text)?;
-    Ok(made)
+    let written = told?;
+    written?;
+    let ahead = taken?;
+    so_far.untold = Some(job.close(means.alloc, served)?);
+    so_far.packets = packets;
+    mem::swap(&mut piles.now, &mut piles.next);
+    Ok(ahead)
 }
 
-/// Serves the packets of one batch more. Meanwhile it takes what the reader holds of the next batch, behind so many
-/// packets, into a pile that is empty; this may want memory for itself.
-fn serve_ahead<R: Threads + Sync, G: Gate + Sync, P, J: Job<P>>(
+/// Lets the workers work, and does this once meanwhile in the caller's thread, and apart from their work where that is
+/// wanted: then all workers work in other threads, and otherwise the last one in the caller's, behind this.
+fn work<R: Threads + Sync, G: Gate + Sync, T: Sync, W: WorksOn<T> + Send, F: FnMut() -> A, A>(
+    means: &Means<R, G>,
+    apart: bool,
+    on: &T,
+    workers: &mut [W],
+    beside: &mut F,
+) -> A
+    requires few { length workers.old ≤ 8 }
+    requires ready { All (W.ready on.now) workers.old }
+    requires beside { F.pre beside.old }
+    ensures done { AllZip (W.done on.now) workers.old workers.new }
+    ensures beside { F.step beside.old result beside.new }
+{
+    let rt = means.rt;
+    let gate = means.gate;
+    if !apart {
+        return serve_on(rt, on, workers, gate, beside);
+    }
+    let ((), made) = join_mut(
+        rt,
+        &mut ||
+            requires { IsSync R.row × IsSync T.row × IsSync G.row × (length workers.now ≤ 8)
+                × All (W.ready on.now) workers.now }
+            ensures { AllZip (W.done on.entry.now) workers.entry.now workers.exit.now }
+        { serve_on(rt, on, workers, gate, &mut || {}) },
+        beside,
+    );
+    made
+}
+
+/// Tells the lines of a batch that is closed, where there is one, and puts them with the text that is held. Memory may
+/// run out, and otherwise the write may fail.
+fn settle<R: Threads, K: Sink, P, J: Job<P>>(
+    rt: &R,
+    alloc: Global,
+    job: &mut J,
+    untold: &mut Option<J::Closed>,
+    text: &mut Vec<u8>,
+    sink: &mut K,
+) -> Result<Result<(), Failed>, AllocError>
+    requires some { ForSome untold.old (λ closed. (lines : List ℕ) × J.tells closed lines) }
+    ensures none { untold.new ≡ None }
+    ensures held { IfOk result (λ put. OnOk put (MatchOption untold.old (text.new.items ≡ text.old.items)
+        (λ closed. text.new.items ≡ []))) }
+    ensures job { OnOk result ((J.way job.new ≡ J.way job.old)
+        × ((before : ℕ) → J.going job.old before → J.going job.new before)
+        × ((shared : J.Shared) (workers : List J.Worker) (kept : J.Kept)
+        (before : ℕ) (packets : List (List ℕ)) → J.opened job.old shared workers kept before packets →
+        J.opened job.new shared workers kept before packets)) }
+    ensures stands { IfOk result (λ put. OnOk put ((plan : P) (size link many : ℕ)
+        (first left before : Option (List ℕ)) (all : List (List ℕ)) →
+        Standing size (J.done job.old plan) (J.lines plan) J.tells untold.old link first left many all before
+        (K.put sink.old) text.old.items →
+        Stands size (J.done job.new plan) link first many all before (K.put sink.new) text.new.items)) }
+    ensures memory { OnErr result ((plan : P) (failed now size link many : ℕ)
+        (first left before : Option (List ℕ)) (all : List (List ℕ)) →
+        Standing size (J.done job.old plan) (J.lines plan) J.tells untold.old link first left many all before
+        (K.put sink.old) text.old.items →
+        LoopLeavesAll size (J.lines plan) (J.report plan) (EndsBy failed now) link first left before (K.put sink.new)
+        (Err Stop.Memory)) }
+    ensures front { IfOk result (λ put. OnErr put ((plan : P) (failed now size link many : ℕ)
+        (first left before : Option (List ℕ)) (all : List (List ℕ)) →
+        Standing size (J.done job.old plan) (J.lines plan) J.tells untold.old link first left many all before
+        (K.put sink.old) text.old.items →
+        LoopLeavesAll size (J.lines plan) (J.report plan) (EndsBy failed now) link first left before (K.put sink.new)
+        (Err Stop.NotPut))) }
+    ensures failed { IfOk result (λ put. OnErr put ((Rose (K.faults sink.old) (K.faults sink.new))
+        × (K.failed sink.new ≡ count_after (K.failed sink.old) 1))) }
+    ensures none_failed { OnErr result (K.failed sink.new ≡ K.failed sink.old) }
+    ensures none_failed_put { IfOk result (λ put. OnOk put (K.failed sink.new ≡ K.failed sink.old)) }
+    ensures counted { K.faults sink.old ≤ K.faults sink.new }
+{
+    match untold.take() {
+        Some(closed) => {
+            job.tell(rt, alloc, closed, text)?;
+            Ok(put(sink, text))
+        }
+        None => Ok(Ok(())),
+    }
+}
+
+/// Serves the packets of one batch more, and appends their lines. The only error is want of memory.
+fn serve<R: Threads + Sync, G: Gate + Sync, P, J: Job<P>>(
     means: &Means<R, G>,
     job: &mut J,
     pile: &mut J::Pile,
     text: &mut Vec<u8>,
-    reader: &mut AnyReader,
-    before: u32,
-    next: &mut J::Pile,
-) -> Result<Result<u32, AllocError>, AllocError>
-    requires going { (many : ℕ) × (packets : List (List ℕ)) × J.going job.old many
-        × J.Pile.holds pile.old many packets × (length packets ≤ MOST_BATCH)
-        × (many + length packets ≤ PACKET_LIMIT) }
-    requires reads { reader.old.ended ≡ false }
-    requires stands { reader.old.given ≡ before }
-    requires room { (before < PACKET_LIMIT) × (means.now.batch ≤ MOST_BATCH) }
-    requires none { J.Pile.holds next.old before [] }
+) -> Result<(), AllocError>
+    requires going { (before : ℕ) × (packets : List (List ℕ)) × J.going job.old before
+        × J.Pile.holds pile.old before packets × (length packets ≤ MOST_BATCH)
+        × (before + length packets ≤ PACKET_LIMIT) }
     requires way { J.Pile.way pile.old ≡ J.way job.old }
-    ensures ways { OnOk result ((J.way job.new ≡ J.way job.old) × (J.Pile.way pile.new ≡ J.Pile.way pile.old)
-        × (J.Pile.way next.new ≡ J.Pile.way next.old)) }
-    ensures going { OnOk result ((many : ℕ) (packets : List (List ℕ)) → J.going job.old many →
-        J.Pile.holds pile.old many packets → J.going job.new (many + length packets)) }
-    ensures served { OnOk result ((plan : P) (batches : List (List (List ℕ))) (put : List ℕ) (many : ℕ)
-        (packets : List (List ℕ)) → J.done job.old plan batches put → J.going job.old many →
-        J.Pile.holds pile.old many packets → (lines : List ℕ) × (text.new.items ≡ text.old.items ++ lines)
+    ensures going { OnOk result ((before : ℕ) (packets : List (List ℕ)) → J.going job.old before →
+        J.Pile.holds pile.old before packets → J.going job.new (before + length packets)) }
+    ensures served { OnOk result ((plan : P) (batches : List (List (List ℕ))) (put : List ℕ) (before : ℕ)
+        (packets : List (List ℕ)) → J.done job.old plan batches put → J.going job.old before →
+        J.Pile.holds pile.old before packets → (lines : List ℕ) × (text.new.items ≡ text.old.items ++ lines)
         × J.done job.new plan (batches ++ packets ∷ []) (put ++ lines)) }
-    ensures ahead { IfOk result (λ taken. IfOk taken (λ packets. (more : List (List ℕ))
-        × J.Pile.holds next.new before more × (length more ≡ packets)
-        × IsTaken reader.old reader.new means.now.batch before more)) }
 {
-    let batch = means.batch;
-    serve::<R, G, P, J, _, _>(
-        means,
-        job,
-        pile,
-        text,
-        &mut || -> Result<u32, AllocError>
-            requires { (reader.now.ended ≡ false) × (reader.now.given ≡ before) × (before < PACKET_LIMIT)
-                × (batch ≤ MOST_BATCH) × J.Pile.holds next.now before [] }
-            ensures { (J.Pile.way next.exit.now ≡ J.Pile.way next.entry.now)
-                × IfOk result (λ packets. (more : List (List ℕ)) × J.Pile.holds next.exit.now before more
-                × (length more ≡ packets) × IsTaken reader.entry.now reader.exit.now batch before more) }
-        { take_held(reader, batch, before, next) },
-    )
+    let Opened {
+        shared,
+        mut workers,
+        kept,
+    } = job.open(means.alloc, pile)?;
+    serve_on(
+        means.rt,
+        &shared,
+        workers.as_mut_slice(),
+        means.gate,
+        &mut || {},
+    );
+    let served = Opened {
+        shared,
+        workers,
+        kept,
+    };
+    let closed = job.close(means.alloc, served)?;
+    job.tell(means.rt, means.alloc, closed, text)
 }
 
 /// Puts the text that is held, and holds none then.
@@ -296,7 +466,7 @@ fn serve_one<R: Threads + Sync, K: Sink, G: Gate + Sync, P, J: Job<P>>(
     ensures writes { RunWrites result (K.failed sink.old) (K.failed sink.new) }
     ensures counted { K.faults sink.old ≤ K.faults sink.new }
 {
-    serve::<R, G, P, J, _, _>(means, job, pile, text, &mut || {})?;
+    serve(means, job, pile, text)?;
     put(sink, text)?;
     Ok(())
 }

@@ -80,7 +80,7 @@ pub record Reading : Type 0 where
 -- a block that is read and dropped, and a buffer.
 abbrev pub beyond : Form → ℕ
 beyond (OfRecords order) = buffer_length
-beyond (OfBlocks state) = 17301504
+beyond (OfBlocks state) = 20971520
 
 -- what was taken of the source shows the form, what is not the head is held, and all has room in the buffer
 abbrev pub IsOpenedOn : ℕ → Reading → List ℕ → Type 0

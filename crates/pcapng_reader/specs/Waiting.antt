@@ -145,7 +145,7 @@ pub record IsLong (state : State) (bytes : List ℕ) (long : Long) : Type 0 wher
   pub type : HasKind (block_type long.order bytes) long.kind
   pub right : IsBlockLength long.kind long.size
   pub total : total_length long.order bytes ≡ long.size
-  pub above : 458752 < long.size
+  pub above : 4128768 < long.size
   pub least : 28 ≤ long.kept
   pub few : long.kept ≤ 262172
   pub covers : CoversPacket state long.order long.kind bytes long.kept

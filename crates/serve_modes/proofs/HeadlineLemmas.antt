@@ -289,10 +289,10 @@ module _ (law : ServedArePromised) (plan : Plan) (range : IsWithin 2048 65536 pl
         let calls : List (ℕ × Call) = reports.2.0 in
         let makes : MakeCalls (calling_of plan) 1 packets calls = reports.2.1 in
         let report = reports.2.2 in
+        let few : length packets ≤ packet_limit = few_served bytes left packets ending reports.1 in
         subst Certified (sym report.4)
-        (serve_is_certified good plan report.0 packets calls report.1 ending makes report.2
-        (few_served bytes left packets ending reports.1) (calls_fit (calling_of plan) 1 packets calls makes) seed
-        range told)
+        (serve_is_certified good plan report.0 packets calls report.1 ending makes report.2 few
+        (calls_fit (calling_of plan) 1 packets calls (omega (arith, few)) makes) seed range told)
 
   module _ (can_end : Ending → Type 0) (bytes : List ℕ) (left before after : Option (List ℕ)) where
     put_whole : GoodIsCertified → seed_in plan.hashing < 2 ^ 64 → (ending : Ending) → IsEndingTold ending →

@@ -81,44 +81,41 @@ texts_between first last calls between =
 -- so does a job's record of them
 pub done_more : {K : Type 0} {holds : K → List Outcome → Type 0} {room : K → ℕ} (plan : Plan) (old new : Serving)
     (batches : List (List (List ℕ))) (put : List ℕ) (before : ℕ) (packets : List (List ℕ)) (t : TableValue)
-    (workers : List (SeatWorker K)) (many : ℕ) (one : Served) (text text_then : List ℕ) →
+    (workers : List (SeatWorker K)) (many : ℕ) (one : Served) (lines : List ℕ) →
     (done : HasDone old plan batches put) → old.packets ≡ before →
     HasOpenedFor holds room old t workers many before packets → one.calls ≡ old.calls.items →
     new.service ≡ old.service → new.calling ≡ old.calling →
     new.packets ≡ old.packets + many → HasServed old.service new.progress (done.served ++ one ∷ []) →
-    text_then ≡ text ++ batch_lines old.service.settings.seats (lines_of old.service old.progress.before one) →
-    (lines : List ℕ) × (text_then ≡ text ++ lines) × HasDone new plan (batches ++ packets ∷ []) (put ++ lines)
-done_more plan old new batches put before packets t workers many one text text_then done at opened calls
+    lines ≡ batch_lines old.service.settings.seats (lines_of old.service old.progress.before one) →
+    HasDone new plan (batches ++ packets ∷ []) (put ++ lines)
+done_more plan old new batches put before packets t workers many one lines done at opened calls
     service framed count has is =
-    let lines : List ℕ = batch_lines old.service.settings.seats (lines_of old.service old.progress.before one) in
+    let told : List ℕ = batch_lines old.service.settings.seats (lines_of old.service old.progress.before one) in
     let behind : before ≡ 0 + length (joined batches) = omega (arith, at, done.count) in
     let same : (s : Service) → s ≡ old.service →
-    put ++ lines ≡ lines_so_far plan s (done.served ++ one ∷ []) = λ s here.
-    section_of plan old.service old.progress done.served one put [] lines done.asks done.has
+    put ++ told ≡ lines_so_far plan s (done.served ++ one ∷ []) = λ s here.
+    section_of plan old.service old.progress done.served one put [] told done.asks done.has
     (append-nil put ∙ done.text) refl
-    ∙ ap (λ (t : Service). lines_so_far plan t (done.served ++ one ∷ [])) (sym here) in (
-      lines,
-      is,
-      record {
-        served = done.served ++ one ∷ [];
-        asks = subst (IsServiceOf plan) (sym service) done.asks;
-        framed = framed ∙ done.framed;
-        has = subst (λ (s : Service). HasServed s new.progress (done.served ++ one ∷ [])) (sym service) has;
-        of = served_more (calling_of plan) batches 0 done.served packets one before done.of behind
-            (subst (λ (f : Calling). MakeCalls f (before + 1) packets one.calls) done.framed
-            (subst (MakeCalls old.calling (before + 1) packets) (sym calls) opened.make))
-            (subst (AreBetween before (before + length packets)) (sym calls) opened.between);
-        count = omega (
-          arith,
-          count,
-          done.count,
-          opened.count,
-          ap length (joined-more batches packets),
-          length-append (joined batches) packets,
-        );
-        text = same new.service service;
-      },
-    )
+    ∙ ap (λ (t : Service). lines_so_far plan t (done.served ++ one ∷ [])) (sym here) in
+    record {
+      served = done.served ++ one ∷ [];
+      asks = subst (IsServiceOf plan) (sym service) done.asks;
+      framed = framed ∙ done.framed;
+      has = subst (λ (s : Service). HasServed s new.progress (done.served ++ one ∷ [])) (sym service) has;
+      of = served_more (calling_of plan) batches 0 done.served packets one before done.of behind
+          (subst (λ (f : Calling). MakeCalls f (before + 1) packets one.calls) done.framed
+          (subst (MakeCalls old.calling (before + 1) packets) (sym calls) opened.make))
+          (subst (AreBetween before (before + length packets)) (sym calls) opened.between);
+      count = omega (
+        arith,
+        count,
+        done.count,
+        opened.count,
+        ap length (joined-more batches packets),
+        length-append (joined batches) packets,
+      );
+      text = ap (λ (ls : List ℕ). put ++ ls) is ∙ same new.service service;
+    }
 
 -- before any batch
 pub done_none : (job : Serving) (plan : Plan) (text : List ℕ) → job.packets ≡ 0 → IsServiceOf plan job.service →

@@ -1,5 +1,5 @@
 -- `serve` as a job of the loop over batches: what a pile has, what was served, and what is printed of it.
-use Rattle.std.specs.Prelude.{◌≡◌, ◌≤◌, ℕ, ◌+◌, ◌^◌, List, [], ◌∷◌, Vec, length, flat_map}
+use Rattle.std.specs.Prelude.{◌≡◌, ◌≤◌, ℕ, ◌+◌, ◌^◌, List, [], ◌∷◌, Vec, length, map, flat_map}
 use Rattle.std.specs.Option.{ForSome}
 use Rattle.std.specs.declared.alloc.Global.{Global}
 use Rattle.word_rows.specs.Shape.{AreBelow}
@@ -14,6 +14,8 @@ use Rattle.batch_runner.specs.Opened.{IsOpened}
 use Rattle.batch_runner.specs.Served.{AreServed, Served}
 use Rattle.command_line.specs.declared.plan.Plan.{Plan}
 use Rattle.mode_parts.specs.Callings.{calling_of}
+use Rattle.batch_runner.specs.Printed.{AreLines, CanBeTold}
+use Rattle.serve_modes.specs.declared.serving.ClosedBatch.{ClosedBatch}
 use Rattle.serve_modes.specs.declared.serving.Serving.{Serving}
 use Rattle.mode_parts.specs.declared.calling.Calling.{Calling}
 use Rattle.mode_parts.specs.PacketCalls.{MakeCalls}
@@ -89,3 +91,9 @@ pub record HasOpenedFor {K : Type 0} (holds : K → List Outcome → Type 0) (ro
 -- for workers that keep logs
 abbrev pub HasOpened : Serving → TableValue → List CallWorker → (many before : ℕ) → List (List ℕ) → Type 0
 HasOpened job t workers many before packets = HasOpenedFor IsLogOf room_in job t workers many before packets
+
+-- these are the lines of a batch that is closed
+abbrev pub TellsBatch : ClosedBatch → List ℕ → Type 0
+TellsBatch batch lines =
+    CanBeTold batch.service batch.calls.items batch.closed (map (λ log. log.items) batch.logs.items)
+    × AreLines batch.service batch.before batch.calls.items batch.closed (map (λ log. log.items) batch.logs.items) lines

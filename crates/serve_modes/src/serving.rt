@@ -25,24 +25,25 @@ ghost use Rattle.mode_parts.specs.Statuses.{MarksFor, ReadsFailed, WritesFailed,
 ghost use Rattle.packet_heads.specs.Links.{number_in};
 ghost use Rattle.mode_parts.specs.Callings.{calling_of, calling_way};
 ghost use Rattle.mode_parts.specs.Planned.{IsServiceOf, head_of};
-ghost use Rattle.serve_modes.specs.Serving.{CallWorker, HasDone, HasOpened, IsLines, IsServing, IsWholeReport};
+ghost use Rattle.serve_modes.specs.Serving.{CallWorker, HasDone, HasOpened, IsLines, IsServing, IsWholeReport, TellsBatch};
 
 use crate::laws::serving_laws;
 use crate::progress::Progress;
 use crate::telling::tail_with;
 use batch_deals::{Dealt, Service, deal_batch};
 use batch_runner::{
-    Asked, OpenBatch, SeatWorker, Workspace, close_printed, open_batch, served_laws,
+    Asked, OpenBatch, SeatWorker, Untold, Workspace, close_logged, lines_text, open_batch,
+    served_laws,
 };
 use capture_faults::Ending;
 use capture_loop::{Job, MOST_BATCH, Means, Opened, PACKET_LIMIT, Piles, Stop, run_job};
 use command_line::Plan;
 use edge_traits::{Gate, Sink, Source};
 use mode_parts::{CallPile, Calling, Status, calling_of, head_of, put_sessions, service_of};
-use plain_map::{Call, session_laws};
+use plain_map::{Call, MOST_SEATS, session_laws};
 use report_promises::{ending_fits, head_fits, promise_laws};
 use report_text::{head_text, tail_text};
-use shared_table::Directory;
+use shared_table::{ClosedTable, Directory};
 use std::alloc::{AllocError, Global};
 use std::mem;
 use std::thread::Threads;
@@ -63,6 +64,21 @@ pub(crate) struct Serving {
     pub packets: u32,
     /// The calls of the batch that is served.
     pub calls: Vec<(u32, Call)>,
+    /// Room for those of the next one, once the lines of the batch before it are told.
+    pub spare: Vec<(u32, Call)>,
+}
+
+/// A batch that is closed, of which no line is told yet.
+#[derive(Drop)]
+pub(crate) struct ClosedBatch {
+    pub service: Service,
+    /// Its calls, each with the packet that it came from.
+    pub calls: Vec<(u32, Call)>,
+    /// How many calls each seat had answered before.
+    pub before: [u32; MOST_SEATS],
+    pub closed: ClosedTable,
+    /// What each seat's calls came to, seat 0 first.
+    pub logs: Vec<Vec<Outcome>>,
 }
 
 impl Serving {
@@ -82,6 +98,7 @@ impl Serving {
         ensures calling { IfOk result (λ serving. serving.calling ≡ calling) }
     {
         let calls = Vec::with_capacity(alloc, batch as usize)?;
+        let spare = Vec::with_capacity(alloc, batch as usize)?;
         Ok(Serving {
             service,
             calling,
@@ -89,6 +106,7 @@ impl Serving {
             progress: Progress::new(alloc),
             packets: 0,
             calls,
+            spare,
         })
     }
 
@@ -127,6 +145,8 @@ impl Job<Plan> for Serving {
     // How many packets the batch has.
     type Kept = u32;
 
+    type Closed = ClosedBatch;
+
     ghost lines = { IsLines };
 
     ghost report = { IsWholeReport };
@@ -138,6 +158,8 @@ impl Job<Plan> for Serving {
     ghost done = { HasDone };
 
     ghost opened = { HasOpened };
+
+    ghost tells = { TellsBatch };
 
     // The pile has the calls of the last batch then, which are no longer wanted.
     fn open(
@@ -160,13 +182,11 @@ impl Job<Plan> for Serving {
         })
     }
 
-    fn close<R: Threads>(
+    fn close(
         &mut self,
-        rt: &R,
         alloc: Global,
         made: Opened<Directory, SeatWorker<Vec<Outcome>>, u32>,
-        text: &mut Vec<u8>,
-    ) -> Result<(), AllocError>
+    ) -> Result<ClosedBatch, AllocError>
         requires going { (started : List CallWorker) × (before : ℕ) × (packets : List (List ℕ))
             × IsServing self.old before × HasOpened self.old made.shared started made.kept before packets
             × AllZip (HasWorked IsLogOf) started made.workers.items × (length packets ≤ MOST_BATCH)
@@ -175,12 +195,12 @@ impl Job<Plan> for Serving {
         ensures going { OnOk result ((started : List CallWorker) (before : ℕ) (packets : List (List ℕ)) →
             IsServing self.old before → HasOpened self.old made.shared started made.kept before packets →
             AllZip (HasWorked IsLogOf) started made.workers.items → IsServing self.new (before + length packets)) }
-        ensures served { OnOk result ((plan : APlan) (batches : List (List (List ℕ))) (put : List ℕ)
+        ensures some { IfOk result (λ closed. (lines : List ℕ) × TellsBatch closed lines) }
+        ensures served { IfOk result (λ closed. (plan : APlan) (batches : List (List (List ℕ))) (put : List ℕ)
             (started : List CallWorker) (before : ℕ) (packets : List (List ℕ)) → HasDone self.old plan batches put →
             IsServing self.old before → HasOpened self.old made.shared started made.kept before packets →
-            AllZip (HasWorked IsLogOf) started made.workers.items →
-            (lines : List ℕ) × (text.new.items ≡ text.old.items ++ lines)
-            × HasDone self.new plan (batches ++ packets ∷ []) (put ++ lines)) }
+            AllZip (HasWorked IsLogOf) started made.workers.items → (lines : List ℕ) → TellsBatch closed lines →
+            HasDone self.new plan (batches ++ packets ∷ []) (put ++ lines)) }
     {
         let asked = Asked {
             service: &self.service,
@@ -191,17 +211,40 @@ impl Job<Plan> for Serving {
             directory: made.shared,
             workers: made.workers,
         };
-        let batch = close_printed(
-            rt,
-            alloc,
-            &asked,
-            &mut self.workspace,
-            begun,
-            &self.progress.before,
-            text,
-        )?;
+        let (closed, logs, batch) = close_logged(alloc, &asked, begun)?;
+        let before = self.progress.before;
         self.progress.keep(&self.service, &self.calls, batch);
         self.packets += made.kept;
+        let spare = mem::replace(&mut self.spare, Vec::new(alloc));
+        let calls = mem::replace(&mut self.calls, spare);
+        Ok(ClosedBatch {
+            service: self.service,
+            calls,
+            before,
+            closed,
+            logs,
+        })
+    }
+
+    fn tell<R: Threads>(
+        &mut self,
+        rt: &R,
+        alloc: Global,
+        closed: ClosedBatch,
+        text: &mut Vec<u8>,
+    ) -> Result<(), AllocError> {
+        let untold = Untold {
+            service: &closed.service,
+            calls: &closed.calls,
+            before: &closed.before,
+            closed: &closed.closed,
+            logs: &closed.logs,
+        };
+        lines_text(rt, alloc, &mut self.workspace, &untold, text)?;
+        self.workspace.keep(closed.closed);
+        let mut calls = closed.calls;
+        calls.clear();
+        self.spare = calls;
         Ok(())
     }
 

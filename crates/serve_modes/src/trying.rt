@@ -109,6 +109,9 @@ impl Job<Plan> for Trying {
     // How many packets the batch has.
     type Kept = u32;
 
+    // No line of a batch is told.
+    type Closed = ();
+
     ghost lines = { IsNoText };
 
     ghost report = { IsTrialOf };
@@ -120,6 +123,8 @@ impl Job<Plan> for Trying {
     ghost done = { HasTried };
 
     ghost opened = { HasOpenedTrial };
+
+    ghost tells = { λ _ lines. lines ≡ [] };
 
     // The pile has the calls of the last batch then, which are no longer wanted.
     fn open(
@@ -143,12 +148,10 @@ impl Job<Plan> for Trying {
         })
     }
 
-    fn close<R: Threads>(
+    fn close(
         &mut self,
-        _rt: &R,
         alloc: Global,
         made: Opened<Directory, SeatWorker<Totals>, u32>,
-        text: &mut Vec<u8>,
     ) -> Result<(), AllocError>
         requires going { (started : List CountWorker) × (before : ℕ) × (packets : List (List ℕ))
             × IsTrying self.old before × HasOpenedTrial self.old made.shared started made.kept before packets
@@ -158,12 +161,12 @@ impl Job<Plan> for Trying {
         ensures going { OnOk result ((started : List CountWorker) (before : ℕ) (packets : List (List ℕ)) →
             IsTrying self.old before → HasOpenedTrial self.old made.shared started made.kept before packets →
             AllZip (HasWorked IsTotalOf) started made.workers.items → IsTrying self.new (before + length packets)) }
+        ensures some { OnOk result ((lines : List ℕ) × (lines ≡ [])) }
         ensures served { OnOk result ((plan : APlan) (batches : List (List (List ℕ))) (put : List ℕ)
             (started : List CountWorker) (before : ℕ) (packets : List (List ℕ)) → HasTried self.old plan batches put →
             IsTrying self.old before → HasOpenedTrial self.old made.shared started made.kept before packets →
-            AllZip (HasWorked IsTotalOf) started made.workers.items →
-            (lines : List ℕ) × (text.new.items ≡ text.old.items ++ lines)
-            × HasTried self.new plan (batches ++ packets ∷ []) (put ++ lines)) }
+            AllZip (HasWorked IsTotalOf) started made.workers.items → (lines : List ℕ) → lines ≡ [] →
+            HasTried self.new plan (batches ++ packets ∷ []) (put ++ lines)) }
     {
         let serving = &mut self.serving;
         let asked = Asked {
@@ -180,6 +183,16 @@ impl Job<Plan> for Trying {
             .progress
             .keep(&serving.service, &serving.calls, batch);
         serving.packets += made.kept;
+        Ok(())
+    }
+
+    fn tell<R: Threads>(
+        &mut self,
+        _rt: &R,
+        _alloc: Global,
+        _closed: (),
+        _text: &mut Vec<u8>,
+    ) -> Result<(), AllocError> {
         Ok(())
     }
 

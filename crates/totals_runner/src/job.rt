@@ -1,6 +1,6 @@
 //! Counting, as the loop over the batches of a capture has it.
 
-ghost use Rattle.std.specs.Prelude.{◌≡◌, ◌≤◌, ◌+◌, ◌∷◌, ◌++◌, [], ℕ, List, length, OnOk};
+ghost use Rattle.std.specs.Prelude.{◌≡◌, ◌≤◌, ◌+◌, ◌∷◌, ◌++◌, [], ℕ, List, length, IfOk, OnOk};
 ghost use Rattle.std.specs.List.{AllZip};
 ghost use Rattle.packet_adders.specs.Work.{IsDone};
 ghost use Rattle.totals_runner.specs.declared.counting.Asked.{Asked as AnAsked};
@@ -32,6 +32,9 @@ impl Job<Asked> for Counting {
 
     type Kept = Dealt;
 
+    // Its lines.
+    type Closed = Vec<u8>;
+
     ghost lines = { IsTotalsLines };
 
     ghost report = { IsTotalsReport };
@@ -43,6 +46,8 @@ impl Job<Asked> for Counting {
     ghost done = { IsCountedSo };
 
     ghost opened = { IsOpened };
+
+    ghost tells = { λ closed lines. lines ≡ closed.items };
 
     fn open(
         &mut self,
@@ -57,13 +62,11 @@ impl Job<Asked> for Counting {
         })
     }
 
-    fn close<R: Threads>(
+    fn close(
         &mut self,
-        _rt: &R,
         alloc: Global,
         made: Opened<TotalsTable, AddWorker, Dealt>,
-        text: &mut Vec<u8>,
-    ) -> Result<(), AllocError>
+    ) -> Result<Vec<u8>, AllocError>
         requires going { (started : List AWorker) × (before : ℕ) × (packets : List (List ℕ)) × HasGone self.old before
             × IsOpened self.old made.shared started made.kept before packets
             × AllZip (IsDone made.shared) started made.workers.items × (length packets ≤ MOST_BATCH)
@@ -72,19 +75,31 @@ impl Job<Asked> for Counting {
         ensures going { OnOk result ((started : List AWorker) (before : ℕ) (packets : List (List ℕ)) →
             HasGone self.old before → IsOpened self.old made.shared started made.kept before packets →
             AllZip (IsDone made.shared) started made.workers.items → HasGone self.new (before + length packets)) }
-        ensures served { OnOk result ((plan : AnAsked) (batches : List (List (List ℕ))) (put : List ℕ)
+        ensures some { IfOk result (λ closed. (lines : List ℕ) × (lines ≡ closed.items)) }
+        ensures served { IfOk result (λ closed. (plan : AnAsked) (batches : List (List (List ℕ))) (put : List ℕ)
             (started : List AWorker) (before : ℕ) (packets : List (List ℕ)) → IsCountedSo self.old plan batches put →
             HasGone self.old before → IsOpened self.old made.shared started made.kept before packets →
-            AllZip (IsDone made.shared) started made.workers.items →
-            (lines : List ℕ) × (text.new.items ≡ text.old.items ++ lines)
-            × IsCountedSo self.new plan (batches ++ packets ∷ []) (put ++ lines)) }
+            AllZip (IsDone made.shared) started made.workers.items → (lines : List ℕ) → lines ≡ closed.items →
+            IsCountedSo self.new plan (batches ++ packets ∷ []) (put ++ lines)) }
     {
         let Opened {
             shared,
             workers,
             kept,
         } = made;
-        self.close_batch(alloc, shared, workers, &kept, text)
+        let mut lines = Vec::new(alloc);
+        self.close_batch(alloc, shared, workers, &kept, &mut lines)?;
+        Ok(lines)
+    }
+
+    fn tell<R: Threads>(
+        &mut self,
+        _rt: &R,
+        _alloc: Global,
+        closed: Vec<u8>,
+        text: &mut Vec<u8>,
+    ) -> Result<(), AllocError> {
+        text.extend_from_slice(&closed)
     }
 
     fn finish(&self, _packets: u32, ending: &Ending, text: &mut Vec<u8>) -> Result<(), AllocError> {

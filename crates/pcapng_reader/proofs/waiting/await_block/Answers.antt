@@ -43,7 +43,7 @@ pub fill-requires : goal.fill-requires
 fill-requires g c =
     let here = cut_held c.args.section.now c.args.offset c.unread.result.now c.held.window.unread c.look-seen.result
     c.unread.ensures.bytes c.look-seen.ensures (c.if-not-is_cut.ensures.cut refl) in
-    subst (λ (l : List ℕ). length l ≤ 458752) c.unread-in-held.ensures.bytes
+    subst (λ (l : List ℕ). length l ≤ 4128768) c.unread-in-held.ensures.bytes
     (c.in-None.ensures.none c.args.offset
     (subst (λ (l : List ℕ). Sees c.args.section.now c.args.offset l seen.Cut) (sym c.unread-in-held.ensures.bytes)
     here))
@@ -98,8 +98,8 @@ pub held-smaller : goal.held-smaller
 held-smaller g c =
     let here = cut_held c.args.section.now c.args.offset c.unread.result.now c.held.window.unread c.look-seen.result
     c.unread.ensures.bytes c.look-seen.ensures (c.if-not-is_cut.ensures.cut refl) in
-    let room : length c.held.window.unread ≤ 458752 =
-    subst (λ (l : List ℕ). length l ≤ 458752) c.unread-in-held.ensures.bytes
+    let room : length c.held.window.unread ≤ 4128768 =
+    subst (λ (l : List ℕ). length l ≤ 4128768) c.unread-in-held.ensures.bytes
     (c.in-None.ensures.none c.args.offset
     (subst (λ (l : List ℕ). Sees c.args.section.now c.args.offset l seen.Cut) (sym c.unread-in-held.ensures.bytes)
     here)) in

@@ -17,4 +17,4 @@ invariant-held g l =
     }
 
 abbrev pub decreases-held : goal.decreases-held
-decreases-held g l = 458753 - length l.window.unread
+decreases-held g l = 4128769 - length l.window.unread
