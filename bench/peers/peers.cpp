@@ -1,5 +1,6 @@
 // Calls of one table by 1 to 4 threads, in one process: flowdir by lookups and by peeks, its table that lasts, liburcu's cds_lfht,
-// std::unordered_map under one mutex and under 64 (by the hash), and tbb::concurrent_hash_map.
+// std::unordered_map under one mutex and under 64 (by the hash), tbb::concurrent_hash_map, libcuckoo
+// and DPDK's rte_hash.
 //
 //   bench speed   [turns]  ns a call of each mix and number of threads, least of the turns
 //   bench worst   [turns]  the longest calls of 1 to 4 threads
@@ -23,6 +24,9 @@
 #include <thread>
 #include <unordered_map>
 #include <vector>
+#include <rte_eal.h>
+#include <rte_hash.h>
+#include <libcuckoo/cuckoohash_map.hh>
 #include <tbb/concurrent_hash_map.h>
 #define _LGPL_SOURCE
 #include <urcu.h>
@@ -290,6 +294,52 @@ static std::vector<Op> calls(uint64_t seed, size_t n, int percent, uint64_t flow
 template <class T> static inline bool ask(T &t, int me, const Op &o) {
     return o.kind == INSERT ? t.insert(me, o.k, o.v) : o.kind == REMOVE ? t.remove(me, o.k) : t.lookup(me, o.k);
 }
+struct Cuckoo {
+    static constexpr const char *name = "libcuckoo";
+    libcuckoo::cuckoohash_map<Key, uint64_t, KeyHash> m;
+    Cuckoo(const Plan &) {}
+    void enter(int) {}
+    void leave() {}
+    bool insert(int, Key k, uint64_t v) { return m.insert(k, v); }
+    bool remove(int, Key k) { return m.erase(k); }
+    bool lookup(int, Key k) { return m.contains(k); }
+};
+// Writers lock, lookups do not. A place is free at once where a key goes: a router would wait for its lookups first.
+struct Rte {
+    static constexpr const char *name = "rte_hash";
+    rte_hash *h;
+    Rte(const Plan &p) {
+        static const int ready = [] {
+            const char *words[] = {"peers", "--no-huge", "--no-pci", "-m", "256", "--log-level", "1", "--no-telemetry"};
+            cpu_set_t all;
+            sched_getaffinity(0, sizeof all, &all);
+            int read = rte_eal_init(8, (char **)words);
+            sched_setaffinity(0, sizeof all, &all); // it keeps its caller, and the threads made then, on one processor
+            return read;
+        }();
+        if (ready < 0) abort();
+        rte_hash_parameters q = {};
+        static std::atomic<int> tables{0};
+        std::string own = "t" + std::to_string(tables++);
+        q.name = own.c_str(), q.entries = p.items << p.depth, q.key_len = sizeof(Key);
+        q.hash_func = [](const void *k, uint32_t, uint32_t) { return (uint32_t)hash_of(*(const Key *)k); };
+        q.extra_flag = RTE_HASH_EXTRA_FLAGS_RW_CONCURRENCY_LF | RTE_HASH_EXTRA_FLAGS_MULTI_WRITER_ADD;
+        if (!(h = rte_hash_create(&q))) abort();
+    }
+    ~Rte() { rte_hash_free(h); }
+    // (its adds keep free places by the number of a thread that is known)
+    void enter(int) { if (rte_thread_register()) abort(); }
+    void leave() { rte_thread_unregister(); }
+    bool insert(int, Key k, uint64_t v) { return rte_hash_lookup(h, &k) < 0 && !rte_hash_add_key_data(h, &k, (void *)v); }
+    bool remove(int, Key k) {
+        int place = rte_hash_del_key(h, &k);
+        return place >= 0 && !rte_hash_free_key_with_position(h, place);
+    }
+    bool lookup(int, Key k) {
+        void *v;
+        return rte_hash_lookup_data(h, &k, &v) >= 0;
+    }
+};
 struct Told {
     double wall, cpu;
     std::vector<uint32_t> slowest;
@@ -521,6 +571,8 @@ int main(int argc, char **argv) {
     PART(Locked<1>);
     PART(Locked<64>);
     PART(Tbb);
+    PART(Cuckoo);
+    PART(Rte);
     fflush(stdout);
     _exit(0);
 }

@@ -1,7 +1,8 @@
 #!/usr/bin/env bash
 # Runs the proved library beside its peers in one process: bench/peers/run.sh PART [TURNS], where PART is speed, worst,
-# grow or stop. `bench/run peers` goes by it, and keeps the figures. It wants liburcu and TBB (Debian: liburcu-dev,
-# libtbb-dev). The part reopen has the library alone, and wants neither.
+# grow or stop. `bench/run peers` goes by it, and keeps the figures. It wants liburcu, TBB, libcuckoo and
+# DPDK (Debian: liburcu-dev, libtbb-dev, libcuckoo-dev, libdpdk-dev). The part reopen has the library alone, and wants
+# none of them.
 set -eu
 top="$(cd "$(dirname "$(readlink -f "$0")")/../.." && pwd)"
 "$top/bin/build-library"
@@ -13,6 +14,7 @@ if [ "${1:-}" = reopen ]; then
     "$work/reopen" "${@:2}"
     exit
 fi
-g++ -O2 -std=c++17 -I"$top/include" "$top/bench/peers/peers.cpp" "$top/out/library/libflowdir.a" \
-    -lurcu -lurcu-cds -lurcu-common -ltbb -lpthread -o "$work/peers"
+read -ra dpdk < <(pkg-config --cflags libdpdk)
+g++ -O2 -std=c++17 -I"$top/include" "${dpdk[@]}" "$top/bench/peers/peers.cpp" "$top/out/library/libflowdir.a" \
+    -lurcu -lurcu-cds -lurcu-common -ltbb -lrte_hash -lrte_eal -lpthread -o "$work/peers"
 "$work/peers" "$@"
