@@ -1,5 +1,5 @@
 -- What was put makes what a run leaves.
-use Rattle.std.proofs.Common.{◌≡◌, ◌<◌, ◌≤◌, ◌⊎◌, ℕ, List, [], ◌∷◌, ◌++◌, length, Option, Some, None, Result, Ok, Err, inl, inr, refl, sym, ap, subst, ◌∙◌, append_assoc, append-nil, arith, IsErr, IsErrAnd}
+use Rattle.std.proofs.Common.{◌≡◌, ◌<◌, ◌≤◌, ◌⊎◌, ◌+◌, ℕ, List, [], ◌∷◌, ◌++◌, length, Option, Some, None, Ok, Err, inl, inr, refl, sym, ap, subst, ◌∙◌, append_assoc, append-nil, length-append, arith}
 use Rattle.std.specs.List.{flat_map, AllByRecursion}
 use Rattle.std.specs.Io.KnownBytes.{Appends, Keeps}
 use Rattle.std.proofs.KnownBytes.{Appends-trans, Appends-nil, Consumes-nil}
@@ -7,12 +7,13 @@ use Rattle.edge_traits.specs.Edge.{AppendsFront}
 use Rattle.pcapng_reader.specs.Reading.{Reading}
 use Rattle.pcapng_reader.proofs.ReadFacts.{read_longer}
 use Rattle.capture_faults.specs.declared.ending.Ending.{Ending}
+use Rattle.capture_loop.specs.declared.portions.Portions.{Portions}
 use Rattle.capture_loop.specs.declared.stop.Stop.{Stop}
 use Rattle.capture_loop.specs.declared.stop.Stop.TheVariants.{Memory, NotPut}
-use Rattle.capture_loop.specs.Input.{Begins, IsFirst, packet_limit}
+use Rattle.capture_loop.specs.Input.{BeginsUpTo, IsFirstUpTo}
 use Rattle.capture_loop.specs.Reading.{HaveCome, HaveEnded}
-use Rattle.capture_loop.specs.Batches.{AreBatches, AreWhole, IsWhole}
-use Rattle.capture_loop.specs.Leaves.{IsMet, LoopLeavesAll, Lines, Reports}
+use Rattle.capture_loop.specs.Batches.{AreBatchesBy, AreCut, AreWholeBy, cut_of}
+use Rattle.capture_loop.specs.Leaves.{IsMet, LoopLeavesBy, Lines, Reports}
 use Rattle.capture_loop.specs.Looping.{HasPut, HaveFirst, OnMemory, OnNotPut}
 use Rattle.capture_loop.proofs.ReadingLemmas.{taken_by, told_by}
 use Rattle.capture_loop.proofs.ServingLemmas.{begins_read, first_read}
@@ -71,102 +72,125 @@ HasPut-start now held = record { done = []; put = Appends-nil now; parts = refl;
 
 -- ---- batches
 
-all_more : (size : ℕ) (xs : List (List (List ℕ))) (x : List (List ℕ)) → AllByRecursion (IsWhole size) xs → IsWhole
-    size x →
-    AllByRecursion (IsWhole size) (xs ++ x ∷ [])
-all_more size [] x all one = (one, tt)
-all_more size (y ∷ xs) x all one = (all.0, all_more size xs x all.1 one)
-
 parts_more : (xs : List (List (List ℕ))) (x : List (List ℕ)) →
     flat_map (λ batch. batch) (xs ++ x ∷ []) ≡ flat_map (λ batch. batch) xs ++ x
 parts_more [] x = append-nil x
 parts_more (y ∷ xs) x =
     ap (λ (ps : List (List ℕ)). y ++ ps) (parts_more xs x) ∙ sym (append_assoc y (flat_map (λ batch. batch) xs) x)
 
-pub AreWhole-none : (size : ℕ) → AreWhole size [] []
-AreWhole-none size = record { parts = refl; each = tt }
+module _ (cut : ℕ → ℕ) where
+  -- one batch more behind those that are cut
+  AreCut-more : (before : ℕ) (xs : List (List (List ℕ))) (x : List (List ℕ)) → AreCut cut before xs →
+      length x ≡ cut (before + length (flat_map (λ batch. batch) xs)) → AreCut cut before (xs ++ x ∷ [])
+  AreCut-more before [] x all one = (subst (λ (n : ℕ). length x ≡ cut n) (omega arith) one, tt)
+  AreCut-more before (y ∷ xs) x all one =
+      let sum = length-append y (flat_map (λ (batch : List (List ℕ)). batch) xs) in (
+        all.0,
+        AreCut-more (before + length y) xs x all.1
+            (subst (λ (n : ℕ). length x ≡ cut n) (omega (arith, sum)) one),
+      )
 
-pub AreWhole-more : (size : ℕ) (all more : List (List ℕ)) (batches : List (List (List ℕ))) →
-    AreWhole size all batches →
-    length more ≡ size → AreWhole size (all ++ more) (batches ++ more ∷ [])
-AreWhole-more size all more batches whole long =
-    record {
-      parts = parts_more batches more ∙ ap (λ (ps : List (List ℕ)). ps ++ more) whole.parts;
-      each = all_more size batches more whole.each long;
-    }
+  pub AreWhole-none : AreWholeBy cut [] []
+  AreWhole-none = record { parts = refl; each = tt }
 
--- a last batch is begun, which may have fewer packets
-pub AreBatches-last : (size : ℕ) (all last : List (List ℕ)) (batches : List (List (List ℕ))) →
-    AreWhole size all batches →
-    length last ≤ size → (last ≡ [] → batches ≡ []) → AreBatches size (all ++ last) (batches ++ last ∷ [])
-AreBatches-last size all last batches whole few begun =
-    record {
-      front = batches;
-      last = last;
-      parts = refl;
-      all = parts_more batches last ∙ ap (λ (ps : List (List ℕ)). ps ++ last) whole.parts;
-      whole = whole.each;
-      few = few;
-      begun = begun;
-    }
+  pub AreWhole-more : (all more : List (List ℕ)) (batches : List (List (List ℕ))) → AreWholeBy cut all batches →
+      length more ≡ cut (length all) → AreWholeBy cut (all ++ more) (batches ++ more ∷ [])
+  AreWhole-more all more batches whole long =
+      record {
+        parts = parts_more batches more ∙ ap (λ (ps : List (List ℕ)). ps ++ more) whole.parts;
+        each = AreCut-more 0 batches more whole.each
+            (subst (λ (n : ℕ). length more ≡ cut n) (omega (arith, ap length whole.parts)) long);
+      }
 
--- or all batches are whole, and there are some
-last_of : (size : ℕ) (batch : List (List ℕ)) (batches : List (List (List ℕ))) → AllByRecursion (IsWhole size)
-    (batch ∷ batches) →
-    (front : List (List (List ℕ))) × (last : List (List ℕ)) × (batch ∷ batches ≡ front ++ last ∷ [])
-    × AllByRecursion (IsWhole size) front × IsWhole size last
-last_of size batch [] all = ([], batch, refl, tt, all.0)
-last_of size batch (next ∷ batches) all =
-    let rest = last_of size next batches all.1 in (
-      batch ∷ rest.0,
-      rest.1,
-      ap (λ (bs : List (List (List ℕ))). batch ∷ bs) rest.2,
-      (all.0, rest.3),
-      rest.4,
-    )
+  -- a last batch is begun, which may have fewer packets
+  pub AreBatches-last : (all last : List (List ℕ)) (batches : List (List (List ℕ))) → AreWholeBy cut all batches →
+      length last ≤ cut (length all) → (last ≡ [] → batches ≡ []) →
+      AreBatchesBy cut (all ++ last) (batches ++ last ∷ [])
+  AreBatches-last all last batches whole few begun =
+      record {
+        front = batches;
+        last = last;
+        parts = refl;
+        all = parts_more batches last ∙ ap (λ (ps : List (List ℕ)). ps ++ last) whole.parts;
+        whole = whole.each;
+        few = subst (λ (n : ℕ). length last ≤ cut n) (sym (ap length whole.parts)) few;
+        begun = begun;
+      }
 
-long_not_none : (size : ℕ) (last : List (List ℕ)) → 0 < size → IsWhole size last → last ≡ [] → ⊥
-long_not_none size [] some long none = omega (arith, some, long)
-long_not_none size (p ∷ last) some long none = cc
+  -- or all batches are whole, and there are some
+  last_of : (before : ℕ) (batch : List (List ℕ)) (batches : List (List (List ℕ))) →
+      AreCut cut before (batch ∷ batches) →
+      (front : List (List (List ℕ))) × (last : List (List ℕ)) × (batch ∷ batches ≡ front ++ last ∷ [])
+      × AreCut cut before front × (length last ≡ cut (before + length (flat_map (λ batch. batch) front)))
+  last_of before batch [] all =
+      ([], batch, refl, tt, subst (λ (n : ℕ). length batch ≡ cut n) (omega arith) all.0)
+  last_of before batch (next ∷ batches) all =
+      let rest = last_of (before + length batch) next batches all.1 in
+      let sum = length-append batch (flat_map (λ (b : List (List ℕ)). b) rest.0) in (
+        batch ∷ rest.0,
+        rest.1,
+        ap (λ (bs : List (List (List ℕ))). batch ∷ bs) rest.2,
+        (all.0, rest.3),
+        subst (λ (n : ℕ). length rest.1 ≡ cut n) (omega (arith, sum)) rest.4,
+      )
 
-pub AreBatches-whole : (size : ℕ) (all : List (List ℕ)) (batches : List (List (List ℕ))) →
-    AreWhole size all batches → 0 < size → (length all ≡ 0) ⊎ AreBatches size all batches
-AreBatches-whole size all [] whole some = inl (ap length (sym whole.parts))
-AreBatches-whole size all (batch ∷ batches) whole some =
-    let cut = last_of size batch batches whole.each in
-    inr (record {
-      front = cut.0;
-      last = cut.1;
-      parts = cut.2;
-      all = whole.parts;
-      whole = cut.3;
-      few = omega (arith, cut.4);
-      begun = λ none. absurd (long_not_none size cut.1 some cut.4 none);
-    })
+  long_not_none : (last : List (List ℕ)) (size : ℕ) → 0 < size → length last ≡ size → last ≡ [] → ⊥
+  long_not_none [] size some long none = omega (arith, some, long)
+  long_not_none (p ∷ last) size some long none = cc
+
+  pub AreBatches-whole : (all : List (List ℕ)) (batches : List (List (List ℕ))) → AreWholeBy cut all batches →
+      ((before : ℕ) → 0 < cut before) → (length all ≡ 0) ⊎ AreBatchesBy cut all batches
+  AreBatches-whole all [] whole some = inl (ap length (sym whole.parts))
+  AreBatches-whole all (batch ∷ batches) whole some =
+      let last = last_of 0 batch batches whole.each in
+      let at : 0 + length (flat_map (λ (b : List (List ℕ)). b) last.0)
+      ≡ length (flat_map (λ (b : List (List ℕ)). b) last.0) = omega arith in
+      let few : length last.1 ≤ cut (0 + length (flat_map (λ (b : List (List ℕ)). b) last.0)) =
+      omega (arith, last.4) in
+      inr (record {
+        front = last.0;
+        last = last.1;
+        parts = last.2;
+        all = whole.parts;
+        whole = last.3;
+        few = subst (λ (n : ℕ). length last.1 ≤ cut n) at few;
+        begun = λ none. absurd (long_not_none last.1 _ (some _) last.4 none);
+      })
+
+-- a batch of so many
+abbrev pub IsWhole : (size : ℕ) → List (List ℕ) → Type 0
+IsWhole size batch = length batch ≡ size
+
+-- batches that are cut all alike
+pub AreCut-alike : (size before : ℕ) (batches : List (List (List ℕ))) → AreCut (λ before. size) before batches →
+    AllByRecursion (IsWhole size) batches
+AreCut-alike size before [] all = tt
+AreCut-alike size before (batch ∷ batches) all = (all.0, AreCut-alike size (before + length batch) batches all.1)
 
 -- ---- the input
 
 -- the packets that were read are its first
-come_first : (link : ℕ) (first now : Option (List ℕ)) (reading : Reading) (packets : List (List ℕ)) (bytes : List ℕ) →
-    length packets ≤ packet_limit → (come : HaveCome link first now reading packets) → first ≡ Some bytes →
-    IsFirst link bytes packets
-come_first link first now reading packets bytes few come is =
-    told_by (λ told left. IsFirst link told packets) first now bytes come.0 is come.1
+come_first : (most link : ℕ) (first now : Option (List ℕ)) (reading : Reading) (packets : List (List ℕ))
+    (bytes : List ℕ) →
+    length packets ≤ most → (come : HaveCome link first now reading packets) → first ≡ Some bytes →
+    IsFirstUpTo link most bytes packets
+come_first most link first now reading packets bytes few come is =
+    told_by (λ told left. IsFirstUpTo link most told packets) first now bytes come.0 is come.1
     (λ others left.
-    first_read link (come.0 ++ others) others reading packets few
+    first_read link most (come.0 ++ others) others reading packets few
     (read_longer link come.0 [] others reading packets come.2))
 
-pub HaveFirst-come : (link : ℕ) (first now : Option (List ℕ)) (reading : Reading) (packets : List (List ℕ)) →
-    length packets ≤ packet_limit → HaveCome link first now reading packets → HaveFirst link first packets
-HaveFirst-come link first now reading packets few come =
+pub HaveFirst-come : (most link : ℕ) (first now : Option (List ℕ)) (reading : Reading) (packets : List (List ℕ)) →
+    length packets ≤ most → HaveCome link first now reading packets → HaveFirst most link first packets
+HaveFirst-come most link first now reading packets few come =
     record {
-      told = λ bytes is. come_first link first now reading packets bytes few come is;
-      took = (now, (come.0, come.1, first_read link come.0 [] reading packets few come.2));
+      told = λ bytes is. come_first most link first now reading packets bytes few come is;
+      took = (now, (come.0, come.1, first_read link most come.0 [] reading packets few come.2));
     }
 
 -- no packets are the first of any input
-pub HaveFirst-none : (link : ℕ) (first : Option (List ℕ)) → HaveFirst link first []
-HaveFirst-none link first =
+pub HaveFirst-none : (most link : ℕ) (first : Option (List ℕ)) → HaveFirst most link first []
+HaveFirst-none most link first =
     record {
       told = λ bytes is. (omega arith, inl refl);
       took = (first, ([], Consumes-nil first, (omega arith, inl refl)));
@@ -174,20 +198,21 @@ HaveFirst-none link first =
 
 -- ---- what is left
 
-module _ (size : ℕ) (lines : Lines) (report : Reports) (can_end : Ending → Type 0) (link : ℕ)
+module _ (portions : Portions) (lines : Lines) (report : Reports) (can_end : Ending → Type 0) (link : ℕ)
     (first left before after : Option (List ℕ)) where
   -- nothing was put
   pub leaves_nothing : Keeps before after →
-      LoopLeavesAll size lines report can_end link first left before after (Err Memory)
+      LoopLeavesBy portions lines report can_end link first left before after (Err Memory)
   leaves_nothing kept =
       record { told = λ bytes told. inl kept; took = (first, ([], Consumes-nil first, inl kept)) }
 
   module _ (packets : List (List ℕ)) (batches : List (List (List ℕ))) (ending : Ending) (text : List ℕ)
-      (ended : HaveEnded packet_limit link first left packets ending) (cut : AreBatches size packets batches)
+      (ended : HaveEnded portions.limit link first left packets ending)
+      (cut : AreBatchesBy (cut_of portions) packets batches)
       (met : IsMet can_end ending) where
     -- the whole report was put
     pub leaves_whole : report batches ending text → Appends before after text →
-        LoopLeavesAll size lines report can_end link first left before after (Ok ending)
+        LoopLeavesBy portions lines report can_end link first left before after (Ok ending)
     leaves_whole is put =
         record {
           told = λ bytes told. (met, (text, (packets, ended.told bytes told, (batches, cut, is)), put));
@@ -196,7 +221,7 @@ module _ (size : ℕ) (lines : Lines) (report : Reports) (can_end : Ending → T
 
     -- or a front of it
     pub leaves_front : report batches ending text → AppendsFront before after text →
-        LoopLeavesAll size lines report can_end link first left before after (Err NotPut)
+        LoopLeavesBy portions lines report can_end link first left before after (Err NotPut)
     leaves_front is put =
         record {
           told = λ bytes told. inl (ending, met, (text, (packets, ended.told bytes told, (batches, cut, is)), put));
@@ -209,7 +234,7 @@ module _ (size : ℕ) (lines : Lines) (report : Reports) (can_end : Ending → T
 
     -- or the lines of all batches
     pub leaves_less : lines batches text → Keeps before after ⊎ Appends before after text →
-        LoopLeavesAll size lines report can_end link first left before after (Err Memory)
+        LoopLeavesBy portions lines report can_end link first left before after (Err Memory)
     leaves_less is (inl kept) = leaves_nothing kept
     leaves_less is (inr put) =
         record {
@@ -227,9 +252,9 @@ module _ (size : ℕ) (lines : Lines) (report : Reports) (can_end : Ending → T
 
   -- lines of whole batches were put, and how the input ends is not known
   pub leaves_before : (packets : List (List ℕ)) (batches : List (List (List ℕ))) (text : List ℕ) →
-      HaveFirst link first packets → AreWhole size packets batches → lines batches text →
+      HaveFirst portions.limit link first packets → AreWholeBy (cut_of portions) packets batches → lines batches text →
       Keeps before after ⊎ Appends before after text →
-      LoopLeavesAll size lines report can_end link first left before after (Err Memory)
+      LoopLeavesBy portions lines report can_end link first left before after (Err Memory)
   leaves_before packets batches text firsts whole is (inl kept) = leaves_nothing kept
   leaves_before packets batches text firsts whole is (inr put) =
       record {
@@ -240,17 +265,17 @@ module _ (size : ℕ) (lines : Lines) (report : Reports) (can_end : Ending → T
       }
 
   module _ (reading : Reading) (packets : List (List ℕ)) (batches : List (List (List ℕ)))
-      (text : List ℕ) (come : HaveCome link first left reading packets) (few : length packets ≤ packet_limit)
-      (whole : AreWhole size packets batches) (is : lines batches text) where
+      (text : List ℕ) (come : HaveCome link first left reading packets) (few : length packets ≤ portions.limit)
+      (whole : AreWholeBy (cut_of portions) packets batches) (is : lines batches text) where
     pub leaves_some : AppendsFront before after text →
-        LoopLeavesAll size lines report can_end link first left before after (Err NotPut)
+        LoopLeavesBy portions lines report can_end link first left before after (Err NotPut)
     leaves_some put =
         record {
           told = λ bytes told.
               inr (
                 packets,
-                told_by (λ all now. Begins link all now packets) first left bytes come.0 told come.1
-                    (λ others now. begins_read link come.0 others reading packets few come.2),
+                told_by (λ all now. BeginsUpTo link portions.limit all now packets) first left bytes come.0 told come.1
+                    (λ others now. begins_read link portions.limit come.0 others reading packets few come.2),
                 (text, (batches, whole, is), put),
               );
           took = (
@@ -258,8 +283,8 @@ module _ (size : ℕ) (lines : Lines) (report : Reports) (can_end : Ending → T
             come.1,
             inr (
               packets,
-              taken_by (λ all now. Begins link all now packets) come.0
-                  (begins_read link come.0 [] reading packets few come.2),
+              taken_by (λ all now. BeginsUpTo link portions.limit all now packets) come.0
+                  (begins_read link portions.limit come.0 [] reading packets few come.2),
               (text, (batches, whole, is), put),
             ),
           );
@@ -268,9 +293,9 @@ module _ (size : ℕ) (lines : Lines) (report : Reports) (can_end : Ending → T
   -- a run that stops leaves what it leaves where a write failed, and where memory ran out
   pub leaves_stop : (stop : Stop) (A B : Type 0) →
       OnNotPut {T = Unit {0}} (Err stop) A → OnMemory {T = Unit {0}} (Err stop) B →
-      (A → LoopLeavesAll size lines report can_end link first left before after (Err NotPut)) →
-      (B → LoopLeavesAll size lines report can_end link first left before after (Err Memory)) →
-      LoopLeavesAll size lines report can_end link first left before after (Err stop)
+      (A → LoopLeavesBy portions lines report can_end link first left before after (Err NotPut)) →
+      (B → LoopLeavesBy portions lines report can_end link first left before after (Err Memory)) →
+      LoopLeavesBy portions lines report can_end link first left before after (Err stop)
   leaves_stop Memory A B a b on_a on_b = on_b b
   leaves_stop NotPut A B a b on_a on_b = on_a a
 

@@ -1,6 +1,8 @@
 -- What the last lines, and a batch that could not be served or put, make of what a run leaves.
-use Rattle.std.proofs.Common.{◌≡◌, ◌<◌, ◌≤◌, ◌+◌, ◌⊎◌, ℕ, List, [], ◌∷◌, ◌++◌, length, Option, Some, None, MatchOption, IfNone, IfOk, Result, Ok, Err, inl, inr, refl, sym, ap, subst, ◌∙◌, append_assoc, length-append, take, drop, arith}
+use Rattle.std.proofs.Common.{◌≡◌, ◌<◌, ◌≤◌, ◌⊎◌, ℕ, List, [], ◌∷◌, ◌++◌, length, Option, Some, None, MatchOption, IfNone, IfOk, Result, Ok, Err, inl, inr, refl, sym, ap, subst, ◌∙◌, append_assoc, length-append, take, drop, arith}
 use Rattle.std.specs.List.{AllZip, flat_map}
+use Rattle.std.specs.Option.{ForSome}
+use Rattle.std.proofs.Math.Nat.{mod-lt}
 use Rattle.std.proofs.lemmas.List.Elements.{length_all_zip}
 use Rattle.list_laws.proofs.Cuts.{whole_slice}
 use Rattle.std.specs.Io.KnownBytes.{Appends}
@@ -12,13 +14,12 @@ use Rattle.capture_loop.specs.declared.stop.Stop.{Stop}
 use Rattle.capture_loop.specs.declared.stop.Stop.TheVariants.{Memory, NotPut}
 use Rattle.capture_faults.specs.declared.ending.Ending.TheVariants.{Done, ReadFault, Limit, Fault}
 use Rattle.capture_loop.specs.Endings.{HasFailed, OnLimit}
-use Rattle.capture_loop.specs.Input.{packet_limit}
-use Rattle.pcapng_reader.specs.Reading.{Reading}
-use Rattle.capture_loop.specs.Reading.{HaveCome, HaveEnded}
-use Rattle.capture_loop.specs.Batches.{AreBatches, AreWhole}
-use Rattle.capture_loop.specs.Leaves.{IsMet, LoopLeavesAll, Lines, Marks, Reports}
+use Rattle.capture_loop.specs.declared.portions.Portions.{Portions}
+use Rattle.capture_loop.specs.Reading.{HaveEnded}
+use Rattle.capture_loop.specs.Batches.{AreBatchesBy, AreWholeBy, at_most, cut_of}
+use Rattle.capture_loop.specs.Leaves.{IsMet, LoopLeavesBy, Lines, Marks, Reports}
 use Rattle.capture_loop.specs.Looping.{HasPut, OnNotPut, Stands}
-use Rattle.capture_loop.proofs.LeavesLemmas.{AreBatches-last, AreBatches-whole, AreWhole-more, AreWhole-none, HaveFirst-come, HaveFirst-none, HasPut-cut, HasPut-kept, leaves_before, leaves_front, leaves_less, leaves_whole}
+use Rattle.capture_loop.proofs.LeavesLemmas.{AreBatches-last, AreBatches-whole, AreWhole-none, HaveFirst-none, HasPut-cut, HasPut-kept, leaves_before, leaves_front, leaves_less, leaves_whole}
 
 -- all that is held is put, with more behind it
 Appends-more : (before mid after : Option (List ℕ)) (held text more : List ℕ) → HasPut before mid held text →
@@ -29,86 +30,99 @@ Appends-more before mid after held text more put appended =
     (Appends-trans before mid after put.done (held ++ more) put.put appended)
 
 -- no batch is whole where there are no packets
-pub none_whole : (size : ℕ) (all : List (List ℕ)) (batches : List (List (List ℕ))) → 0 < size →
-    AreWhole size all batches → length all ≡ 0 → batches ≡ []
-none_whole size all [] some whole none = refl
-none_whole size all (batch ∷ batches) some whole none =
-    let each : length batch ≡ size = whole.each.0 in
+pub none_whole : (cut : ℕ → ℕ) (all : List (List ℕ)) (batches : List (List (List ℕ))) → 0 < cut 0 →
+    AreWholeBy cut all batches → length all ≡ 0 → batches ≡ []
+none_whole cut all [] some whole none = refl
+none_whole cut all (batch ∷ batches) some whole none =
+    let each : length batch ≡ cut 0 = whole.each.0 in
     let sum = length-append batch (flat_map (λ (b : List (List ℕ)). b) batches) in
     absurd (omega (arith, some, none, ap length whole.parts, sum, each))
 
 no_packets : (last : List (List ℕ)) → last ≡ [] → length last ≡ 0
 no_packets last none = ap length none
 
-module _ (size : ℕ) (lines : Lines) (report : Reports) (can_end : Ending → Type 0) (link : ℕ)
+module _ (portions : Portions) (lines : Lines) (report : Reports) (can_end : Ending → Type 0) (link : ℕ)
     (first left before : Option (List ℕ))
     (all : List (List ℕ)) (batches : List (List (List ℕ))) (ending : Ending)
-    (ended : HaveEnded packet_limit link first left all ending) (cut : AreBatches size all batches)
+    (ended : HaveEnded portions.limit link first left all ending) (cut : AreBatchesBy (cut_of portions) all batches)
     (met : IsMet can_end ending) where
   -- the last lines could not be made
   pub end_memory : (now : Option (List ℕ)) (held done : List ℕ) → HasPut before now held done → lines batches done →
-      LoopLeavesAll size lines report can_end link first left before now (Err Memory)
+      LoopLeavesBy portions lines report can_end link first left before now (Err Memory)
   end_memory now held done put is =
-      leaves_less size lines report can_end link first left before now all batches ending done ended cut met is
+      leaves_less portions lines report can_end link first left before now all batches ending done ended cut met is
       (HasPut-kept before now held done put)
 
   -- or not be put
   pub end_front : (mid after : Option (List ℕ)) (held done rest text : List ℕ) → HasPut before mid held done →
       text ≡ held ++ rest → report batches ending (done ++ rest) → AppendsFront mid after text →
-      LoopLeavesAll size lines report can_end link first left before after (Err NotPut)
+      LoopLeavesBy portions lines report can_end link first left before after (Err NotPut)
   end_front mid after held done rest text put is reported front =
-      leaves_front size lines report can_end link first left before after all batches ending (done ++ rest) ended
+      leaves_front portions lines report can_end link first left before after all batches ending (done ++ rest) ended
       cut met
       reported (HasPut-cut before mid after held done rest put (subst (AppendsFront mid after) is front))
 
   pub end_whole : (mid after : Option (List ℕ)) (held done rest text : List ℕ) → HasPut before mid held done →
       text ≡ held ++ rest → report batches ending (done ++ rest) → Appends mid after text →
-      LoopLeavesAll size lines report can_end link first left before after (Ok ending)
+      LoopLeavesBy portions lines report can_end link first left before after (Ok ending)
   end_whole mid after held done rest text put is reported appended =
-      leaves_whole size lines report can_end link first left before after all batches ending (done ++ rest) ended
+      leaves_whole portions lines report can_end link first left before after all batches ending (done ++ rest) ended
       cut met
       reported (Appends-more before mid after held done rest put (subst (Appends mid after) is appended))
 
   -- the lines of the last batch could not be put
   pub last_front : (after : Option (List ℕ)) (done : List ℕ) →
       ((rest : List ℕ) × report batches ending (done ++ rest)) → AppendsFront before after done →
-      LoopLeavesAll size lines report can_end link first left before after (Err NotPut)
+      LoopLeavesBy portions lines report can_end link first left before after (Err NotPut)
   last_front after done more front =
-      leaves_front size lines report can_end link first left before after all batches ending (done ++ more.0)
+      leaves_front portions lines report can_end link first left before after all batches ending (done ++ more.0)
       ended cut
       met
       more.1 (AppendsFront-longer before after done more.0 front)
 
 -- a last batch is begun where there are packets of it, or none at all
-pub last_cut : (size : ℕ) (served : List (List (List ℕ)) → List ℕ → Type 0) (link : ℕ) (first : Option (List ℕ))
-    (many packets : ℕ)
-    (all last : List (List ℕ)) (before now : Option (List ℕ)) (held : List ℕ) →
-    (stands : Stands size served link first many all before now held) → length last ≡ packets → 0 < size →
-    packets ≤ size → (packets ≡ 0 → many ≡ 0) → AreBatches size (all ++ last) (stands.batches ++ last ∷ [])
-last_cut size served link first many packets all last before now held stands count some few begun =
-    AreBatches-last size all last stands.batches stands.whole (omega (arith, count, few))
-    (λ none. none_whole size all stands.batches some stands.whole
+pub last_cut : (portions : Portions) (served : List (List (List ℕ)) → List ℕ → Type 0) (link : ℕ)
+    (first : Option (List ℕ)) (many packets : ℕ) (all last : List (List ℕ)) (before now : Option (List ℕ))
+    (held : List ℕ) → (stands : Stands portions served link first many all before now held) →
+    length last ≡ packets → 0 < cut_of portions 0 → packets ≤ cut_of portions many → (packets ≡ 0 → many ≡ 0) →
+    AreBatchesBy (cut_of portions) (all ++ last) (stands.batches ++ last ∷ [])
+last_cut portions served link first many packets all last before now held stands count some few begun =
+    AreBatches-last (cut_of portions) all last stands.batches stands.whole
+    (subst (λ (n : ℕ). length last ≤ cut_of portions n) (sym stands.count) (subst (λ (n : ℕ). n ≤ cut_of portions many)
+    (sym count) few))
+    (λ none. none_whole (cut_of portions) all stands.batches some stands.whole
     (stands.count ∙ begun (sym count ∙ no_packets last none)))
 
 -- a run without packets has a batch all the same, and one with whole batches has them
-pub whole_cut : (size : ℕ) (all : List (List ℕ)) (batches : List (List (List ℕ))) → AreWhole size all batches →
-    0 < size →
-    (length all ≡ 0 → ⊥) → AreBatches size all batches
-whole_cut size all batches whole large some = choose (AreBatches-whole size all batches whole large)
+pub whole_cut : (cut : ℕ → ℕ) (all : List (List ℕ)) (batches : List (List (List ℕ))) → AreWholeBy cut all batches →
+    ((before : ℕ) → 0 < cut before) → (length all ≡ 0 → ⊥) → AreBatchesBy cut all batches
+whole_cut cut all batches whole large some = choose (AreBatches-whole cut all batches whole large)
   where
-    choose : (length all ≡ 0) ⊎ AreBatches size all batches → AreBatches size all batches
+    choose : (length all ≡ 0) ⊎ AreBatchesBy cut all batches → AreBatchesBy cut all batches
     choose (inl none) = absurd (some none)
-    choose (inr cut) = cut
+    choose (inr parts) = parts
+
+-- a batch has packets, wherever it begins
+pub cut_some : (portions : Portions) → 0 < portions.batch → ForSome portions.every (λ every. 0 < every) →
+    (before : ℕ) → 0 < cut_of portions before
+cut_some portions some every before = go portions.every every
+  where
+    go : (choice : Option ℕ) → ForSome choice (λ every. 0 < every) → 0 < at_most choice portions.batch before
+    go None each = some
+    go (Some every) each =
+        let low = mod-lt before {m = every} (each every refl) in
+        omega (arith, some, low)
 
 -- the last batch could not be served
-pub last_memory : (size : ℕ) (lines : Lines) (report : Reports) (can_end : Ending → Type 0)
+pub last_memory : (portions : Portions) (lines : Lines) (report : Reports) (can_end : Ending → Type 0)
     (served : List (List (List ℕ)) → List ℕ → Type 0) (link : ℕ) (first left : Option (List ℕ)) (many : ℕ)
     (all : List (List ℕ))
-    (before now : Option (List ℕ)) (held : List ℕ) → (stands : Stands size served link first many all before now held) →
-    lines stands.batches stands.text → LoopLeavesAll size lines report can_end link first left before now
+    (before now : Option (List ℕ)) (held : List ℕ) →
+    (stands : Stands portions served link first many all before now held) →
+    lines stands.batches stands.text → LoopLeavesBy portions lines report can_end link first left before now
     (Err Memory)
-last_memory size lines report can_end served link first left many all before now held stands is =
-    leaves_before size lines report can_end link first left before now all stands.batches stands.text stands.firsts
+last_memory portions lines report can_end served link first left many all before now held stands is =
+    leaves_before portions lines report can_end link first left before now all stands.batches stands.text stands.firsts
     stands.whole is (HasPut-kept before now held stands.text stands.put)
 
 -- ---- a choice
@@ -132,16 +146,17 @@ OnNotPut-any (Err Memory) p = tt
 OnNotPut-any (Err NotPut) p = p
 
 -- before any batch the head line is held
-pub at_start : (size : ℕ) (served : List (List (List ℕ)) → List ℕ → Type 0) (link : ℕ)
+pub at_start : (portions : Portions) (served : List (List (List ℕ)) → List ℕ → Type 0) (link : ℕ)
     (first before now : Option (List ℕ))
-    (held : List ℕ) → served [] held → HasPut before now held held → Stands size served link first 0 [] before now held
-at_start size served link first before now held done put =
+    (held : List ℕ) → served [] held → HasPut before now held held →
+    Stands portions served link first 0 [] before now held
+at_start portions served link first before now held done put =
     record {
       batches = [];
       text = held;
       count = refl;
-      firsts = HaveFirst-none link first;
-      whole = AreWhole-none size;
+      firsts = HaveFirst-none portions.limit link first;
+      whole = AreWhole-none (cut_of portions);
       done = done;
       put = put;
     }

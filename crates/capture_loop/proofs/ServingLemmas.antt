@@ -13,7 +13,7 @@ use Rattle.pcapng_reader.proofs.InputFacts.{input_refused, no_pcapng}
 use Rattle.pcapng_reader.proofs.ReadFacts.{end_few, reaches_read, read_ends, read_faults, read_few, read_longer, read_more, record_few}
 use Rattle.capture_faults.specs.declared.ending.Ending.{Ending}
 use Rattle.capture_faults.specs.declared.ending.Ending.TheVariants.{Done, ReadFault, Limit, Fault}
-use Rattle.capture_loop.specs.Input.{Begins, IsFirst, MayFollow, ServesUpTo, TakesFew, packet_limit}
+use Rattle.capture_loop.specs.Input.{BeginsUpTo, IsFirstUpTo, MayFollow, ServesUpTo, TakesFew}
 
 -- A reader met this ending, of these bytes that were taken of its source, which then had the others left.
 abbrev pub EndsBy : (old new : Reading) → Ending → (taken others : List ℕ) → Type 0
@@ -224,22 +224,22 @@ Serves-none link most taken others fewer =
 -- ---- how it begins
 
 -- the packets that were read are its first
-pub first_read : (link : ℕ) (bytes left : List ℕ) (reading : Reading) (packets : List (List ℕ)) →
-    length packets ≤ packet_limit →
-    HasRead link bytes reading (Some left) packets → IsFirst link bytes packets
-first_read link bytes left reading packets few read =
+pub first_read : (link most : ℕ) (bytes left : List ℕ) (reading : Reading) (packets : List (List ℕ)) →
+    length packets ≤ most →
+    HasRead link bytes reading (Some left) packets → IsFirstUpTo link most bytes packets
+first_read link most bytes left reading packets few read =
     let reach = read_few link bytes left reading packets read in
     (few, inr (reach.0, reach.1, reach.2))
 
-pub begins_read : (link : ℕ) (front others : List ℕ) (reading : Reading) (packets : List (List ℕ)) →
-    length packets ≤ packet_limit → HasRead link front reading (Some []) packets →
-    Begins link (front ++ others) (Some others) packets
-begins_read link front others reading packets few read =
+pub begins_read : (link most : ℕ) (front others : List ℕ) (reading : Reading) (packets : List (List ℕ)) →
+    length packets ≤ most → HasRead link front reading (Some []) packets →
+    BeginsUpTo link most (front ++ others) (Some others) packets
+begins_read link most front others reading packets few read =
     let bytes : List ℕ = front ++ others in
     let longer = read_longer link front [] others reading packets read in
     let reach = read_few link bytes others reading packets longer in
     record {
-      first = first_read link bytes others reading packets few longer;
+      first = first_read link most bytes others reading packets few longer;
       takes = few_here link bytes front others packets reach.0 reach.1 refl reach.2
           (omega (arith, reach.3, buffer_beyond reach.0));
     }

@@ -7,9 +7,9 @@ use Rattle.pcapng_reader.specs.Reading.{Reading}
 use Rattle.capture_faults.specs.declared.ending.Ending.{Ending}
 use Rattle.capture_loop.specs.declared.stop.Stop.{Stop}
 use Rattle.capture_loop.specs.declared.stop.Stop.TheVariants.{Memory, NotPut}
-use Rattle.capture_loop.specs.Batches.{AreWhole}
-use Rattle.capture_loop.specs.Input.{packet_limit}
-use Rattle.capture_loop.specs.Leaves.{Lines, LoopLeavesAll, Reports}
+use Rattle.capture_loop.specs.Batches.{AreWholeBy, cut_of}
+use Rattle.capture_loop.specs.declared.portions.Portions.{Portions}
+use Rattle.capture_loop.specs.Leaves.{Lines, LoopLeavesBy, Reports}
 use Rattle.capture_loop.specs.Looping.{HasPut, Standing, Stands, Untold}
 use Rattle.capture_loop.specs.Reading.{HaveCome}
 use Rattle.capture_loop.proofs.LeavesLemmas.{AreWhole-more, HasPut-cut, HasPut-more, HaveFirst-come, leaves_some}
@@ -19,12 +19,12 @@ use Rattle.capture_loop.proofs.LoopLemmas.{last_memory}
 abbrev pub Implies : (served then : Lines) → Type 0
 Implies served then = (batches : List (List (List ℕ))) (text : List ℕ) → served batches text → then batches text
 
-module _ {C : Type 0} (size : ℕ) (lines : Lines) (tells : C → List ℕ → Type 0) (link : ℕ)
+module _ {C : Type 0} (portions : Portions) (lines : Lines) (tells : C → List ℕ → Type 0) (link : ℕ)
     (first left before : Option (List ℕ)) where
   -- what stands by what was served stands by what follows of it
   pub Stands-map : (served then : Lines) (many : ℕ) (all : List (List ℕ)) (now : Option (List ℕ)) (held : List ℕ) →
-      Implies served then → Stands size served link first many all before now held →
-      Stands size then link first many all before now held
+      Implies served then → Stands portions served link first many all before now held →
+      Stands portions then link first many all before now held
   Stands-map served then many all now held follows stands = record {
     batches = stands.batches;
     text = stands.text;
@@ -37,8 +37,8 @@ module _ {C : Type 0} (size : ℕ) (lines : Lines) (tells : C → List ℕ → T
 
   pub Standing-map : (untold : Option C) (served then : Lines) (many : ℕ) (all : List (List ℕ))
       (now : Option (List ℕ)) (held : List ℕ) → Implies served then →
-      Standing size served lines tells untold link first left many all before now held →
-      Standing size then lines tells untold link first left many all before now held
+      Standing portions served lines tells untold link first left many all before now held →
+      Standing portions then lines tells untold link first left many all before now held
   Standing-map None served then many all now held follows stands =
       Stands-map served then many all now held follows stands
   Standing-map (Some closed) served then many all now held follows u = record {
@@ -58,33 +58,33 @@ module _ {C : Type 0} (size : ℕ) (lines : Lines) (tells : C → List ℕ → T
   -- memory ran out, and nothing more was put
   pub standing_memory : (untold : Option C) (served : Lines) (report : Reports) (can_end : Ending → Type 0) (many : ℕ)
       (all : List (List ℕ)) (now : Option (List ℕ)) (held : List ℕ) → Implies served lines →
-      Standing size served lines tells untold link first left many all before now held →
-      LoopLeavesAll size lines report can_end link first left before now (Err Memory)
+      Standing portions served lines tells untold link first left many all before now held →
+      LoopLeavesBy portions lines report can_end link first left before now (Err Memory)
   standing_memory None served report can_end many all now held follows stands =
-      last_memory size lines report can_end served link first left many all before now held stands
+      last_memory portions lines report can_end served link first left many all before now held stands
       (follows stands.batches stands.text stands.done)
   standing_memory (Some closed) served report can_end many all now held follows u =
-      last_memory size lines report can_end lines link first left (length u.packets) u.packets before now held
+      last_memory portions lines report can_end lines link first left (length u.packets) u.packets before now held
       u.front u.front.done
 
   module _ (closed : C) (served : Lines) (many : ℕ) (all : List (List ℕ)) (mid after : Option (List ℕ))
-      (held text : List ℕ) (u : Untold size served lines tells closed link first left many all before mid held)
+      (held text : List ℕ) (u : Untold portions served lines tells closed link first left many all before mid held)
       (tell : tells closed text) where
-    few : length all ≤ packet_limit
+    few : length all ≤ portions.limit
     few = omega (arith, u.count, u.few)
 
-    whole : AreWhole size all (u.front.batches ++ u.last ∷ [])
-    whole = subst (λ (ps : List (List ℕ)). AreWhole size ps (u.front.batches ++ u.last ∷ [])) u.parts
-        (AreWhole-more size u.packets u.last u.front.batches u.front.whole u.long)
+    whole : AreWholeBy (cut_of portions) all (u.front.batches ++ u.last ∷ [])
+    whole = subst (λ (ps : List (List ℕ)). AreWholeBy (cut_of portions) ps (u.front.batches ++ u.last ∷ [])) u.parts
+        (AreWhole-more (cut_of portions) u.packets u.last u.front.batches u.front.whole u.long)
 
     -- all lines of the last batch were put
     pub settled : (then : Lines) (held_then : List ℕ) → Implies served then → Appends mid after (held ++ text) →
-        held_then ≡ [] → Stands size then link first many all before after held_then
+        held_then ≡ [] → Stands portions then link first many all before after held_then
     settled then held_then follows put none = record {
       batches = u.front.batches ++ u.last ∷ [];
       text = u.front.text ++ text;
       count = u.count;
-      firsts = HaveFirst-come link first left u.come.0 all few u.come.1;
+      firsts = HaveFirst-come portions.limit link first left u.come.0 all few u.come.1;
       whole = whole;
       done = follows (u.front.batches ++ u.last ∷ []) (u.front.text ++ text) (u.served_so text tell);
       put = subst (λ (h : List ℕ). HasPut before after h (u.front.text ++ text)) (sym none)
@@ -94,20 +94,21 @@ module _ {C : Type 0} (size : ℕ) (lines : Lines) (tells : C → List ℕ → T
     -- or a front of them
     pub cut_off : (report : Reports) (can_end : Ending → Type 0) → Implies served lines →
         AppendsFront mid after (held ++ text) →
-        LoopLeavesAll size lines report can_end link first left before after (Err NotPut)
+        LoopLeavesBy portions lines report can_end link first left before after (Err NotPut)
     cut_off report can_end follows front =
-        leaves_some size lines report can_end link first left before after u.come.0 all
+        leaves_some portions lines report can_end link first left before after u.come.0 all
         (u.front.batches ++ u.last ∷ []) (u.front.text ++ text) u.come.1 few whole
         (follows (u.front.batches ++ u.last ∷ []) (u.front.text ++ text) (u.served_so text tell))
         (HasPut-cut before mid after held u.front.text text u.front.put front)
 
   -- one whole batch more was served, and is not told
   pub untold_next : (closed : C) (served then : Lines) (reading : Reading) (many more : ℕ) (all last : List (List ℕ))
-      (now : Option (List ℕ)) (held : List ℕ) → (stands : Stands size served link first many all before now held) →
-      Implies served lines → HaveCome link first left reading (all ++ last) → length last ≡ size →
-      more ≡ many + size → more ≤ packet_limit → ((text : List ℕ) × tells closed text) →
+      (now : Option (List ℕ)) (held : List ℕ) →
+      (stands : Stands portions served link first many all before now held) →
+      Implies served lines → HaveCome link first left reading (all ++ last) → length last ≡ cut_of portions many →
+      more ≡ many + length last → more ≤ portions.limit → ((text : List ℕ) × tells closed text) →
       ((text : List ℕ) → tells closed text → then (stands.batches ++ last ∷ []) (stands.text ++ text)) →
-      Untold size then lines tells closed link first left more (all ++ last) before now held
+      Untold portions then lines tells closed link first left more (all ++ last) before now held
   untold_next closed served then reading many more all last now held stands follows come long is few some served_so =
       record {
         packets = all;
@@ -122,8 +123,8 @@ module _ {C : Type 0} (size : ℕ) (lines : Lines) (tells : C → List ℕ → T
           put = stands.put;
         };
         parts = refl;
-        long = long;
-        count = omega (arith, length-append all last, stands.count, long, is);
+        long = subst (λ (n : ℕ). length last ≡ cut_of portions n) (sym stands.count) long;
+        count = omega (arith, length-append all last, stands.count, is);
         few = few;
         some = some;
         served_so = served_so;
@@ -176,11 +177,11 @@ IfNone-any P None held = held
 IfNone-any P (Some closed) held = tt
 
 -- a run that stops leaves what it leaves by the stop that was met
-pub leaves_err : (size : ℕ) (lines : Lines) (report : Reports) (can_end : Ending → Type 0) (link : ℕ)
+pub leaves_err : (portions : Portions) (lines : Lines) (report : Reports) (can_end : Ending → Type 0) (link : ℕ)
     (first left before now : Option (List ℕ)) (result : Result Ending Stop) (stop : Stop) →
     IsErrAnd result (λ (met : Stop). met ≡ stop) →
-    LoopLeavesAll size lines report can_end link first left before now (Err stop) →
-    LoopLeavesAll size lines report can_end link first left before now result
-leaves_err size lines report can_end link first left before now (Ok ending) stop is leaves = absurd is
-leaves_err size lines report can_end link first left before now (Err met) stop is leaves =
-    subst (λ (s : Stop). LoopLeavesAll size lines report can_end link first left before now (Err s)) (sym is) leaves
+    LoopLeavesBy portions lines report can_end link first left before now (Err stop) →
+    LoopLeavesBy portions lines report can_end link first left before now result
+leaves_err portions lines report can_end link first left before now (Ok ending) stop is leaves = absurd is
+leaves_err portions lines report can_end link first left before now (Err met) stop is leaves =
+    subst (λ (s : Stop). LoopLeavesBy portions lines report can_end link first left before now (Err s)) (sym is) leaves

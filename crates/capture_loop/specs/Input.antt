@@ -1,6 +1,6 @@
 -- What a run serves of its input.
 -- Source: pcap-savefile(5) and draft-ietf-opsawg-pcapng, by the definition of an input.
-use Rattle.std.specs.Prelude.{◌≡◌, ℕ, ◌<◌, ◌≤◌, ◌+◌, ◌⊎◌, List, [], ◌++◌, length, take, Option, Some, Result, Ok, Err}
+use Rattle.std.specs.Prelude.{◌≡◌, ℕ, ◌<◌, ◌≤◌, ◌+◌, ◌⊎◌, List, [], ◌++◌, length, take, Option, Some, None, Result, Ok, Err}
 use Rattle.capture_faults.specs.declared.fault.CaptureFault.TheVariants.{ShortHeader}
 use Rattle.pcap_reader.specs.Reading.{Took, buffer_length}
 use Rattle.capture_faults.specs.declared.any_fault.AnyFault.{AnyFault}
@@ -10,10 +10,15 @@ use Rattle.pcapng_reader.specs.Laws.{Reaches, StartsAt}
 use Rattle.pcapng_reader.specs.Reading.{Form, OfBlocks, OfRecords, beyond}
 use Rattle.capture_faults.specs.declared.ending.Ending.{Ending}
 use Rattle.capture_faults.specs.declared.ending.Ending.TheVariants.{Done, ReadFault, Limit, Fault}
+use Rattle.capture_loop.specs.declared.portions.Portions.{Portions}
 
 -- how many packets a run serves at most
 abbrev pub packet_limit : ℕ
 packet_limit = 4000000
+
+-- batches of so many packets, of no more than a run serves
+abbrev pub in_batches : (size : ℕ) → Portions
+in_batches size = record { batch = size; every = None; limit = packet_limit }
 
 -- the bytes are an input of these packets with this ending, and they are no more than so many
 abbrev pub HoldsUpTo : (link : ℕ) (most : ℕ) → List ℕ → List (List ℕ) → Result ℕ AnyFault → Type 0
@@ -92,13 +97,23 @@ pub record ServesUpTo (link : ℕ) (most : ℕ) (bytes : List ℕ) (left : Optio
 abbrev pub Serves : ℕ → List ℕ → Option (List ℕ) → List (List ℕ) → Ending → Type 0
 Serves link bytes left packets ending = ServesUpTo link packet_limit bytes left packets ending
 
--- these are the first packets of an input with these bytes, no more than `serve` takes
-abbrev pub IsFirst : ℕ → List ℕ → List (List ℕ) → Type 0
-IsFirst link bytes packets =
-    (length packets ≤ packet_limit)
+-- these are the first packets of an input with these bytes, no more than so many
+abbrev pub IsFirstUpTo : (link : ℕ) (most : ℕ) → List ℕ → List (List ℕ) → Type 0
+IsFirstUpTo link most bytes packets =
+    (length packets ≤ most)
     × ((packets ≡ []) ⊎ ((form : Form) × (place : ℕ) × Reaches link bytes packets form place))
 
--- Of an input with these bytes, of which these are left, these packets have been read; how it ends is not known yet.
-pub record Begins (link : ℕ) (bytes : List ℕ) (left : Option (List ℕ)) (packets : List (List ℕ)) : Type 0 where
-  pub first : IsFirst link bytes packets
+-- no more than `serve` takes
+abbrev pub IsFirst : ℕ → List ℕ → List (List ℕ) → Type 0
+IsFirst link bytes packets = IsFirstUpTo link packet_limit bytes packets
+
+-- Of an input with these bytes, of which these are left, these packets have been read, no more than so many; how it
+-- ends is not known yet.
+pub record BeginsUpTo (link : ℕ) (most : ℕ) (bytes : List ℕ) (left : Option (List ℕ)) (packets : List (List ℕ)) :
+    Type 0 where
+  pub first : IsFirstUpTo link most bytes packets
   pub takes : TakesFew link bytes left packets
+
+-- no more than `serve` takes
+abbrev pub Begins : ℕ → List ℕ → Option (List ℕ) → List (List ℕ) → Type 0
+Begins link bytes left packets = BeginsUpTo link packet_limit bytes left packets

@@ -4,10 +4,11 @@ use Rattle.std.specs.Io.KnownBytes.{Appends}
 use Rattle.capture_loop.specs.declared.stop.Stop.{Stop}
 use Rattle.capture_loop.specs.declared.stop.Stop.TheVariants.{Memory, NotPut}
 use Rattle.pcap_reader.specs.Reading.{Took}
-use Rattle.capture_loop.specs.Batches.{AreWhole}
+use Rattle.capture_loop.specs.declared.portions.Portions.{Portions}
+use Rattle.capture_loop.specs.Batches.{AreWholeBy, cut_of}
 use Rattle.pcapng_reader.specs.Reading.{Reading}
 use Rattle.capture_loop.specs.Reading.{HaveCome}
-use Rattle.capture_loop.specs.Input.{IsFirst, packet_limit}
+use Rattle.capture_loop.specs.Input.{IsFirstUpTo}
 
 -- what was put since `before`, and what is held, are this text
 pub record HasPut (before now : Option (List ℕ)) (held text : List ℕ) : Type 0 where
@@ -17,47 +18,49 @@ pub record HasPut (before now : Option (List ℕ)) (held text : List ℕ) : Type
   -- all of it, or nothing
   pub whole : (done ≡ []) ⊎ (held ≡ [])
 
--- these are the first packets of an input: where it tells its bytes, and by what was taken of it at some moment
-pub record HaveFirst (link : ℕ) (first : Option (List ℕ)) (packets : List (List ℕ)) : Type 0 where
-  pub told : (bytes : List ℕ) → first ≡ Some bytes → IsFirst link bytes packets
-  pub took : (between : Option (List ℕ)) × Took first between (λ taken. IsFirst link taken packets)
+-- these are the first packets of an input, no more than so many: where it tells its bytes, and by what was taken of it
+-- at some moment
+pub record HaveFirst (most link : ℕ) (first : Option (List ℕ)) (packets : List (List ℕ)) : Type 0 where
+  pub told : (bytes : List ℕ) → first ≡ Some bytes → IsFirstUpTo link most bytes packets
+  pub took : (between : Option (List ℕ)) × Took first between (λ taken. IsFirstUpTo link most taken packets)
 
--- so many packets, which are these, were served in whole batches of this size, and the text was put or is held
-pub record Stands (size : ℕ) (served : List (List (List ℕ)) → List ℕ → Type 0) (link : ℕ) (first : Option (List ℕ))
+-- so many packets, which are these, were served in whole batches, cut so, and the text was put or is held
+pub record Stands (portions : Portions) (served : List (List (List ℕ)) → List ℕ → Type 0) (link : ℕ)
+    (first : Option (List ℕ))
     (many : ℕ)
     (all : List (List ℕ)) (before now : Option (List ℕ)) (held : List ℕ) : Type 0 where
   pub batches : List (List (List ℕ))
   pub text : List ℕ
   pub count : length all ≡ many
-  pub firsts : HaveFirst link first all
-  pub whole : AreWhole size all batches
+  pub firsts : HaveFirst portions.limit link first all
+  pub whole : AreWholeBy (cut_of portions) all batches
   pub done : served batches text
   pub put : HasPut before now held text
 
 -- The last of these batches, whose packets are `all`, is closed, and none of its lines is told. Those before it were
 -- told, and all was read by the time that the reader stood at some place.
-pub record Untold {C : Type 0} (size : ℕ) (served lines : List (List (List ℕ)) → List ℕ → Type 0)
+pub record Untold {C : Type 0} (portions : Portions) (served lines : List (List (List ℕ)) → List ℕ → Type 0)
     (tells : C → List ℕ → Type 0) (closed : C) (link : ℕ) (first left : Option (List ℕ)) (many : ℕ)
     (all : List (List ℕ)) (before now : Option (List ℕ)) (held : List ℕ) : Type 0 where
   pub packets : List (List ℕ)
   pub last : List (List ℕ)
-  pub front : Stands size lines link first (length packets) packets before now held
+  pub front : Stands portions lines link first (length packets) packets before now held
   pub parts : packets ++ last ≡ all
-  pub long : length last ≡ size
+  pub long : length last ≡ cut_of portions (length packets)
   pub count : length all ≡ many
-  pub few : many ≤ packet_limit
+  pub few : many ≤ portions.limit
   pub some : (text : List ℕ) × tells closed text
   pub served_so : (text : List ℕ) → tells closed text → served (front.batches ++ last ∷ []) (front.text ++ text)
   pub come : (then : Reading) × HaveCome link first left then all
 
 -- so many packets were served in whole batches of this size, and the lines of the last one may not be told yet
-abbrev pub Standing : {C : Type 0} → (size : ℕ) → (served lines : List (List (List ℕ)) → List ℕ → Type 0) →
+abbrev pub Standing : {C : Type 0} → (portions : Portions) → (served lines : List (List (List ℕ)) → List ℕ → Type 0) →
     (tells : C → List ℕ → Type 0) → Option C → (link : ℕ) → (first left : Option (List ℕ)) → (many : ℕ) →
     (all : List (List ℕ)) → (before now : Option (List ℕ)) → (held : List ℕ) → Type 0
-Standing size served lines tells None link first left many all before now held =
-    Stands size served link first many all before now held
-Standing size served lines tells (Some closed) link first left many all before now held =
-    Untold size served lines tells closed link first left many all before now held
+Standing portions served lines tells None link first left many all before now held =
+    Stands portions served link first many all before now held
+Standing portions served lines tells (Some closed) link first left many all before now held =
+    Untold portions served lines tells closed link first left many all before now held
 
 -- a fact where a write failed
 abbrev pub OnNotPut : {T : Type 0} → Result T Stop → Type 0 → Type 0

@@ -8,10 +8,11 @@ ghost use Rattle.capture_loop.specs.Input.{StopsAt};
 ghost use Rattle.capture_loop.specs.Reading.{HaveCome};
 ghost use Rattle.capture_loop.specs.Intake.{IsRead, IsTaken};
 
-use crate::job::{MOST_BATCH, PACKET_LIMIT, Pile};
+use crate::job::{MOST_BATCH, Pile};
 use crate::opening::{read_on, read_past};
 use capture_faults::Ending;
 use edge_traits::Source;
+use pcap_reader::MOST_PACKETS;
 use pcapng_reader::AnyReader;
 use std::alloc::AllocError;
 
@@ -30,15 +31,15 @@ pub fn read_rest<S: Source, P: Pile>(
     reader: &mut AnyReader,
     source: &mut S,
     batch: u32,
-    before: u32,
+    before: u64,
     taken: u32,
-    limit: u32,
+    limit: u64,
     pile: &mut P,
 ) -> Result<Part, AllocError>
     requires going { reader.old.ended ≡ false }
     requires given { reader.old.given ≡ before + taken }
     requires few { before < limit }
-    requires limited { limit ≤ PACKET_LIMIT }
+    requires limited { (limit ≤ P.most) × (limit ≤ MOST_PACKETS) }
     requires few_taken { (taken ≤ batch) × (batch ≤ MOST_BATCH) × (before + taken ≤ limit) }
     requires piled { (packets : List (List ℕ)) × P.holds pile.old before packets × (length packets ≡ taken) }
     ensures read { IfOk result (λ part. (old : List (List ℕ)) → P.holds pile.old before old → length old ≡ taken →
@@ -61,7 +62,7 @@ pub fn read_rest<S: Source, P: Pile>(
     ensures failed { IfOk result (λ part. HasFailed part.ending (S.failed source.old) (S.failed source.new)) }
     ensures none_failed { OnErr result (S.failed source.new ≡ S.failed source.old) }
 {
-    let most = batch.min(limit - before);
+    let most = u64::from(batch).min(limit - before) as u32;
     for packets in taken..most {
         if let Some(ending) = read_on(reader, source) {
             return Ok(Part {
@@ -69,9 +70,9 @@ pub fn read_rest<S: Source, P: Pile>(
                 ending: Some(ending),
             });
         }
-        pile.take(before + packets + 1, reader.packet())?;
+        pile.take(before + u64::from(packets) + 1, reader.packet())?;
     }
-    if before + most < limit {
+    if before + u64::from(most) < limit {
         return Ok(Part {
             packets: most,
             ending: None,
@@ -84,27 +85,29 @@ pub fn read_rest<S: Source, P: Pile>(
 }
 
 /// Takes the packets that the reader holds, behind so many, into a pile that is empty, as far as they are of one batch,
-/// and prepares the pile where the batch is whole. Nothing is read.
+/// and prepares the pile where the batch is whole. No more than `limit` are taken in all. Nothing is read.
 pub fn take_held<P: Pile>(
     reader: &mut AnyReader,
     batch: u32,
-    before: u32,
+    before: u64,
+    limit: u64,
     pile: &mut P,
 ) -> Result<u32, AllocError>
     requires going { reader.old.ended ≡ false }
     requires given { reader.old.given ≡ before }
-    requires few { (before < PACKET_LIMIT) × (batch ≤ MOST_BATCH) }
+    requires few { (before < limit) × (batch ≤ MOST_BATCH) }
+    requires limited { (limit ≤ P.most) × (limit ≤ MOST_PACKETS) }
     requires none { P.holds pile.old before [] }
     ensures way { P.way pile.new ≡ P.way pile.old }
     ensures taken { IfOk result (λ packets. (more : List (List ℕ)) × P.holds pile.new before more
-        × (length more ≡ packets) × IsTaken reader.old reader.new batch before more) }
+        × (length more ≡ packets) × IsTaken limit reader.old reader.new batch before more) }
 {
-    let most = batch.min(PACKET_LIMIT - before);
+    let most = (limit - before).min(u64::from(batch)) as u32;
     for packets in 0..most {
         if !reader.next_held() {
             return Ok(packets);
         }
-        pile.take(before + packets + 1, reader.packet())?;
+        pile.take(before + u64::from(packets) + 1, reader.packet())?;
     }
     pile.prepare()?;
     Ok(most)

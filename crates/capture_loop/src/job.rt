@@ -5,6 +5,7 @@ ghost use Rattle.std.specs.List.{All, AllZip};
 ghost use Rattle.capture_faults.specs.declared.ending.Ending.{Ending as AnEnding};
 ghost use Rattle.capture_faults.specs.Endings.{IsEnding};
 
+use crate::portions::Portions;
 use capture_faults::Ending;
 use edge_traits::Gate;
 use std::alloc::{AllocError, Global};
@@ -20,8 +21,8 @@ pub struct Means<'a, R: Threads + Sync, G: Gate + Sync> {
     pub alloc: Global,
     /// What callers pass before each call.
     pub gate: &'a G,
-    /// How many packets a batch has, 1 to `MOST_BATCH`; the last one may have fewer.
-    pub batch: u32,
+    /// How the input is cut into batches, and how much of it is taken.
+    pub portions: Portions,
 }
 
 /// The packets of a batch, and those of the next one that are taken while it is served.
@@ -39,7 +40,7 @@ pub const BATCH: u32 = 2_048;
 /// How many packets a batch has at most.
 pub const MOST_BATCH: u32 = 65_536;
 
-/// How many packets are taken at most.
+/// How many packets are taken at most, unless a mode says otherwise.
 pub const PACKET_LIMIT: u32 = 4_000_000;
 
 /// What is kept of the packets of a batch until they are served.
@@ -50,10 +51,14 @@ pub trait Pile {
     // How it takes packets, as numbers, which no call changes.
     ghost way: { Self → List ℕ };
 
+    // How many packets it may be given in all.
+    ghost most: { ℕ };
+
     /// Takes the packet with this number, from 1.
-    fn take(&mut self, number: u32, packet: &[u8]) -> Result<(), AllocError>
+    fn take(&mut self, number: u64, packet: &[u8]) -> Result<(), AllocError>
         requires some { (before : ℕ) × (packets : List (List ℕ)) × holds self.old before packets
             × (number ≡ before + length packets + 1) × (length packets + 1 ≤ MOST_BATCH) }
+        requires limited { number ≤ most }
         requires short { length packet.now ≤ 262144 }
         ensures way { way self.new ≡ way self.old }
         ensures holds { OnOk result ((before : ℕ) (packets : List (List ℕ)) → holds self.old before packets →
@@ -67,7 +72,8 @@ pub trait Pile {
             holds self.new before packets) };
 
     /// Gives up all its packets; the next one stands behind so many.
-    fn clear(&mut self, before: u32)
+    fn clear(&mut self, before: u64)
+        requires limited { before ≤ most }
         ensures way { way self.new ≡ way self.old }
         ensures none { holds self.new before [] };
 }
@@ -110,11 +116,20 @@ pub trait Job<P> {
     // How its piles take packets, as numbers, which no call changes.
     ghost way: { Self → List ℕ };
 
-    // So many packets were served.
+    // How many packets it may be given in all.
+    ghost most: { ℕ };
+
+    // So many packets were served, and no batch is open.
     ghost going: { Self → ℕ → Type 0 };
 
-    // By this plan these batches were served, and this is the text of them.
+    // So many packets were served, and a batch is open behind them.
+    ghost away: { Self → ℕ → Type 0 };
+
+    // By this plan these batches were served, and this is the text of them. No batch is open.
     ghost done: { Self → P → List (List (List ℕ)) → List ℕ → Type 0 };
+
+    // The same, where a batch is open behind them, which is served with these workers, on what they share.
+    ghost under: { Self → Self.Shared → List Self.Worker → P → List (List (List ℕ)) → List ℕ → Type 0 };
 
     // With these workers, on what they share, it may serve these packets, which stand behind so many.
     ghost opened: { Self → Self.Shared → List Self.Worker → Self.Kept → ℕ → List (List ℕ) → Type 0 };
@@ -130,14 +145,14 @@ pub trait Job<P> {
     ) -> Result<Opened<Self::Shared, Self::Worker, Self::Kept>, AllocError>
         requires going { (before : ℕ) × (packets : List (List ℕ)) × going self.old before
             × Self.Pile.holds pile.old before packets × (length packets ≤ MOST_BATCH)
-            × (before + length packets ≤ PACKET_LIMIT) }
+            × (before + length packets ≤ most) }
         requires way { Self.Pile.way pile.old ≡ way self.old }
         ensures few { IfOk result (λ made. vec_len made.workers ≤ 8) }
         ensures ready { IfOk result (λ made. All (Self.Worker.ready made.shared) made.workers.items) }
         ensures ways { OnOk result ((way self.new ≡ way self.old) × (Self.Pile.way pile.new ≡ Self.Pile.way pile.old)) }
-        ensures going { OnOk result ((before : ℕ) → going self.old before → going self.new before) }
-        ensures done { OnOk result ((plan : P) (batches : List (List (List ℕ))) (put : List ℕ) →
-            done self.old plan batches put → done self.new plan batches put) }
+        ensures away { OnOk result ((before : ℕ) → going self.old before → away self.new before) }
+        ensures under { IfOk result (λ made. (plan : P) (batches : List (List (List ℕ))) (put : List ℕ) →
+            done self.old plan batches put → under self.new made.shared made.workers.items plan batches put) }
         ensures opened { IfOk result (λ made. (before : ℕ) (packets : List (List ℕ)) → going self.old before →
             Self.Pile.holds pile.old before packets →
             opened self.new made.shared made.workers.items made.kept before packets) };
@@ -149,19 +164,20 @@ pub trait Job<P> {
         alloc: Global,
         made: Opened<Self::Shared, Self::Worker, Self::Kept>,
     ) -> Result<Self::Closed, AllocError>
-        requires going { (started : List Self.Worker) × (before : ℕ) × (packets : List (List ℕ)) × going self.old before
+        requires going { (started : List Self.Worker) × (before : ℕ) × (packets : List (List ℕ)) × away self.old before
             × opened self.old made.shared started made.kept before packets
             × AllZip (Self.Worker.done made.shared) started made.workers.items × (length packets ≤ MOST_BATCH)
-            × (before + length packets ≤ PACKET_LIMIT) }
+            × (before + length packets ≤ most) }
         ensures way { OnOk result (way self.new ≡ way self.old) }
         ensures going { OnOk result ((started : List Self.Worker) (before : ℕ) (packets : List (List ℕ)) →
-            going self.old before → opened self.old made.shared started made.kept before packets →
+            away self.old before → opened self.old made.shared started made.kept before packets →
             AllZip (Self.Worker.done made.shared) started made.workers.items →
             going self.new (before + length packets)) }
         ensures some { IfOk result (λ closed. (lines : List ℕ) × tells closed lines) }
         ensures served { IfOk result (λ closed. (plan : P) (batches : List (List (List ℕ))) (put : List ℕ)
-            (started : List Self.Worker) (before : ℕ) (packets : List (List ℕ)) → done self.old plan batches put →
-            going self.old before → opened self.old made.shared started made.kept before packets →
+            (started : List Self.Worker) (before : ℕ) (packets : List (List ℕ)) →
+            under self.old made.shared started plan batches put →
+            away self.old before → opened self.old made.shared started made.kept before packets →
             AllZip (Self.Worker.done made.shared) started made.workers.items → (lines : List ℕ) →
             tells closed lines → done self.new plan (batches ++ packets ∷ []) (put ++ lines)) };
 
@@ -176,8 +192,12 @@ pub trait Job<P> {
         requires some { (lines : List ℕ) × tells closed lines }
         ensures way { OnOk result (way self.new ≡ way self.old) }
         ensures going { OnOk result ((before : ℕ) → going self.old before → going self.new before) }
+        ensures away { OnOk result ((before : ℕ) → away self.old before → away self.new before) }
         ensures done { OnOk result ((plan : P) (batches : List (List (List ℕ))) (put : List ℕ) →
             done self.old plan batches put → done self.new plan batches put) }
+        ensures under { OnOk result ((shared : Self.Shared) (workers : List Self.Worker) (plan : P)
+            (batches : List (List (List ℕ))) (put : List ℕ) → under self.old shared workers plan batches put →
+            under self.new shared workers plan batches put) }
         ensures opened { OnOk result ((shared : Self.Shared) (workers : List Self.Worker) (kept : Self.Kept)
             (before : ℕ) (packets : List (List ℕ)) → opened self.old shared workers kept before packets →
             opened self.new shared workers kept before packets) }
@@ -185,16 +205,26 @@ pub trait Job<P> {
             × (text.new.items ≡ text.old.items ++ lines)) };
 
     /// Appends the last lines. The only error is want of memory.
-    fn finish(&self, packets: u32, ending: &Ending, text: &mut Vec<u8>) -> Result<(), AllocError>
-        requires going { going self.now packets }
+    fn finish(
+        &mut self,
+        packets: u64,
+        ending: &Ending,
+        text: &mut Vec<u8>,
+    ) -> Result<(), AllocError>
+        requires going { going self.old packets }
+        requires limited { packets ≤ most }
         requires ending { IsEnding ending.now }
         ensures { OnOk result ((plan : P) (batches : List (List (List ℕ))) (put : List ℕ) →
-            done self.now plan batches put → (rest : List ℕ) × (text.new.items ≡ text.old.items ++ rest)
+            done self.old plan batches put → (rest : List ℕ) × (text.new.items ≡ text.old.items ++ rest)
             × report plan batches ending.now (put ++ rest)) };
 
     // The text of what was served is that of its lines, and goes on to a report with each ending.
     ghost told: { (job : Self) (plan : P) (batches : List (List (List ℕ))) (put : List ℕ) →
         done job plan batches put → lines plan batches put };
+
+    ghost told_under: { (job : Self) (shared : Self.Shared) (workers : List Self.Worker) (plan : P)
+        (batches : List (List (List ℕ))) (put : List ℕ) → under job shared workers plan batches put →
+        lines plan batches put };
 
     ghost begins: { (job : Self) (plan : P) (batches : List (List (List ℕ))) (put : List ℕ) (ending : AnEnding) →
         done job plan batches put → (rest : List ℕ) × report plan batches ending (put ++ rest) };

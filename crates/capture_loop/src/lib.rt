@@ -6,10 +6,12 @@ mod intake;
 mod job;
 mod looping;
 mod opening;
+mod portions;
 mod stop;
 
 pub use intake::{Part, read_rest, take_held};
 pub use job::{BATCH, Job, MOST_BATCH, Means, Opened, PACKET_LIMIT, Pile, Piles};
 pub use looping::{mark, run_job};
 pub use opening::{Unopened, open, read_on, read_past};
+pub use portions::Portions;
 pub use stop::Stop;

@@ -8,20 +8,22 @@ ghost use Rattle.std.specs.Io.KnownBytes.{Appends};
 ghost use Rattle.edge_traits.specs.Edge.{AppendsFront, Rose, count_after};
 ghost use Rattle.pcapng_reader.specs.Reading.{IsAtStart};
 ghost use Rattle.capture_faults.specs.Endings.{IsEnding};
-ghost use Rattle.capture_loop.specs.Batches.{AreBatches};
+ghost use Rattle.capture_loop.specs.Batches.{AreBatchesBy, cut_of};
 ghost use Rattle.capture_loop.specs.Intake.{IsTaken};
-ghost use Rattle.capture_loop.specs.Leaves.{EndsBy, IsMet, LoopLeavesAll, Marks, RunReads, RunWrites};
+ghost use Rattle.capture_loop.specs.Leaves.{EndsBy, IsMet, LoopLeavesBy, Marks, RunReads, RunWrites};
 ghost use Rattle.capture_loop.specs.Looping.{HasPut, OnMemory, OnNotPut, Standing, Stands};
 ghost use Rattle.capture_loop.specs.Reading.{HaveCome, HaveEnded};
 ghost use Rattle.capture_loop.specs.Endings.{OnLimit};
-ghost use Rattle.capture_loop.specs.Input.{StopsAt, packet_limit};
+ghost use Rattle.capture_loop.specs.Input.{StopsAt};
+ghost use Rattle.capture_loop.specs.declared.portions.Portions.{Portions};
 
 use crate::intake::{read_rest, take_held};
-use crate::job::{Job, MOST_BATCH, Means, Opened, PACKET_LIMIT, Pile, Piles};
+use crate::job::{Job, MOST_BATCH, Means, Opened, Pile, Piles};
 use crate::opening::{Unopened, open};
 use crate::stop::Stop;
 use capture_faults::Ending;
 use edge_traits::{Failed, Gate, Sink, Source, write_all};
+use pcap_reader::MOST_PACKETS;
 use pcapng_reader::AnyReader;
 use std::alloc::{AllocError, Global};
 use std::mem;
@@ -43,19 +45,22 @@ pub fn run_job<R: Threads + Sync, S: Source, K: Sink, G: Gate + Sync, P, J: Job<
     text: &mut Vec<u8>,
     sink: &mut K,
 ) -> Result<Ending, Stop>
-    requires batch { (0 < means.now.batch) × (means.now.batch ≤ MOST_BATCH) }
+    requires batch { (0 < means.now.portions.batch) × (means.now.portions.batch ≤ MOST_BATCH) }
+    requires every { ForSome means.now.portions.every (λ every. 0 < every) }
+    requires limit { (0 < means.now.portions.limit) × (means.now.portions.limit ≤ J.most)
+        × (means.now.portions.limit ≤ J.Pile.most) × (means.now.portions.limit ≤ MOST_PACKETS) }
     requires going { J.going job.old 0 }
     requires none { J.Pile.holds piles.old.now 0 [] }
     requires ways { (J.Pile.way piles.old.now ≡ J.way job.old) × (J.Pile.way piles.old.next ≡ J.way job.old) }
     ensures leaves { (plan : P) → J.done job.old plan [] text.old.items →
-        LoopLeavesAll means.now.batch (J.lines plan) (J.report plan)
+        LoopLeavesBy means.now.portions (J.lines plan) (J.report plan)
         (EndsBy (S.failed source.old) (S.failed source.new))
         link (S.left source.old) (S.left source.new) (K.put sink.old) (K.put sink.new) result }
 
     // Where the first packet starts that is not served, exactly if there were more than are taken.
     ensures beyond { (plan : P) → J.done job.old plan [] text.old.items →
         Marks result piles.old.beyond piles.new.beyond
-        (StopsAt link packet_limit (S.left source.old) (S.left source.new)) }
+        (StopsAt link means.now.portions.limit (S.left source.old) (S.left source.new)) }
 
     // A device failed, and each that did is answered.
     ensures ending { IfOk result IsEnding }
@@ -102,7 +107,7 @@ struct Last {
 #[derive(Drop)]
 struct Batches<C: Drop> {
     /// How many packets they have.
-    packets: u32,
+    packets: u64,
     /// The last of them, where none of its lines is told yet.
     untold: Option<C>,
 }
@@ -121,7 +126,10 @@ fn go_through<R: Threads + Sync, S: Source, K: Sink, G: Gate + Sync, P, J: Job<P
     sink: &mut K,
 ) -> Result<Ending, Stop>
     requires start { IsAtStart reader.old }
-    requires batch { (0 < means.now.batch) × (means.now.batch ≤ MOST_BATCH) }
+    requires batch { (0 < means.now.portions.batch) × (means.now.portions.batch ≤ MOST_BATCH) }
+    requires every { ForSome means.now.portions.every (λ every. 0 < every) }
+    requires limit { (0 < means.now.portions.limit) × (means.now.portions.limit ≤ J.most)
+        × (means.now.portions.limit ≤ J.Pile.most) × (means.now.portions.limit ≤ MOST_PACKETS) }
     requires going { J.going job.old 0 }
     requires none { J.Pile.holds piles.old.now 0 [] }
     requires ways { (J.Pile.way piles.old.now ≡ J.way job.old) × (J.Pile.way piles.old.next ≡ J.way job.old) }
@@ -129,13 +137,13 @@ fn go_through<R: Threads + Sync, S: Source, K: Sink, G: Gate + Sync, P, J: Job<P
         failed ≡ S.failed source.old →
         J.done job.old plan [] text.old.items → HasPut before (K.put sink.old) text.old.items text.old.items →
         HaveCome link first (S.left source.old) reader.old [] →
-        LoopLeavesAll means.now.batch (J.lines plan) (J.report plan) (EndsBy failed (S.failed source.new)) link first
+        LoopLeavesBy means.now.portions (J.lines plan) (J.report plan) (EndsBy failed (S.failed source.new)) link first
         (S.left source.new)
         before (K.put sink.new) result }
     ensures beyond { (plan : P) (link : ℕ) (first before : Option (List ℕ)) →
         J.done job.old plan [] text.old.items → HasPut before (K.put sink.old) text.old.items text.old.items →
         HaveCome link first (S.left source.old) reader.old [] → IfOk result (λ ending. OnLimit ending
-        (StopsAt link packet_limit first (S.left source.new) reader.new.start)) }
+        (StopsAt link means.now.portions.limit first (S.left source.new) reader.new.start)) }
     ensures kept { piles.new.beyond ≡ piles.old.beyond }
     ensures ending { IfOk result IsEnding }
     ensures read_fault { result ≡ Ok Ending.ReadFault → Rose (S.faults source.old) (S.faults source.new) }
@@ -144,21 +152,22 @@ fn go_through<R: Threads + Sync, S: Source, K: Sink, G: Gate + Sync, P, J: Job<P
     ensures writes { RunWrites result (K.failed sink.old) (K.failed sink.new) }
     ensures counted { (S.faults source.old ≤ S.faults source.new) × (K.faults sink.old ≤ K.faults sink.new) }
 {
-    let batch = means.batch;
+    let limit = means.portions.limit;
     let mut so_far = Batches {
         packets: 0,
         untold: None,
     };
     let mut ahead = 0;
     'batches: loop {
-        if ahead == batch && so_far.packets + ahead < PACKET_LIMIT {
+        let batch = means.portions.at(so_far.packets);
+        if ahead == batch && so_far.packets + u64::from(ahead) < limit {
             ahead = turn(means, job, piles, &mut so_far, reader, text, sink)?;
         } else {
             let written = settle(means.rt, means.alloc, job, &mut so_far.untold, text, sink)?;
             written?;
             let before = so_far.packets;
             let pile = &mut piles.now;
-            let part = read_rest(reader, source, batch, before, ahead, PACKET_LIMIT, pile)?;
+            let part = read_rest(reader, source, batch, before, ahead, limit, pile)?;
             if let Some(ending) = part.ending {
                 let last = Last {
                     packets: part.packets,
@@ -182,19 +191,24 @@ fn turn<R: Threads + Sync, K: Sink, G: Gate + Sync, P, J: Job<P>>(
     text: &mut Vec<u8>,
     sink: &mut K,
 ) -> Result<u32, Stop>
-    requires batch { means.now.batch ≤ MOST_BATCH }
+    requires batch { (0 < means.now.portions.batch) × (means.now.portions.batch ≤ MOST_BATCH) }
+    requires every { ForSome means.now.portions.every (λ every. 0 < every) }
+    requires limit { (means.now.portions.limit ≤ J.most) × (means.now.portions.limit ≤ J.Pile.most)
+        × (means.now.portions.limit ≤ MOST_PACKETS) }
     requires reads { reader.old.ended ≡ false }
-    requires given { reader.old.given ≡ so_far.old.packets + means.now.batch }
-    requires few { so_far.old.packets + means.now.batch < PACKET_LIMIT }
+    requires given { reader.old.given ≡ so_far.old.packets + cut_of means.now.portions so_far.old.packets }
+    requires few { so_far.old.packets + cut_of means.now.portions so_far.old.packets < means.now.portions.limit }
     requires going { J.going job.old so_far.old.packets }
     requires piled { (packets : List (List ℕ)) × J.Pile.holds piles.old.now so_far.old.packets packets
-        × (length packets ≡ means.now.batch) }
+        × (length packets ≡ cut_of means.now.portions so_far.old.packets) }
     requires ways { (J.Pile.way piles.old.now ≡ J.way job.old) × (J.Pile.way piles.old.next ≡ J.way job.old) }
     requires some { ForSome so_far.old.untold (λ closed. (lines : List ℕ) × J.tells closed lines) }
-    ensures packets { OnOk result (so_far.new.packets ≡ so_far.old.packets + means.now.batch) }
+    ensures packets { OnOk result (so_far.new.packets
+        ≡ so_far.old.packets + cut_of means.now.portions so_far.old.packets) }
     ensures reads { OnOk result (reader.new.ended ≡ false) }
     ensures given { IfOk result (λ ahead. reader.new.given ≡ so_far.new.packets + ahead) }
-    ensures few { IfOk result (λ ahead. (ahead ≤ means.now.batch) × (so_far.new.packets + ahead ≤ PACKET_LIMIT)) }
+    ensures few { IfOk result (λ ahead. (ahead ≤ cut_of means.now.portions so_far.new.packets)
+        × (so_far.new.packets + ahead ≤ means.now.portions.limit)) }
     ensures going { OnOk result (J.going job.new so_far.new.packets) }
     ensures piled { IfOk result (λ ahead. (packets : List (List ℕ))
         × J.Pile.holds piles.new.now so_far.new.packets packets × (length packets ≡ ahead)) }
@@ -205,26 +219,29 @@ fn turn<R: Threads + Sync, K: Sink, G: Gate + Sync, P, J: Job<P>>(
     ensures held { OnOk result (IfNone so_far.new.untold (text.new.items ≡ [])) }
     ensures stands { IfOk result (λ ahead. (plan : P) (link : ℕ) (first left before : Option (List ℕ))
         (all packets : List (List ℕ)) →
-        Standing means.now.batch (J.done job.old plan) (J.lines plan) J.tells so_far.old.untold link first left
+        Standing means.now.portions (J.done job.old plan) (J.lines plan) J.tells so_far.old.untold link first left
         so_far.old.packets all before (K.put sink.old) text.old.items →
-        J.Pile.holds piles.old.now so_far.old.packets packets → length packets ≡ means.now.batch →
+        J.Pile.holds piles.old.now so_far.old.packets packets →
+        length packets ≡ cut_of means.now.portions so_far.old.packets →
         HaveCome link first left reader.old (all ++ packets) → (held : List (List ℕ))
-        × Standing means.now.batch (J.done job.new plan) (J.lines plan) J.tells so_far.new.untold link first left
+        × Standing means.now.portions (J.done job.new plan) (J.lines plan) J.tells so_far.new.untold link first left
         so_far.new.packets (all ++ packets) before (K.put sink.new) text.new.items
         × J.Pile.holds piles.new.now so_far.new.packets held × (length held ≡ ahead)
         × HaveCome link first left reader.new ((all ++ packets) ++ held)) }
     ensures leaves { IfErr result (λ stop. (plan : P) (failed now link : ℕ)
         (first left before : Option (List ℕ)) (all : List (List ℕ)) →
-        Standing means.now.batch (J.done job.old plan) (J.lines plan) J.tells so_far.old.untold link first left
+        Standing means.now.portions (J.done job.old plan) (J.lines plan) J.tells so_far.old.untold link first left
         so_far.old.packets all before (K.put sink.old) text.old.items →
-        LoopLeavesAll means.now.batch (J.lines plan) (J.report plan) (EndsBy failed now) link first left before
+        LoopLeavesBy means.now.portions (J.lines plan) (J.report plan) (EndsBy failed now) link first left before
         (K.put sink.new) (Err stop)) }
     ensures failed { OnNotPut result (Rose (K.faults sink.old) (K.faults sink.new)) }
     ensures writes { RunWrites result (K.failed sink.old) (K.failed sink.new) }
     ensures counted { K.faults sink.old ≤ K.faults sink.new }
 {
-    let batch = means.batch;
-    let packets = so_far.packets + batch;
+    let size = means.portions.at(so_far.packets);
+    let packets = so_far.packets + u64::from(size);
+    let batch = means.portions.at(packets);
+    let limit = means.portions.limit;
     let Opened {
         shared,
         mut workers,
@@ -244,28 +261,30 @@ fn turn<R: Threads + Sync, K: Sink, G: Gate + Sync, P, J: Job<P>>(
             Result<u32, AllocError>,
         )
             requires some { ForSome untold.now (λ closed. (lines : List ℕ) × J.tells closed lines) }
-            requires held { (reader.now.ended ≡ false) × (reader.now.given ≡ packets) × (packets < PACKET_LIMIT)
+            requires limited { (limit ≤ J.Pile.most) × (limit ≤ MOST_PACKETS) }
+            requires held { (reader.now.ended ≡ false) × (reader.now.given ≡ packets) × (packets < limit)
                 × (batch ≤ MOST_BATCH) × J.Pile.holds next.now packets [] }
-            ensures memory { OnErr result.0 ((plan : P) (failed now size link many : ℕ)
+            ensures memory { OnErr result.0 ((plan : P) (failed now : ℕ) (portions : Portions) (link many : ℕ)
                 (first left before : Option (List ℕ)) (all : List (List ℕ)) →
-                Standing size (J.done job.entry.now plan) (J.lines plan) J.tells untold.entry.now link first left many
+                Standing portions (J.lines plan) (J.lines plan) J.tells untold.entry.now link first left many
                 all before (K.put sink.entry.now) text.entry.now.items →
-                LoopLeavesAll size (J.lines plan) (J.report plan) (EndsBy failed now) link first left before
+                LoopLeavesBy portions (J.lines plan) (J.report plan) (EndsBy failed now) link first left before
                 (K.put sink.exit.now) (Err Stop.Memory)) }
-            ensures front { IfOk result.0 (λ put. OnErr put ((plan : P) (failed now size link many : ℕ)
+            ensures front { IfOk result.0 (λ put. OnErr put ((plan : P)
+                (failed now : ℕ) (portions : Portions) (link many : ℕ)
                 (first left before : Option (List ℕ)) (all : List (List ℕ)) →
-                Standing size (J.done job.entry.now plan) (J.lines plan) J.tells untold.entry.now link first left many
+                Standing portions (J.lines plan) (J.lines plan) J.tells untold.entry.now link first left many
                 all before (K.put sink.entry.now) text.entry.now.items →
-                LoopLeavesAll size (J.lines plan) (J.report plan) (EndsBy failed now) link first left before
+                LoopLeavesBy portions (J.lines plan) (J.report plan) (EndsBy failed now) link first left before
                 (K.put sink.exit.now) (Err Stop.NotPut))) }
-            ensures stands { IfOk result.0 (λ put. OnOk put ((plan : P) (size link many : ℕ)
-                (first left before : Option (List ℕ)) (all : List (List ℕ)) →
-                Standing size (J.done job.entry.now plan) (J.lines plan) J.tells untold.entry.now link first left many
-                all before (K.put sink.entry.now) text.entry.now.items →
-                Stands size (J.done job.exit.now plan) link first many all before (K.put sink.exit.now)
-                text.exit.now.items)) }
+            ensures stands { IfOk result.0 (λ put. OnOk put ((shared : J.Shared) (workers : List J.Worker) (plan : P)
+                (portions : Portions) (link many : ℕ) (first left before : Option (List ℕ)) (all : List (List ℕ)) →
+                Standing portions (J.under job.entry.now shared workers plan) (J.lines plan) J.tells untold.entry.now
+                link first left many all before (K.put sink.entry.now) text.entry.now.items →
+                Stands portions (J.under job.exit.now shared workers plan) link first many all before
+                (K.put sink.exit.now) text.exit.now.items)) }
             ensures job { OnOk result.0 ((J.way job.exit.now ≡ J.way job.entry.now)
-                × ((before : ℕ) → J.going job.entry.now before → J.going job.exit.now before)
+                × ((before : ℕ) → J.away job.entry.now before → J.away job.exit.now before)
                 × ((shared : J.Shared) (workers : List J.Worker) (kept : J.Kept)
                 (before : ℕ) (packets : List (List ℕ)) → J.opened job.entry.now shared workers kept before packets →
                 J.opened job.exit.now shared workers kept before packets)) }
@@ -277,10 +296,10 @@ fn turn<R: Threads + Sync, K: Sink, G: Gate + Sync, P, J: Job<P>>(
             ensures counted { K.faults sink.entry.now ≤ K.faults sink.exit.now }
             ensures way { J.Pile.way next.exit.now ≡ J.Pile.way next.entry.now }
             ensures taken { IfOk result.1 (λ ahead. (more : List (List ℕ)) × J.Pile.holds next.exit.now packets more
-                × (length more ≡ ahead) × IsTaken reader.entry.now reader.exit.now batch packets more) }
+                × (length more ≡ ahead) × IsTaken limit reader.entry.now reader.exit.now batch packets more) }
         {
             let told = settle(means.rt, means.alloc, job, untold, text, sink);
-            (told, take_held(reader, batch, packets, next))
+            (told, take_held(reader, batch, packets, limit, next))
         },
     );
     let served = Opened {
@@ -345,25 +364,32 @@ fn settle<R: Threads, K: Sink, P, J: Job<P>>(
         (λ closed. text.new.items ≡ []))) }
     ensures job { OnOk result ((J.way job.new ≡ J.way job.old)
         × ((before : ℕ) → J.going job.old before → J.going job.new before)
+        × ((before : ℕ) → J.away job.old before → J.away job.new before)
         × ((shared : J.Shared) (workers : List J.Worker) (kept : J.Kept)
         (before : ℕ) (packets : List (List ℕ)) → J.opened job.old shared workers kept before packets →
         J.opened job.new shared workers kept before packets)) }
-    ensures stands { IfOk result (λ put. OnOk put ((plan : P) (size link many : ℕ)
+    ensures stands { IfOk result (λ put. OnOk put ((plan : P) (portions : Portions) (link many : ℕ)
         (first left before : Option (List ℕ)) (all : List (List ℕ)) →
-        Standing size (J.done job.old plan) (J.lines plan) J.tells untold.old link first left many all before
+        Standing portions (J.done job.old plan) (J.lines plan) J.tells untold.old link first left many all before
         (K.put sink.old) text.old.items →
-        Stands size (J.done job.new plan) link first many all before (K.put sink.new) text.new.items)) }
-    ensures memory { OnErr result ((plan : P) (failed now size link many : ℕ)
+        Stands portions (J.done job.new plan) link first many all before (K.put sink.new) text.new.items)) }
+    ensures stands_under { IfOk result (λ put. OnOk put ((shared : J.Shared) (workers : List J.Worker) (plan : P)
+        (portions : Portions) (link many : ℕ) (first left before : Option (List ℕ)) (all : List (List ℕ)) →
+        Standing portions (J.under job.old shared workers plan) (J.lines plan) J.tells untold.old link first left many
+        all before (K.put sink.old) text.old.items →
+        Stands portions (J.under job.new shared workers plan) link first many all before (K.put sink.new)
+        text.new.items)) }
+    ensures memory { OnErr result ((plan : P) (failed now : ℕ) (portions : Portions) (link many : ℕ)
         (first left before : Option (List ℕ)) (all : List (List ℕ)) →
-        Standing size (J.done job.old plan) (J.lines plan) J.tells untold.old link first left many all before
+        Standing portions (J.lines plan) (J.lines plan) J.tells untold.old link first left many all before
         (K.put sink.old) text.old.items →
-        LoopLeavesAll size (J.lines plan) (J.report plan) (EndsBy failed now) link first left before (K.put sink.new)
+        LoopLeavesBy portions (J.lines plan) (J.report plan) (EndsBy failed now) link first left before (K.put sink.new)
         (Err Stop.Memory)) }
-    ensures front { IfOk result (λ put. OnErr put ((plan : P) (failed now size link many : ℕ)
+    ensures front { IfOk result (λ put. OnErr put ((plan : P) (failed now : ℕ) (portions : Portions) (link many : ℕ)
         (first left before : Option (List ℕ)) (all : List (List ℕ)) →
-        Standing size (J.done job.old plan) (J.lines plan) J.tells untold.old link first left many all before
+        Standing portions (J.lines plan) (J.lines plan) J.tells untold.old link first left many all before
         (K.put sink.old) text.old.items →
-        LoopLeavesAll size (J.lines plan) (J.report plan) (EndsBy failed now) link first left before (K.put sink.new)
+        LoopLeavesBy portions (J.lines plan) (J.report plan) (EndsBy failed now) link first left before (K.put sink.new)
         (Err Stop.NotPut))) }
     ensures failed { IfOk result (λ put. OnErr put ((Rose (K.faults sink.old) (K.faults sink.new))
         × (K.failed sink.new ≡ count_after (K.failed sink.old) 1))) }
@@ -389,7 +415,7 @@ fn serve<R: Threads + Sync, G: Gate + Sync, P, J: Job<P>>(
 ) -> Result<(), AllocError>
     requires going { (before : ℕ) × (packets : List (List ℕ)) × J.going job.old before
         × J.Pile.holds pile.old before packets × (length packets ≤ MOST_BATCH)
-        × (before + length packets ≤ PACKET_LIMIT) }
+        × (before + length packets ≤ J.most) }
     requires way { J.Pile.way pile.old ≡ J.way job.old }
     ensures going { OnOk result ((before : ℕ) (packets : List (List ℕ)) → J.going job.old before →
         J.Pile.holds pile.old before packets → J.going job.new (before + length packets)) }
@@ -444,7 +470,7 @@ fn serve_one<R: Threads + Sync, K: Sink, G: Gate + Sync, P, J: Job<P>>(
 ) -> Result<(), Stop>
     requires going { (many : ℕ) × (packets : List (List ℕ)) × J.going job.old many
         × J.Pile.holds pile.old many packets × (length packets ≤ MOST_BATCH)
-        × (many + length packets ≤ PACKET_LIMIT) }
+        × (many + length packets ≤ J.most) }
     requires way { J.Pile.way pile.old ≡ J.way job.old }
     ensures going { OnOk result ((many : ℕ) (packets : List (List ℕ)) → J.going job.old many →
         J.Pile.holds pile.old many packets → J.going job.new (many + length packets)) }
@@ -476,7 +502,7 @@ fn serve_last<R: Threads + Sync, K: Sink, G: Gate + Sync, P, J: Job<P>>(
     means: &Means<R, G>,
     job: &mut J,
     pile: &mut J::Pile,
-    many: u32,
+    many: u64,
     last: Last,
     text: &mut Vec<u8>,
     sink: &mut K,
@@ -485,15 +511,20 @@ fn serve_last<R: Threads + Sync, K: Sink, G: Gate + Sync, P, J: Job<P>>(
     requires piled { (packets : List (List ℕ)) × J.Pile.holds pile.old many packets
         × (length packets ≡ last.packets) }
     requires way { J.Pile.way pile.old ≡ J.way job.old }
-    requires batch { (0 < means.now.batch) × (means.now.batch ≤ MOST_BATCH) }
-    requires few { (last.packets ≤ means.now.batch) × (many + last.packets ≤ PACKET_LIMIT) }
+    requires batch { (0 < means.now.portions.batch) × (means.now.portions.batch ≤ MOST_BATCH) }
+    requires every { ForSome means.now.portions.every (λ every. 0 < every) }
+    requires limit { (means.now.portions.limit ≤ J.most) × (means.now.portions.limit ≤ J.Pile.most)
+        × (means.now.portions.limit ≤ MOST_PACKETS) }
+    requires few { (last.packets ≤ MOST_BATCH) × (many + last.packets ≤ means.now.portions.limit) }
+    requires cut { last.packets ≤ cut_of means.now.portions many }
     requires ending { IsEnding last.ending }
     ensures leaves { (plan : P) (failed now : ℕ) (link : ℕ) (first left before : Option (List ℕ))
         (all packets : List (List ℕ)) →
-        Stands means.now.batch (J.done job.old plan) link first many all before (K.put sink.old) text.old.items →
+        Stands means.now.portions (J.done job.old plan) link first many all before (K.put sink.old) text.old.items →
         J.Pile.holds pile.old many packets → length packets ≡ last.packets →
-        HaveEnded packet_limit link first left (all ++ packets) last.ending → IsMet (EndsBy failed now) last.ending →
-        LoopLeavesAll means.now.batch (J.lines plan) (J.report plan) (EndsBy failed now) link first left before
+        HaveEnded means.now.portions.limit link first left (all ++ packets) last.ending →
+        IsMet (EndsBy failed now) last.ending →
+        LoopLeavesBy means.now.portions (J.lines plan) (J.report plan) (EndsBy failed now) link first left before
         (K.put sink.new) result }
     ensures same { IfOk result (λ ending. ending ≡ last.ending) }
     ensures write_fault { OnNotPut result (Rose (K.faults sink.old) (K.faults sink.new)) }
@@ -504,26 +535,27 @@ fn serve_last<R: Threads + Sync, K: Sink, G: Gate + Sync, P, J: Job<P>>(
         return end_run(job, many, last.ending, text, sink);
     }
     match serve_one(means, job, pile, text, sink) {
-        Ok(()) => end_run(job, many + last.packets, last.ending, text, sink),
+        Ok(()) => end_run(job, many + u64::from(last.packets), last.ending, text, sink),
         Err(stop) => Err(stop),
     }
 }
 
 /// Puts what is left of the report, where all batches were served.
 fn end_run<K: Sink, P, J: Job<P>>(
-    job: &J,
-    packets: u32,
+    job: &mut J,
+    packets: u64,
     ending: Ending,
     text: &mut Vec<u8>,
     sink: &mut K,
 ) -> Result<Ending, Stop>
-    requires going { J.going job.now packets }
+    requires going { J.going job.old packets }
+    requires limited { packets ≤ J.most }
     requires ending { IsEnding ending }
-    ensures leaves { (plan : P) (batch failed now link : ℕ) (first left before : Option (List ℕ)) (all : List (List ℕ))
-        (batches : List (List (List ℕ))) (done : List ℕ) → J.done job.now plan batches done →
-        AreBatches batch all batches → HasPut before (K.put sink.old) text.old.items done →
-        HaveEnded packet_limit link first left all ending → IsMet (EndsBy failed now) ending →
-        LoopLeavesAll batch (J.lines plan) (J.report plan) (EndsBy failed now) link first left before (K.put sink.new)
+    ensures leaves { (plan : P) (portions : Portions) (failed now link : ℕ) (first left before : Option (List ℕ))
+        (all : List (List ℕ)) (batches : List (List (List ℕ))) (done : List ℕ) → J.done job.old plan batches done →
+        AreBatchesBy (cut_of portions) all batches → HasPut before (K.put sink.old) text.old.items done →
+        HaveEnded portions.limit link first left all ending → IsMet (EndsBy failed now) ending →
+        LoopLeavesBy portions (J.lines plan) (J.report plan) (EndsBy failed now) link first left before (K.put sink.new)
         result }
     ensures same { IfOk result (λ last. last ≡ ending) }
     ensures write_fault { OnNotPut result (Rose (K.faults sink.old) (K.faults sink.new)) }

@@ -1,6 +1,6 @@
 //! One step of reading the input: its head, the next packet, or how it ended.
 
-ghost use Rattle.std.specs.Prelude.{◌≡◌, ◌≤◌, ◌<◌, ◌-◌, ◌^◌, ℕ, List, [], false, length, Option, Some, None, Err, IfSome, IfNone, IfOk, IfErr, OnOk};
+ghost use Rattle.std.specs.Prelude.{◌≡◌, ◌≤◌, ℕ, List, [], false, length, Option, Some, None, Err, IfSome, IfNone, IfOk, IfErr, OnOk};
 ghost use Rattle.edge_traits.specs.Edge.{Rose};
 ghost use Rattle.pcap_reader.specs.Reading.{Took};
 ghost use Rattle.pcapng_reader.specs.Reading.{GivesPacket, IsAtStart};
@@ -11,7 +11,7 @@ ghost use Rattle.capture_loop.specs.Reading.{HaveCome, HaveEnded, MeetsEnd};
 
 use capture_faults::{AnyFault, CaptureFault, Ending};
 use edge_traits::Source;
-use pcap_reader::Item;
+use pcap_reader::{Item, MOST_PACKETS};
 use pcapng_reader::{AnyReader, every_input, input_front};
 use std::alloc::Global;
 
@@ -61,7 +61,7 @@ fn ending_at(fault: AnyFault) -> Option<Ending>
 /// Reads on to the next packet, or answers how the input ended.
 pub fn read_on<S: Source>(reader: &mut AnyReader, source: &mut S) -> Option<Ending>
     requires going { reader.old.ended ≡ false }
-    requires few { reader.old.given < 2 ^ 32 - 1 }
+    requires few { reader.old.given ≤ MOST_PACKETS }
     ensures packet { IfNone result
         (Took (S.left source.old) (S.left source.new) (GivesPacket reader.old reader.new)) }
     ensures ended { IfSome result (MeetsEnd reader.old reader.new (S.left source.old) (S.left source.new)) }
@@ -89,9 +89,9 @@ fn ending_of(fault: AnyFault) -> Ending
 }
 
 /// Reads on behind the last of so many packets that are taken, which is how the input ends.
-pub fn read_past<S: Source>(reader: &mut AnyReader, source: &mut S, limit: u32) -> Ending
+pub fn read_past<S: Source>(reader: &mut AnyReader, source: &mut S, limit: u64) -> Ending
     requires going { reader.old.ended ≡ false }
-    requires few { reader.old.given < 2 ^ 32 - 1 }
+    requires few { reader.old.given ≤ MOST_PACKETS }
     ensures ended { (link : ℕ) (first : Option (List ℕ)) (packets : List (List ℕ)) →
         HaveCome link first (S.left source.old) reader.old packets → length packets ≡ limit →
         HaveEnded limit link first (S.left source.new) packets result }
@@ -107,8 +107,6 @@ pub fn read_past<S: Source>(reader: &mut AnyReader, source: &mut S, limit: u32) 
     input_front();
     match read_on(reader, source) {
         Some(ending) => ending,
-        None => Ending::Limit {
-            limit: u64::from(limit),
-        },
+        None => Ending::Limit { limit },
     }
 }

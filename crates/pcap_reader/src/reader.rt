@@ -27,13 +27,17 @@ pub enum Item {
     Rest(u32),
 }
 
+/// How many packets a reader of a savefile or of a pcapng input has given at most where it is asked for one more. So
+/// many and one more of the greatest length end before byte 2^64.
+pub const MOST_PACKETS: u64 = 1_000_000_000_000;
+
 /// A reader of one savefile.
 #[derive(Drop)]
 pub struct Reader {
     order: Order,
     window: Window,
     offset: u64,
-    given: u32,
+    given: u64,
     ended: bool,
 }
 
@@ -149,7 +153,7 @@ impl Reader {
     /// Source: pcap-savefile(5), per-packet header.
     pub fn next<S: Source>(&mut self, source: &mut S) -> Result<Item, CaptureFault>
         requires going { self.old.ended ≡ false }
-        requires few { self.old.given < 2 ^ 32 - 1 }
+        requires few { self.old.given ≤ MOST_PACKETS }
         // One record, or none.
         ensures packet { MatchPacket result
             (GivesRecord self.old self.new (to_come self.old (S.left source.old))
@@ -220,7 +224,7 @@ impl Reader {
     /// Source: pcap-savefile(5), per-packet header.
     pub fn next_held(&mut self) -> bool
         requires going { self.old.ended ≡ false }
-        requires few { self.old.given < 2 ^ 32 - 1 }
+        requires few { self.old.given ≤ MOST_PACKETS }
         // One record of the bytes to come, whatever a source has left of them.
         ensures packet { result ≡ true → (left : Option (List ℕ)) →
             GivesRecord self.old self.new (to_come self.old left) (to_come self.new left) }
@@ -262,7 +266,7 @@ impl Reader {
     /// Gives out the record that the held bytes begin with.
     fn give(&mut self, captured: usize)
         requires begins { BeginsRecord self.old.order self.old.pending captured }
-        requires few { self.old.given < 2 ^ 32 - 1 }
+        requires few { self.old.given ≤ MOST_PACKETS }
         ensures { self.new ≡ given_out self.old captured }
     {
         self.window.skip(RECORD_HEAD);

@@ -1,6 +1,6 @@
 //! A reader of a savefile or of a pcapng input, by its first bytes.
 
-ghost use Rattle.std.specs.Prelude.{◌≡◌, ◌≤◌, ◌<◌, ◌-◌, ◌^◌, [], false, true, length, drop, Err, IfOk, IfErr, OnErr};
+ghost use Rattle.std.specs.Prelude.{◌≡◌, ◌≤◌, [], false, true, length, drop, Err, IfOk, IfErr, OnErr};
 ghost use Rattle.edge_traits.specs.Edge.{Rose, count_after};
 ghost use Rattle.capture_faults.specs.declared.fault.CaptureFault.TheVariants.{Memory, ReadFault};
 ghost use Rattle.pcap_reader.specs.Reading.{Took};
@@ -17,7 +17,7 @@ use crate::blocks::BlockReader;
 use byte_window::Window;
 use capture_faults::{AnyFault, CaptureFault};
 use edge_traits::Source;
-use pcap_reader::{FILE_HEAD, Item, Reader};
+use pcap_reader::{FILE_HEAD, Item, MOST_PACKETS, Reader};
 use std::alloc::Global;
 use std::marker::Model;
 
@@ -93,7 +93,7 @@ impl AnyReader {
     /// Source: draft-ietf-opsawg-pcapng, 3.1 and 4.1 to 4.4; pcap-savefile(5), per-packet header.
     pub fn next<S: Source>(&mut self, source: &mut S) -> Result<Item, AnyFault>
         requires going { self.old.ended ≡ false }
-        requires few { self.old.given < 2 ^ 32 - 1 }
+        requires few { self.old.given ≤ MOST_PACKETS }
         ensures answers { Answers self.old self.new (S.left source.old) (S.left source.new) result }
         ensures read_fault { result ≡ Err (Capture ReadFault) → Rose (S.faults source.old) (S.faults source.new) }
         ensures counted { S.faults source.old ≤ S.faults source.new }
@@ -121,7 +121,7 @@ impl AnyReader {
     /// `next` tells what comes.
     pub fn next_held(&mut self) -> bool
         requires going { self.old.ended ≡ false }
-        requires few { self.old.given < 2 ^ 32 - 1 }
+        requires few { self.old.given ≤ MOST_PACKETS }
         ensures packet { result ≡ true → GivesPacket self.old self.new [] }
         ensures none { result ≡ false → self.new ≡ self.old }
         // No packet is whole in what is held as the next part.

@@ -1,6 +1,6 @@
 //! Gives out the packets of a pcapng input, one at a time and in place.
 
-ghost use Rattle.std.specs.Prelude.{◌≡◌, ◌≤◌, ◌<◌, ◌+◌, ◌-◌, ◌^◌, ℕ, [], false, true, length, take, drop, Err};
+ghost use Rattle.std.specs.Prelude.{◌≡◌, ◌≤◌, ◌+◌, ℕ, [], false, true, length, take, drop, Err};
 ghost use Rattle.edge_traits.specs.Edge.{Rose, count_after};
 ghost use Rattle.capture_faults.specs.declared.fault.CaptureFault.TheVariants.{ReadFault};
 ghost use Rattle.capture_faults.specs.declared.any_fault.AnyFault.TheVariants.{Capture};
@@ -13,7 +13,7 @@ use crate::waiting::await_packet;
 use byte_window::Window;
 use capture_faults::{AnyFault, CaptureFault};
 use edge_traits::Source;
-use pcap_reader::Item;
+use pcap_reader::{Item, MOST_PACKETS};
 use std::marker::Model;
 
 /// A reader of one pcapng input.
@@ -23,7 +23,7 @@ pub struct BlockReader {
     window: Window,
     offset: u64,
     start: u64,
-    given: u32,
+    given: u64,
     ended: bool,
 }
 
@@ -75,7 +75,7 @@ impl BlockReader {
     /// Reads on to the next packet, or to the ending of the input.
     pub fn next<S: Source>(&mut self, source: &mut S) -> Result<Item, AnyFault>
         requires going { self.old.ended ≡ false }
-        requires few { self.old.given < 2 ^ 32 - 1 }
+        requires few { self.old.given ≤ MOST_PACKETS }
         ensures answers { Answers self.old self.new (S.left source.old) (S.left source.new) result }
         ensures read_fault { result ≡ Err (Capture ReadFault) → Rose (S.faults source.old) (S.faults source.new) }
         ensures counted { S.faults source.old ≤ S.faults source.new }
@@ -129,7 +129,7 @@ impl BlockReader {
     /// Takes no memory. Where it is not, nothing changes: `next` tells what comes.
     pub fn next_held(&mut self) -> bool
         requires going { self.old.ended ≡ false }
-        requires few { self.old.given < 2 ^ 32 - 1 }
+        requires few { self.old.given ≤ MOST_PACKETS }
         ensures packet { result ≡ true → GivesPacket self.old self.new [] }
         ensures none { result ≡ false → self.new ≡ self.old }
         // No packet is whole in what is held as the next part.
@@ -172,7 +172,7 @@ impl BlockReader {
         requires held { held ≤ length self.old.pending }
         requires part { at + count ≤ held }
         requires block { size ≤ 16777216 }
-        requires few { self.old.given < 2 ^ 32 - 1 }
+        requires few { self.old.given ≤ MOST_PACKETS }
         ensures { self.new ≡ record self.old {
           pending = drop held self.old.pending;
           packet = take count (drop at self.old.pending);

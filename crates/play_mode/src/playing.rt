@@ -115,7 +115,15 @@ fn read_input<S: Source>(
     match open(alloc, calling.framing.link.number(), source) {
         Ok(mut reader) => {
             let mut pile = CallPile::with_room(alloc, service, calling, PLAY_LIMIT as usize)?;
-            let part = read_rest(&mut reader, source, BATCH, 0, 0, PLAY_LIMIT, &mut pile)?;
+            let part = read_rest(
+                &mut reader,
+                source,
+                BATCH,
+                0,
+                0,
+                PLAY_LIMIT as u64,
+                &mut pile,
+            )?;
             match part.ending {
                 Some(ending) => Ok(Input {
                     packets: part.packets,

@@ -14,9 +14,10 @@ use Rattle.batch_deals.specs.declared.service.Service.{Service}
 use Rattle.batch_runner.specs.Served.{Served}
 use Rattle.capture_loop.specs.declared.stop.Stop.{Stop}
 use Rattle.capture_loop.specs.declared.stop.Stop.TheVariants.{Memory, NotPut}
-use Rattle.capture_loop.specs.Batches.{AreBatches, IsWhole}
+use Rattle.capture_loop.specs.Batches.{AreBatches}
+use Rattle.capture_loop.proofs.LeavesLemmas.{AreCut-alike, IsWhole}
 use Rattle.capture_loop.specs.Leaves.{IsLoopFront, IsLoopReport, IsLoopTold, Leaves as LoopLeaves, LoopLeavesAll, PutsInput, ReportsInput, RunReads}
-use Rattle.capture_loop.specs.Input.{Serves, packet_limit}
+use Rattle.capture_loop.specs.Input.{Serves, in_batches, packet_limit}
 use Rattle.command_line.specs.declared.plan.Plan.{Plan}
 use Rattle.step_counts.specs.Ranges.{IsWithin}
 use Rattle.report_told.specs.Rules.{IsEndingTold, seed_in}
@@ -177,7 +178,7 @@ all_count size packets batches some cut =
     ap (λ (bs : List (List (List ℕ))). length (joined bs)) (cut.begun (nil_from_length cut.last empty)) in
     many
     ∙ last_count size (length (joined cut.front)) (length cut.last) (length cut.front) some
-    (whole_length size cut.front cut.whole) cut.few none
+    (whole_length size cut.front (AreCut-alike size 0 cut.front cut.whole)) cut.few none
     ∙ ap (batch_count size) (sym all)
 
 -- ---- texts
@@ -203,7 +204,8 @@ module _ (law : ServedArePromised) (plan : Plan) (range : IsWithin 2048 65536 pl
   cut_batches : (packets : List (List ℕ)) (batches : List (List (List ℕ))) → AreBatches plan.batch packets batches →
       AreCut plan.batch batches
   cut_batches packets batches cut =
-      subst (AreCut plan.batch) (sym cut.parts) (cut_last plan.batch cut.front cut.last cut.whole cut.few)
+      subst (AreCut plan.batch) (sym cut.parts) (cut_last plan.batch cut.front cut.last
+      (AreCut-alike plan.batch 0 cut.front cut.whole) cut.few)
 
   -- the calls of these packets were served in as many batches as these are
   pub served_at : (packets : List (List ℕ)) (batches : List (List (List ℕ))) (service : Service)
@@ -219,7 +221,8 @@ module _ (law : ServedArePromised) (plan : Plan) (range : IsWithin 2048 65536 pl
         ∙ all_count plan.batch packets batches (omega (arith, range.0)) cut,
   )
 
-  front_of : (packets : List (List ℕ)) (text : List ℕ) → IsLoopFront plan.batch (IsLines plan) packets text →
+  front_of : (packets : List (List ℕ)) (text : List ℕ) → IsLoopFront (in_batches plan.batch) (IsLines plan) packets
+      text →
       IsFront plan packets text
   front_of packets text front =
       let batches : List (List (List ℕ)) = front.0 in
@@ -230,14 +233,15 @@ module _ (law : ServedArePromised) (plan : Plan) (range : IsWithin 2048 65536 pl
         (
           lines.0,
           lines.1,
-          done lines.0 batches lines.1 lines.2 (cut_whole plan.batch batches whole.each),
+          done lines.0 batches lines.1 lines.2
+              (cut_whole plan.batch batches (AreCut-alike plan.batch 0 batches whole.each)),
           ap (λ (n : ℕ). plan.batch * n) (same_count (calling_of plan) batches 0 lines.1 lines.2.of)
-              ∙ whole_length plan.batch batches whole.each ∙ ap length whole.parts,
+              ∙ whole_length plan.batch batches (AreCut-alike plan.batch 0 batches whole.each) ∙ ap length whole.parts,
           lines.3,
         ),
       )
 
-  told_of : (packets : List (List ℕ)) (text : List ℕ) → IsLoopTold plan.batch (IsLines plan) packets text →
+  told_of : (packets : List (List ℕ)) (text : List ℕ) → IsLoopTold (in_batches plan.batch) (IsLines plan) packets text →
       IsTold plan packets text
   told_of packets text told =
       let lines = told.2 in
@@ -245,7 +249,7 @@ module _ (law : ServedArePromised) (plan : Plan) (range : IsWithin 2048 65536 pl
       (at.0, at.1, lines.0, lines.1, at.2, at.3, lines.3)
 
   report_at : (packets : List (List ℕ)) (ending : Ending) (text : List ℕ) →
-      IsLoopReport plan.batch (IsWholeReport plan) packets ending text → IsReport plan packets ending text
+      IsLoopReport (in_batches plan.batch) (IsWholeReport plan) packets ending text → IsReport plan packets ending text
   report_at packets ending text report =
       let cut = report.1 in
       let lines = report.2 in
@@ -265,7 +269,7 @@ module _ (law : ServedArePromised) (plan : Plan) (range : IsWithin 2048 65536 pl
   -- ---- what is left
 
   reports_at : (bytes : List ℕ) (left : Option (List ℕ)) (ending : Ending) (text : List ℕ) →
-      ReportsInput plan.batch (number_in plan.framing.link) (IsWholeReport plan) bytes left ending text →
+      ReportsInput (in_batches plan.batch) (number_in plan.framing.link) (IsWholeReport plan) bytes left ending text →
       Reports plan bytes left ending text
   reports_at bytes left ending text reports = (reports.0, reports.1, report_at reports.0 ending text reports.2)
 
@@ -296,14 +300,16 @@ module _ (law : ServedArePromised) (plan : Plan) (range : IsWithin 2048 65536 pl
 
   module _ (can_end : Ending → Type 0) (bytes : List ℕ) (left before after : Option (List ℕ)) where
     put_whole : GoodIsCertified → seed_in plan.hashing < 2 ^ 64 → (ending : Ending) → IsEndingTold ending →
-        PutsInput plan.batch (number_in plan.framing.link) (IsWholeReport plan) bytes left before after ending →
+        PutsInput (in_batches plan.batch) (number_in plan.framing.link) (IsWholeReport plan) bytes left before after
+        ending →
         PutsReport plan bytes left before after ending
     put_whole good seed ending told puts =
         let reports : Reports plan bytes left ending puts.0 = reports_at bytes left ending puts.0 puts.1 in
         (puts.0, (reports, certified_at good seed bytes left ending puts.0 told reports), puts.2)
 
     of_ok : GoodIsCertified → seed_in plan.hashing < 2 ^ 64 → (ending : Ending) → IsEndingTold ending →
-        LoopLeaves plan.batch (number_in plan.framing.link) (IsLines plan) (IsWholeReport plan) can_end bytes left
+        LoopLeaves (in_batches plan.batch) (number_in plan.framing.link) (IsLines plan) (IsWholeReport plan) can_end
+        bytes left
         before
         after (Ok ending) →
         Leaves plan can_end bytes left before after (status_of ending)
@@ -312,7 +318,8 @@ module _ (law : ServedArePromised) (plan : Plan) (range : IsWithin 2048 65536 pl
     of_ok good seed (Limit limit) told leaves = (limit, put_whole good seed (Limit limit) told leaves.1)
     of_ok good seed (Fault found) told leaves = put_whole good seed (Fault found) told leaves.1
 
-    of_not_put : LoopLeaves plan.batch (number_in plan.framing.link) (IsLines plan) (IsWholeReport plan) can_end
+    of_not_put : LoopLeaves (in_batches plan.batch) (number_in plan.framing.link) (IsLines plan) (IsWholeReport plan)
+        can_end
         bytes left
         before after (Err NotPut) →
         Leaves plan can_end bytes left before after status.WriteFault
@@ -324,7 +331,8 @@ module _ (law : ServedArePromised) (plan : Plan) (range : IsWithin 2048 65536 pl
         )
     of_not_put (inr begun) = inr (begun.0, begun.1, (begun.2.0, front_of begun.0 begun.2.0 begun.2.1, begun.2.2))
 
-    of_memory : LoopLeaves plan.batch (number_in plan.framing.link) (IsLines plan) (IsWholeReport plan) can_end
+    of_memory : LoopLeaves (in_batches plan.batch) (number_in plan.framing.link) (IsLines plan) (IsWholeReport plan)
+        can_end
         bytes left
         before after (Err Memory) →
         Leaves plan can_end bytes left before after status.Memory

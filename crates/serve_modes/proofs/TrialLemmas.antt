@@ -17,7 +17,7 @@ use Rattle.capture_faults.specs.declared.ending.Ending.TheVariants.{Done, ReadFa
 use Rattle.step_counts.specs.Ranges.{IsWithin}
 use Rattle.command_line.specs.declared.plan.Plan.{Plan}
 use Rattle.capture_loop.specs.Leaves.{EndsBy, IsLoopReport, Leaves, PutsInput, ReportsInput}
-use Rattle.capture_loop.specs.Input.{HoldsPackets, Serves, packet_limit}
+use Rattle.capture_loop.specs.Input.{HoldsPackets, Serves, in_batches, packet_limit}
 use Rattle.mode_parts.specs.PacketCalls.{MakeCalls}
 use Rattle.mode_parts.proofs.ExactLemmas.{one_more}
 use Rattle.serve_modes.specs.Served.{ServedArePromised}
@@ -107,7 +107,7 @@ pub IsTrial-put :
     HasOneInput 1 (made_capture plan.number plan.packets) → HoldsMade plan.number plan.packets →
     plan.packets ≤ packet_limit → (can_end ReadFault → ⊥) → ServedArePromised → plan.rows ≡ None →
     calling_of plan ≡ plain_calling → IsWithin 2048 65536 plan.batch →
-    Leaves plan.batch (number_in plan.framing.link) (IsNoText plan) (IsTrialOf plan) can_end
+    Leaves (in_batches plan.batch) (number_in plan.framing.link) (IsNoText plan) (IsTrialOf plan) can_end
     (made_capture plan.number plan.packets) left (Some [])
     (Some put) (Ok ending) →
     IsTrial plan put
@@ -115,12 +115,14 @@ IsTrial-put plan can_end left ending put one law few no_fault promised none plai
     let link : number_in plan.framing.link ≡ 1 = ap (λ (c : Calling). number_in c.framing.link) plain in
     let bytes : List ℕ = made_capture plan.number plan.packets in
     let puts :
-    PutsInput plan.batch (number_in plan.framing.link) (IsTrialOf plan) bytes left (Some []) (Some put) ending =
+    PutsInput (in_batches plan.batch) (number_in plan.framing.link) (IsTrialOf plan) bytes left (Some []) (Some put)
+    ending =
     leaves.1 in
-    let input : ReportsInput plan.batch (number_in plan.framing.link) (IsTrialOf plan) bytes left ending puts.0 =
+    let input : ReportsInput (in_batches plan.batch) (number_in plan.framing.link) (IsTrialOf plan) bytes left ending
+    puts.0 =
     puts.1 in
     let packets : List (List ℕ) = input.0 in
-    let report : IsLoopReport plan.batch (IsTrialOf plan) packets ending puts.0 = input.2 in
+    let report : IsLoopReport (in_batches plan.batch) (IsTrialOf plan) packets ending puts.0 = input.2 in
     let trial : IsTrialOf plan report.0 ending puts.0 = report.2 in
     let holds =
     made_packets plan.number plan.packets left packets ending one law few (λ is. no_fault (subst can_end is leaves.0))

@@ -13,7 +13,7 @@ ghost use Rattle.trace_share.specs.Work.{IsLogOf};
 ghost use Rattle.batch_deals.specs.Dealt.{IsDealt};
 ghost use Rattle.batch_runner.specs.Seats.{HasWorked};
 ghost use Rattle.capture_loop.specs.declared.job.TheConstants.{MOST_BATCH, PACKET_LIMIT};
-ghost use Rattle.capture_loop.specs.Input.{StopsAt, packet_limit};
+ghost use Rattle.capture_loop.specs.Input.{StopsAt, in_batches, packet_limit};
 ghost use Rattle.capture_loop.specs.Leaves.{RunReads, RunWrites};
 ghost use Rattle.capture_loop.specs.Looping.{OnNotPut};
 ghost use Rattle.command_line.specs.declared.plan.Plan.{Plan as APlan};
@@ -153,9 +153,15 @@ impl Job<Plan> for Serving {
 
     ghost way = { λ serving. calling_way serving.calling };
 
+    ghost most = { PACKET_LIMIT };
+
     ghost going = { IsServing };
 
+    ghost away = { IsServing };
+
     ghost done = { HasDone };
+
+    ghost under = { λ job _ _. HasDone job };
 
     ghost opened = { HasOpened };
 
@@ -248,15 +254,22 @@ impl Job<Plan> for Serving {
         Ok(())
     }
 
-    fn finish(&self, packets: u32, ending: &Ending, text: &mut Vec<u8>) -> Result<(), AllocError> {
+    fn finish(
+        &mut self,
+        packets: u64,
+        ending: &Ending,
+        text: &mut Vec<u8>,
+    ) -> Result<(), AllocError> {
         served_laws();
         session_laws();
         put_sessions(text, &self.progress.pairs)?;
-        let tail = tail_with(&self.service, &self.progress, packets, ending);
+        let tail = tail_with(&self.service, &self.progress, packets as u32, ending);
         tail_text(text, &tail)
     }
 
     ghost told = { done_told };
+
+    ghost told_under = { λ job _ _. done_told job };
 
     ghost begins = { done_begins };
 }
@@ -279,7 +292,7 @@ pub fn serve<R: Threads + Sync, S: Source, K: Sink, G: Gate + Sync>(
     beyond: &mut Option<u64>,
 ) -> Status
     requires range { IsInRange plan.now }
-    requires batch { means.now.batch ≡ plan.now.batch }
+    requires batch { means.now.portions ≡ in_batches plan.now.batch }
     ensures leaves { LeavesAll plan.now (EndsBy (S.failed source.old) (S.failed source.new)) (S.left source.old)
         (S.left source.new) (K.put sink.old) (K.put sink.new) result }
     ensures read_fault { result ≡ Status.ReadFault → Rose (S.faults source.old) (S.faults source.new) }
@@ -308,7 +321,7 @@ fn serve_input<R: Threads + Sync, S: Source, K: Sink, G: Gate + Sync>(
     beyond: &mut Option<u64>,
 ) -> Result<Ending, Stop>
     requires range { IsInRange plan.now }
-    requires batch { means.now.batch ≡ plan.now.batch }
+    requires batch { means.now.portions ≡ in_batches plan.now.batch }
     ensures leaves { LeavesAll plan.now (EndsBy (S.failed source.old) (S.failed source.new)) (S.left source.old)
         (S.left source.new) (K.put sink.old) (K.put sink.new) (status_by result) }
     ensures read_fault { result ≡ Ok Ending.ReadFault → Rose (S.faults source.old) (S.faults source.new) }
@@ -324,7 +337,7 @@ fn serve_input<R: Threads + Sync, S: Source, K: Sink, G: Gate + Sync>(
     let service = service_of(plan);
     let alloc = means.alloc;
     let calling = calling_of(plan);
-    let batch = means.batch as usize;
+    let batch = plan.batch as usize;
     let mut text = Vec::with_capacity(alloc, batch * LINE_ROOM)?;
     let head = head_of(false, plan);
     head_fits(&head, &service.settings);
@@ -334,7 +347,7 @@ fn serve_input<R: Threads + Sync, S: Source, K: Sink, G: Gate + Sync>(
         next: CallPile::with_room(alloc, service, calling, batch)?,
         beyond: *beyond,
     };
-    let mut serving = Serving::new(alloc, service, calling, means.batch)?;
+    let mut serving = Serving::new(alloc, service, calling, plan.batch)?;
     let answer = run_job::<R, S, K, G, Plan, Serving>(
         means,
         plan.framing.link.number(),

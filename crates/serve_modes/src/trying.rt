@@ -8,6 +8,7 @@ ghost use Rattle.word_rows.specs.Shape.{AreBelow};
 ghost use Rattle.batch_runner.specs.Seats.{HasWorked};
 ghost use Rattle.batch_runner.specs.Totals.{IsTotalOf};
 ghost use Rattle.capture_loop.specs.declared.job.TheConstants.{MOST_BATCH, PACKET_LIMIT};
+ghost use Rattle.capture_loop.specs.Input.{in_batches};
 ghost use Rattle.command_line.specs.declared.plan.Plan.{Plan as APlan};
 ghost use Rattle.command_line.specs.Words.{IsInRange};
 ghost use Rattle.mode_parts.specs.Callings.{calling_of, calling_way, plain_calling};
@@ -118,9 +119,15 @@ impl Job<Plan> for Trying {
 
     ghost way = { λ trying. calling_way trying.serving.calling };
 
+    ghost most = { PACKET_LIMIT };
+
     ghost going = { IsTrying };
 
+    ghost away = { IsTrying };
+
     ghost done = { HasTried };
+
+    ghost under = { λ job _ _. HasTried job };
 
     ghost opened = { HasOpenedTrial };
 
@@ -197,8 +204,8 @@ impl Job<Plan> for Trying {
     }
 
     fn finish(
-        &self,
-        _packets: u32,
+        &mut self,
+        _packets: u64,
         _ending: &Ending,
         text: &mut Vec<u8>,
     ) -> Result<(), AllocError> {
@@ -206,6 +213,8 @@ impl Job<Plan> for Trying {
     }
 
     ghost told = { tried_none };
+
+    ghost told_under = { λ job _ _. tried_none job };
 
     ghost begins = { tried_begins };
 }
@@ -217,7 +226,7 @@ pub fn try_plan<R: Threads + Sync, K: Sink, G: Gate + Sync>(
     sink: &mut K,
 ) -> Status
     requires range { IsInRange plan.now }
-    requires batch { means.now.batch ≡ plan.now.batch }
+    requires batch { means.now.portions ≡ in_batches plan.now.batch }
     ensures leaves { plan.now.rows ≡ None → calling_of plan.now ≡ plain_calling →
         LeavesTried plan.now (K.put sink.old) (K.put sink.new) result }
     ensures no_usage { result ≡ Status.Usage → ⊥ }
@@ -241,7 +250,7 @@ fn text_of<R: Threads + Sync, G: Gate + Sync>(
     plan: &Plan,
 ) -> Result<MemorySink, AllocError>
     requires range { IsInRange plan.now }
-    requires batch { means.now.batch ≡ plan.now.batch }
+    requires batch { means.now.portions ≡ in_batches plan.now.batch }
     ensures { IfOk result
         (λ text. plan.now.rows ≡ None → calling_of plan.now ≡ plain_calling → IsTrial plan.now text.put) }
 {
@@ -251,7 +260,7 @@ fn text_of<R: Threads + Sync, G: Gate + Sync>(
     let service = service_of(plan);
     let alloc = means.alloc;
     let calling = calling_of(plan);
-    let batch = means.batch as usize;
+    let batch = plan.batch as usize;
     let mut piles = Piles {
         now: CallPile::with_room(alloc, service, calling, batch)?,
         next: CallPile::with_room(alloc, service, calling, batch)?,

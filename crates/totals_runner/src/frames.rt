@@ -1,6 +1,7 @@
 //! What is kept of the packets of a batch.
 
 ghost use Rattle.std.specs.Prelude.{◌≡◌, []};
+ghost use Rattle.capture_loop.specs.declared.job.TheConstants.{PACKET_LIMIT};
 ghost use Rattle.packet_heads.specs.Links.{way_of};
 ghost use Rattle.totals_runner.specs.Frames.{HasFrames};
 
@@ -38,8 +39,11 @@ impl Pile for Frames {
 
     ghost way = { λ frames. way_of frames.framing };
 
-    fn take(&mut self, number: u32, packet: &[u8]) -> Result<(), AllocError> {
-        self.frames.push(Frame::of(&self.framing, number, packet))?;
+    ghost most = { PACKET_LIMIT };
+
+    fn take(&mut self, number: u64, packet: &[u8]) -> Result<(), AllocError> {
+        self.frames
+            .push(Frame::of(&self.framing, number as u32, packet))?;
         Ok(())
     }
 
@@ -47,8 +51,8 @@ impl Pile for Frames {
         Ok(())
     }
 
-    fn clear(&mut self, before: u32) {
+    fn clear(&mut self, before: u64) {
         self.frames.clear();
-        self.before = before;
+        self.before = before as u32;
     }
 }

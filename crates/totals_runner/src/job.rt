@@ -2,6 +2,7 @@
 
 ghost use Rattle.std.specs.Prelude.{◌≡◌, ◌≤◌, ◌+◌, ◌∷◌, ◌++◌, [], ℕ, List, length, IfOk, OnOk};
 ghost use Rattle.std.specs.List.{AllZip};
+ghost use Rattle.capture_loop.specs.declared.job.TheConstants.{PACKET_LIMIT};
 ghost use Rattle.packet_adders.specs.Work.{IsDone};
 ghost use Rattle.totals_runner.specs.declared.counting.Asked.{Asked as AnAsked};
 ghost use Rattle.packet_adders.specs.declared.workers.AddWorker.{AddWorker as AWorker};
@@ -41,9 +42,15 @@ impl Job<Asked> for Counting {
 
     ghost way = { λ counting. way_of counting.framing };
 
+    ghost most = { PACKET_LIMIT };
+
     ghost going = { HasGone };
 
+    ghost away = { HasGone };
+
     ghost done = { IsCountedSo };
+
+    ghost under = { λ job _ _. IsCountedSo job };
 
     ghost opened = { IsOpened };
 
@@ -102,7 +109,12 @@ impl Job<Asked> for Counting {
         text.extend_from_slice(&closed)
     }
 
-    fn finish(&self, _packets: u32, ending: &Ending, text: &mut Vec<u8>) -> Result<(), AllocError> {
+    fn finish(
+        &mut self,
+        _packets: u64,
+        ending: &Ending,
+        text: &mut Vec<u8>,
+    ) -> Result<(), AllocError> {
         let tail = TotalsTail {
             totals: self.totals,
             ending: *ending,
@@ -113,6 +125,8 @@ impl Job<Asked> for Counting {
     }
 
     ghost told = { told_lines };
+
+    ghost told_under = { λ job _ _. told_lines job };
 
     ghost begins = { begins_report };
 }

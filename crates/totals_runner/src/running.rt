@@ -2,7 +2,7 @@
 
 ghost use Rattle.std.specs.Prelude.{◌≡◌, ◌<◌, ◌≤◌, Ok};
 ghost use Rattle.edge_traits.specs.Edge.{Rose};
-ghost use Rattle.capture_loop.specs.Input.{StopsAt, packet_limit};
+ghost use Rattle.capture_loop.specs.Input.{StopsAt, in_batches, packet_limit};
 ghost use Rattle.capture_loop.specs.Leaves.{EndsBy, LoopLeavesAll, Marks, RunReads, RunWrites};
 ghost use Rattle.capture_loop.specs.declared.job.TheConstants.{MOST_BATCH};
 ghost use Rattle.capture_loop.specs.Looping.{OnNotPut};
@@ -29,7 +29,7 @@ pub fn count_input<R: Threads + Sync, S: Source, K: Sink, G: Gate + Sync>(
     requires some { 1 ≤ asked.now.seats }
     requires few { asked.now.seats ≤ 8 }
     requires batch { (0 < asked.now.batch) × (asked.now.batch ≤ MOST_BATCH) }
-    requires so_many { means.now.batch ≡ asked.now.batch }
+    requires so_many { means.now.portions ≡ in_batches asked.now.batch }
     ensures leaves { LoopLeavesAll asked.now.batch (IsTotalsLines asked.now) (IsTotalsReport asked.now)
         (EndsBy (S.failed source.old) (S.failed source.new)) (number_in asked.now.framing.link)
         (S.left source.old) (S.left source.new) (K.put sink.old) (K.put sink.new) result }

@@ -88,8 +88,8 @@ loop-packets-preserved g c =
           );
     }
 
-pub returns-then-before-most-clause-read : goal.returns-then-before-most-clause-read
-returns-then-before-most-clause-read g c = λ old holds count.
+pub returns-then-before-from-clause-read : goal.returns-then-before-from-clause-read
+returns-then-before-from-clause-read g c = λ old holds count.
     let r = c.loop-packets.invariant.read old holds count in
     (r.0, r.1, omega (arith, r.2), r.3)
 

@@ -29,7 +29,7 @@ returns-then-not-next_held-clause-taken g c =
       t.0,
       t.1,
       t.2,
-      subst (λ (reader : Reading). IsTaken c.args.reader.now reader c.args.batch c.args.before t.0)
+      subst (λ (reader : Reading). IsTaken c.args.limit c.args.reader.now reader c.args.batch c.args.before t.0)
           (sym (c.if-not-next_held.ensures.none refl))
           (record {
             come = t.3;

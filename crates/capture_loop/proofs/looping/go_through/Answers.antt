@@ -1,15 +1,16 @@
 -- A loop of whole batches: a batch is served while the one before it is told, or all is told and more is read.
-use Rattle.std.proofs.Common.{rules, ◌≡◌, ◌≤◌, ◌<◌, ◌+◌, ◌++◌, ◌∷◌, [], List, ℕ, Option, Some, None, length, refl, ap, subst, sym, ◌∙◌, arith}
+use Rattle.std.proofs.Common.{rules, ◌≡◌, ◌≤◌, ◌<◌, ◌++◌, [], ℕ, Option, Some, refl, subst, sym, ◌∙◌, arith}
 use Rattle.std.specs.Option.{IfSome}
 use Rattle.capture_faults.specs.declared.ending.Ending.{Ending}
 use Rattle.capture_loop.specs.declared.stop.Stop.TheVariants.{Memory, NotPut}
 use Rattle.capture_loop.specs.Endings.{HasFailed, OnLimit}
 use Rattle.capture_loop.specs.Leaves.{EndsBy}
-use Rattle.capture_loop.specs.Input.{StopsAt, packet_limit}
+use Rattle.capture_loop.specs.Input.{StopsAt}
+use Rattle.capture_loop.specs.Batches.{cut_of}
 use Rattle.capture_loop.specs.Looping.{Standing}
 use Rattle.capture_loop.specs.Reading.{HaveCome, HaveEnded}
 use Rattle.capture_loop.proofs.LoopLemmas.{limit_same, at_none, at_some, at_start, if_none, last_memory, none_failed}
-use Rattle.capture_loop.proofs.StandingLemmas.{IfNone-any, IfNone-map, all_put, at_err, at_ok, leaves_err}
+use Rattle.capture_loop.proofs.StandingLemmas.{IfNone-any, IfNone-map, Standing-map, all_put, at_err, at_ok, leaves_err}
 use Rattle.capture_loop.proofs.looping.go_through.Goals as goal
 
 pub batches-init : goal.batches-init
@@ -31,7 +32,7 @@ batches-init g c = record {
   stands = λ plan link first before has put come. (
     [],
     [],
-    at_start c.args.means.now.batch (g.J.Job.done c.args.job.now plan) link first before
+    at_start c.args.means.now.portions (g.J.Job.done c.args.job.now plan) link first before
         (g.K.Sink.put c.args.sink.now) c.args.text.now.items
         has
         put,
@@ -46,16 +47,18 @@ returns-in_err-ahead-clause-leaves g c = λ plan link first before failed is_fai
     let s = c.batches.invariant.stands plan link first before has put come in
     let left = g.S.Source.left c.batches.source in
     let since = g.S.Source.failed c.batches.source in
-    leaves_err c.args.means.now.batch (g.J.Job.lines plan) (g.J.Job.report plan) (EndsBy failed since) link first left
+    leaves_err c.args.means.now.portions (g.J.Job.lines plan) (g.J.Job.report plan) (EndsBy failed since) link first
+    left
     before (g.K.Sink.put c.turn.new.sink) c.from_residual.result c.in_err-ahead.field-0.0 c.from_residual.ensures.1
     (c.in_err-ahead.ensures.leaves plan failed since link first left before s.0 s.2)
 
-pub batches-preserved-then-so_far-ahead-lt-PACKET_LIMIT : goal.batches-preserved-then-so_far-ahead-lt-PACKET_LIMIT
-batches-preserved-then-so_far-ahead-lt-PACKET_LIMIT g c =
+pub batches-preserved-then-so_far-from : goal.batches-preserved-then-so_far-from
+batches-preserved-then-so_far-from g c =
     let inv = c.batches.invariant in
     let is = c.in_ok-ahead.ensures in
-    let whole : c.batches.ahead ≡ c.args.means.now.batch = search rules in
-    let few : c.turn.new.so_far.packets < 4000000 = search rules in
+    let portions = c.args.means.now.portions in
+    let whole : c.batches.ahead ≡ cut_of portions c.batches.so_far.packets = search rules in
+    let few : c.turn.new.so_far.packets < portions.limit = search rules in
     record {
       reads = is.reads;
       given = is.given;
@@ -89,22 +92,31 @@ returns-in_err-written-clause-leaves g c = λ plan link first before failed is_f
     let s = c.batches.invariant.stands plan link first before has put come in
     let left = g.S.Source.left c.batches.source in
     let since = g.S.Source.failed c.batches.source in
-    leaves_err c.args.means.now.batch (g.J.Job.lines plan) (g.J.Job.report plan) (EndsBy failed since) link first left
+    leaves_err c.args.means.now.portions (g.J.Job.lines plan) (g.J.Job.report plan) (EndsBy failed since) link first
+    left
     before (g.K.Sink.put c.settle.new.sink) c.from_residual-in_err-written.result Memory
     c.from_residual-in_err-written.ensures.1
-    (c.in_err-written.ensures.memory plan failed since c.args.means.now.batch link c.batches.so_far.packets first left
-    before s.0 s.2)
+    (c.in_err-written.ensures.memory plan failed since c.args.means.now.portions link c.batches.so_far.packets first
+    left
+    before s.0
+    (Standing-map c.args.means.now.portions (g.J.Job.lines plan) g.J.Job.tells link first left before
+    c.batches.so_far.untold (g.J.Job.done c.batches.job plan) (g.J.Job.lines plan) c.batches.so_far.packets s.0
+    (g.K.Sink.put c.batches.sink) c.batches.text.items (g.met.J.Job.told c.batches.job plan) s.2))
 
 pub returns-in_err-written-2-clause-leaves : goal.returns-in_err-written-2-clause-leaves
 returns-in_err-written-2-clause-leaves g c = λ plan link first before failed is_failed has put come.
     let s = c.batches.invariant.stands plan link first before has put come in
     let left = g.S.Source.left c.batches.source in
     let since = g.S.Source.failed c.batches.source in
-    leaves_err c.args.means.now.batch (g.J.Job.lines plan) (g.J.Job.report plan) (EndsBy failed since) link first left
+    leaves_err c.args.means.now.portions (g.J.Job.lines plan) (g.J.Job.report plan) (EndsBy failed since) link first
+    left
     before (g.K.Sink.put c.settle.new.sink) c.from_residual-in_err-written-2.result NotPut
     c.from_residual-in_err-written-2.ensures.1
     (at_err _ c.in_ok-written.written c.in_err-written-2.field-0.0 c.in_err-written-2.was c.in_ok-written.ensures.front
-    plan failed since c.args.means.now.batch link c.batches.so_far.packets first left before s.0 s.2)
+    plan failed since c.args.means.now.portions link c.batches.so_far.packets first left before s.0
+    (Standing-map c.args.means.now.portions (g.J.Job.lines plan) g.J.Job.tells link first left before
+    c.batches.so_far.untold (g.J.Job.done c.batches.job plan) (g.J.Job.lines plan) c.batches.so_far.packets s.0
+    (g.K.Sink.put c.batches.sink) c.batches.text.items (g.met.J.Job.told c.batches.job plan) s.2))
 
 pub returns-in_err-part-clause-leaves : goal.returns-in_err-part-clause-leaves
 returns-in_err-part-clause-leaves g c = λ plan link first before failed is_failed has put come.
@@ -113,11 +125,11 @@ returns-in_err-part-clause-leaves g c = λ plan link first before failed is_fail
     let can_end = EndsBy failed (g.S.Source.failed c.read_rest.new.source) in
     let now = g.K.Sink.put c.settle.new.sink in
     let all_told = at_ok _ c.in_ok-written.written c.in_ok-written-2.field-0 c.in_ok-written-2.was
-    c.in_ok-written.ensures.stands plan c.args.means.now.batch link c.batches.so_far.packets first
+    c.in_ok-written.ensures.stands plan c.args.means.now.portions link c.batches.so_far.packets first
     (g.S.Source.left c.batches.source) before s.0 s.2 in
-    leaves_err c.args.means.now.batch (g.J.Job.lines plan) (g.J.Job.report plan) can_end link first left before now
+    leaves_err c.args.means.now.portions (g.J.Job.lines plan) (g.J.Job.report plan) can_end link first left before now
     c.from_residual-in_err-part.result Memory c.from_residual-in_err-part.ensures.1
-    (last_memory c.args.means.now.batch (g.J.Job.lines plan) (g.J.Job.report plan) can_end
+    (last_memory c.args.means.now.portions (g.J.Job.lines plan) (g.J.Job.report plan) can_end
     (g.J.Job.done c.settle.new.job plan) link first left c.batches.so_far.packets s.0 before now
     c.settle.new.text.items all_told
     (g.met.J.Job.told c.settle.new.job plan all_told.batches all_told.text all_told.done))
@@ -128,11 +140,12 @@ returns-in-Some-clause-leaves g c = λ plan link first before failed is_failed h
     let left = g.S.Source.left c.read_rest.new.source in
     let since = g.S.Source.failed c.read_rest.new.source in
     let all_told = at_ok _ c.in_ok-written.written c.in_ok-written-2.field-0 c.in_ok-written-2.was
-    c.in_ok-written.ensures.stands plan c.args.means.now.batch link c.batches.so_far.packets first
+    c.in_ok-written.ensures.stands plan c.args.means.now.portions link c.batches.so_far.packets first
     (g.S.Source.left c.batches.source) before s.0 s.2 in
     let r = c.in_ok-part.ensures.read s.1 s.3 s.4 in
-    let ended : HaveEnded packet_limit link first left (s.0 ++ (s.1 ++ r.0)) c.in-Some.ending =
-    at_some _ (HaveEnded packet_limit link first left (s.0 ++ (s.1 ++ r.0))) c.in_ok-part.part.ending c.in-Some.ending
+    let ended : HaveEnded c.args.means.now.portions.limit link first left (s.0 ++ (s.1 ++ r.0)) c.in-Some.ending =
+    at_some _ (HaveEnded c.args.means.now.portions.limit link first left (s.0 ++ (s.1 ++ r.0)))
+    c.in_ok-part.part.ending c.in-Some.ending
     c.in-Some.is (r.3 link first s.0 all_told.count s.5) in
     c.serve_last.ensures.leaves plan failed since link first left before s.0 (s.1 ++ r.0) all_told r.1 r.2 ended
     (subst (λ (n : ℕ). HasFailed (Some c.in-Some.ending) n since) (c.batches.invariant.reads_failed ∙ sym is_failed)
@@ -143,11 +156,11 @@ pub returns-in-Some-clause-beyond : goal.returns-in-Some-clause-beyond
 returns-in-Some-clause-beyond g c = λ plan link first before has put come.
     let s = c.batches.invariant.stands plan link first before has put come in
     let all_told = at_ok _ c.in_ok-written.written c.in_ok-written-2.field-0 c.in_ok-written-2.was
-    c.in_ok-written.ensures.stands plan c.args.means.now.batch link c.batches.so_far.packets first
+    c.in_ok-written.ensures.stands plan c.args.means.now.portions link c.batches.so_far.packets first
     (g.S.Source.left c.batches.source) before s.0 s.2 in
     let far = c.in_ok-part.ensures.beyond s.1 s.3 s.4 link first s.0 all_told.count s.5 in
     let left = g.S.Source.left c.read_rest.new.source in
-    let goes_on = StopsAt link packet_limit first left c.read_rest.new.reader.start in
+    let goes_on = StopsAt link c.args.means.now.portions.limit first left c.read_rest.new.reader.start in
     limit_same c.serve_last.result c.in-Some.ending goes_on c.serve_last.ensures.same
     (subst (λ (e : Option Ending). IfSome e (λ ending. OnLimit ending goes_on)) c.in-Some.is far)
 
@@ -163,7 +176,10 @@ batches-preserved g c =
     record {
       reads = goes.0;
       given = goes.1;
-      few_ahead = c.in_ok-part.ensures.few_packets;
+      few_ahead = (
+        subst (λ (n : ℕ). c.in_ok-part.part.packets ≤ n) c.at-batch.ensures.size c.in_ok-part.ensures.few_packets.0,
+        c.in_ok-part.ensures.few_packets.1,
+      );
       few = inv.few;
       going = job.1 many inv.going;
       piled = (p.0 ++ own.0, own.1, own.2);
@@ -183,7 +199,7 @@ batches-preserved g c =
       stands = λ plan link first before has put come.
           let s = inv.stands plan link first before has put come in
           let all_told = at_ok _ c.in_ok-written.written c.in_ok-written-2.field-0 c.in_ok-written-2.was
-          c.in_ok-written.ensures.stands plan c.args.means.now.batch link many first
+          c.in_ok-written.ensures.stands plan c.args.means.now.portions link many first
           (g.S.Source.left c.batches.source) before s.0 s.2 in
           let r = c.in_ok-part.ensures.read s.1 s.3 s.4 in
           let next_come : HaveCome link first left c.read_rest.new.reader (s.0 ++ (s.1 ++ r.0)) =
@@ -191,7 +207,7 @@ batches-preserved g c =
           c.in_default.is (r.3 link first s.0 all_told.count s.5) in (
             s.0,
             s.1 ++ r.0,
-            subst (λ (untold : Option g.row.J-Closed.Denot). Standing c.args.means.now.batch
+            subst (λ (untold : Option g.row.J-Closed.Denot). Standing c.args.means.now.portions
                 (g.J.Job.done c.settle.new.job plan) (g.J.Job.lines plan) g.J.Job.tells untold link first left many s.0
                 before (g.K.Sink.put c.settle.new.sink) c.settle.new.text.items) (sym c.settle.ensures.none) all_told,
             r.1,

@@ -1,5 +1,6 @@
 use Rattle.std.proofs.Common.{◌≡◌, ◌≤◌, ◌<◌, ◌-◌, ◌+◌, ◌*◌, ◌++◌, false, [], List, Option, ℕ, length}
 use Rattle.std.specs.Option.{ForSome, IfNone}
+use Rattle.capture_loop.specs.Batches.{cut_of}
 use Rattle.capture_loop.specs.Looping.{HasPut, Standing}
 use Rattle.capture_loop.specs.Reading.{HaveCome}
 use Rattle.capture_loop.proofs.looping.go_through.Given as goal
@@ -13,8 +14,9 @@ invariant-batches g l =
     record {
       reads : l.reader.ended ≡ false;
       given : l.reader.given ≡ l.so_far.packets + l.ahead;
-      few_ahead : (l.ahead ≤ l.fn.means.batch) × (l.so_far.packets + l.ahead ≤ 4000000);
-      few : l.so_far.packets < 4000000;
+      few_ahead : (l.ahead ≤ cut_of l.fn.means.portions l.so_far.packets)
+          × (l.so_far.packets + l.ahead ≤ l.fn.means.portions.limit);
+      few : l.so_far.packets < l.fn.means.portions.limit;
       going : g.J.Job.going l.job l.so_far.packets;
       piled : (held : List (List ℕ)) × g.J.Pile.Pile.holds l.piles.now l.so_far.packets held
           × (length held ≡ l.ahead);
@@ -31,7 +33,7 @@ invariant-batches g l =
           g.J.Job.done l.fn.job plan [] l.fn.text.items →
           HasPut before (put l.fn.sink) l.fn.text.items l.fn.text.items →
           HaveCome link first (left l.fn.source) l.fn.reader [] →
-          (all held : List (List ℕ)) × Standing l.fn.means.batch (g.J.Job.done l.job plan) (g.J.Job.lines plan)
+          (all held : List (List ℕ)) × Standing l.fn.means.portions (g.J.Job.done l.job plan) (g.J.Job.lines plan)
           g.J.Job.tells l.so_far.untold link first (left l.source) l.so_far.packets all before (put l.sink)
           l.text.items × g.J.Pile.Pile.holds l.piles.now l.so_far.packets held × (length held ≡ l.ahead)
           × HaveCome link first (left l.source) l.reader (all ++ held);
@@ -39,4 +41,4 @@ invariant-batches g l =
 
 -- a batch is served, or packets are read
 abbrev pub decreases-batches : goal.decreases-batches
-decreases-batches g l = (4000000 - l.so_far.packets) * 65537 + (65536 - l.ahead)
+decreases-batches g l = (l.fn.means.portions.limit - l.so_far.packets) * 65537 + (65536 - l.ahead)

@@ -13,7 +13,7 @@ returns-clause-served g c =
     let worked = all_zip_slice (g.J.Worker.WorksOn.done c.in_ok-shared.field-0.shared) c.as_mut_slice.result.now
     workers.items c.serve_on.new.workers _ c.as_mut_slice.ensures.value workers.ok.0 c.serve_on.ensures.done in
     let closed = c.in_ok-closed.ensures.served plan batches put workers.items before packets
-    (opens.done plan batches put done) (opens.going before going) (opens.opened before packets going holds) worked in (
+    (opens.under plan batches put done) (opens.away before going) (opens.opened before packets going holds) worked in (
       told.0,
       told.2,
       kept plan (batches ++ packets ∷ []) (put ++ told.0) (closed told.0 told.1),

@@ -1,4 +1,4 @@
-use Rattle.std.proofs.Common.{ℕ, subst, arith}
+use Rattle.std.proofs.Common.{ℕ, refl, subst, arith}
 use Rattle.capture_loop.specs.Input.{StopsAt}
 use Rattle.capture_loop.proofs.ReadingLemmas.{HaveEnded-ended, HaveEnded-limit, OnLimit-none, Took-goes_on}
 use Rattle.capture_loop.proofs.opening.read_past.Goals as goal
@@ -11,9 +11,9 @@ returns-in-Some-clause-ended g c = λ link first packets come all.
 pub returns-in-None-clause-ended : goal.returns-in-None-clause-ended
 returns-in-None-clause-ended g c = λ link first packets come all.
     HaveEnded-limit c.args.limit link first (g.S.Source.left c.args.source.now) (g.S.Source.left c.read_on.new.source)
-    c.args.reader.now c.read_on.new.reader packets c.from.result (c.every_input.ensures link)
+    c.args.reader.now c.read_on.new.reader packets c.args.limit (c.every_input.ensures link)
     (c.input_front.ensures link) come all
-    c.in-None.ensures.packet c.from.ensures
+    c.in-None.ensures.packet refl
 
 pub returns-in-Some-clause-beyond : goal.returns-in-Some-clause-beyond
 returns-in-Some-clause-beyond g c = λ link first packets come all.

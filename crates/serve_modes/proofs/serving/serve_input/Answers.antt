@@ -1,12 +1,13 @@
 -- The head line is held, and nothing was put.
-use Rattle.std.proofs.Common.{false, sym, ℕ, ◌++◌, ◌<◌, ◌^◌, ap, refl, subst, ◌∙◌}
+use Rattle.std.proofs.Common.{false, sym, ℕ, ◌++◌, ◌<◌, ◌^◌, ap, subst, ◌∙◌}
 use Rattle.report_text.specs.declared.parts.Head.{Head}
 use Rattle.report_told.specs.Rules.{IsBatch, seed_in}
 use Rattle.report_text.specs.Report.{head_line}
 use Rattle.capture_loop.proofs.LeavesLemmas.{Keeps-same}
 use Rattle.packet_heads.specs.Links.{number_in}
 use Rattle.capture_loop.specs.Input.{StopsAt, packet_limit}
-use Rattle.capture_loop.specs.Leaves.{EndsBy, LoopLeavesAll, Marks}
+use Rattle.capture_loop.specs.declared.portions.Portions.{Portions}
+use Rattle.capture_loop.specs.Leaves.{EndsBy, LoopLeavesBy, Marks}
 use Rattle.mode_parts.proofs.ExactLemmas.{MarksFor-end}
 use Rattle.serve_modes.specs.Serving.{IsLines, IsWholeReport}
 use Rattle.serve_modes.proofs.GoodSettings.{batch_told}
@@ -26,12 +27,13 @@ returns-clause-leaves g c =
     (g.K.Sink.put c.run_job-answer.new.sink) c.promise_laws.ensures
     (subst (λ (head : Head). seed_in head.hashing < 2 ^ 64) c.head_of-head.ensures c.head_fits.ensures.seed)
     c.run_job-answer.result c.answer_fits.ensures
-    (subst (λ (size : ℕ). LoopLeavesAll size (IsLines c.args.plan.now) (IsWholeReport c.args.plan.now)
+    (subst (λ (portions : Portions). LoopLeavesBy portions (IsLines c.args.plan.now) (IsWholeReport c.args.plan.now)
     (EndsBy (g.S.Source.failed c.args.source.now) (g.S.Source.failed c.run_job-answer.new.source))
     (number_in c.args.plan.now.framing.link) (g.S.Source.left c.args.source.now)
     (g.S.Source.left c.run_job-answer.new.source) (g.K.Sink.put c.args.sink.now)
     (g.K.Sink.put c.run_job-answer.new.sink) c.run_job-answer.result) c.requires.batch
-    (subst (λ (link : ℕ). LoopLeavesAll c.args.means.now.batch (IsLines c.args.plan.now) (IsWholeReport c.args.plan.now)
+    (subst (λ (link : ℕ). LoopLeavesBy c.args.means.now.portions (IsLines c.args.plan.now)
+    (IsWholeReport c.args.plan.now)
     (EndsBy (g.S.Source.failed c.args.source.now) (g.S.Source.failed c.run_job-answer.new.source)) link
     (g.S.Source.left c.args.source.now) (g.S.Source.left c.run_job-answer.new.source) (g.K.Sink.put c.args.sink.now)
     (g.K.Sink.put c.run_job-answer.new.sink) c.run_job-answer.result) c.number.ensures
@@ -89,5 +91,8 @@ returns-clause-beyond g c =
     c.head_of-head.ensures)) in
     MarksFor-end c.run_job-answer.result c.args.beyond.now c.run_job-answer.new.piles.beyond
     (StopsAt (number_in c.args.plan.now.framing.link) packet_limit first left)
+    (subst (λ (portions : Portions). Marks c.run_job-answer.result c.args.beyond.now
+    c.run_job-answer.new.piles.beyond (StopsAt (number_in c.args.plan.now.framing.link) portions.limit first left))
+    c.requires.batch
     (subst (λ (link : ℕ). Marks c.run_job-answer.result c.args.beyond.now c.run_job-answer.new.piles.beyond
-    (StopsAt link packet_limit first left)) c.number.ensures marks)
+    (StopsAt link c.args.means.now.portions.limit first left)) c.number.ensures marks))

@@ -5,8 +5,9 @@ use Rattle.capture_faults.specs.declared.ending.Ending.{Ending}
 use Rattle.totals_runner.specs.Adds.{totals_head}
 use Rattle.capture_loop.specs.declared.stop.Stop.{Stop}
 use Rattle.capture_loop.specs.declared.stop.Stop.TheVariants.{Memory}
-use Rattle.capture_loop.specs.Input.{StopsAt, packet_limit}
-use Rattle.capture_loop.specs.Leaves.{EndsBy, LoopLeavesAll, Lines, Marks, Reports}
+use Rattle.capture_loop.specs.Input.{StopsAt, in_batches}
+use Rattle.capture_loop.specs.declared.portions.Portions.{Portions}
+use Rattle.capture_loop.specs.Leaves.{EndsBy, LoopLeavesAll, LoopLeavesBy, Lines, Marks, Reports}
 use Rattle.capture_loop.proofs.LeavesLemmas.{Keeps-same, leaves_nothing}
 use Rattle.packet_heads.specs.Links.{number_in, way_of}
 use Rattle.totals_runner.specs.Told.{IsTotalsLines, IsTotalsReport}
@@ -21,7 +22,7 @@ leaves_none : (size : ℕ) (lines : Lines) (report : Reports) (can_end : Ending 
 leaves_none size lines report can_end link first left before after (Ok ending) is kept = absurd (cc)
 leaves_none size lines report can_end link first left before after (Err stop) is kept =
     subst (λ (s : Stop). LoopLeavesAll size lines report can_end link first left before after (Err s)) (sym is.1)
-    (leaves_nothing size lines report can_end link first left before after kept)
+    (leaves_nothing (in_batches size) lines report can_end link first left before after kept)
 
 pub returns-in_err-totals_head_text-clause-leaves : goal.returns-in_err-totals_head_text-clause-leaves
 returns-in_err-totals_head_text-clause-leaves g c =
@@ -34,12 +35,13 @@ returns-in_err-totals_head_text-clause-leaves g c =
 
 pub returns-clause-leaves : goal.returns-clause-leaves
 returns-clause-leaves g c =
-    subst (λ (size : ℕ). LoopLeavesAll size (IsTotalsLines c.args.asked.now) (IsTotalsReport c.args.asked.now)
+    subst (λ (portions : Portions). LoopLeavesBy portions (IsTotalsLines c.args.asked.now)
+    (IsTotalsReport c.args.asked.now)
     (EndsBy (g.S.Source.failed c.args.source.now) (g.S.Source.failed c.run_job-answer.new.source))
     (number_in c.args.asked.now.framing.link) (g.S.Source.left c.args.source.now)
     (g.S.Source.left c.run_job-answer.new.source) (g.K.Sink.put c.args.sink.now)
     (g.K.Sink.put c.run_job-answer.new.sink) c.run_job-answer.result) c.requires.so_many
-    (subst (λ (link : ℕ). LoopLeavesAll c.args.means.now.batch (IsTotalsLines c.args.asked.now)
+    (subst (λ (link : ℕ). LoopLeavesBy c.args.means.now.portions (IsTotalsLines c.args.asked.now)
     (IsTotalsReport c.args.asked.now)
     (EndsBy (g.S.Source.failed c.args.source.now) (g.S.Source.failed c.run_job-answer.new.source)) link
     (g.S.Source.left c.args.source.now) (g.S.Source.left c.run_job-answer.new.source) (g.K.Sink.put c.args.sink.now)
@@ -54,13 +56,15 @@ pub returns-clause-beyond : goal.returns-clause-beyond
 returns-clause-beyond g c =
     let first = g.S.Source.left c.args.source.now in
     let left = g.S.Source.left c.run_job-answer.new.source in
-    subst (λ (link : ℕ). Marks c.run_job-answer.result c.args.beyond.now c.run_job-answer.new.piles.beyond
-    (StopsAt link packet_limit first left)) c.number-link.ensures
+    subst (λ (portions : Portions). Marks c.run_job-answer.result c.args.beyond.now c.run_job-answer.new.piles.beyond
+    (StopsAt (number_in c.args.asked.now.framing.link) portions.limit first left)) c.requires.so_many
+    (subst (λ (link : ℕ). Marks c.run_job-answer.result c.args.beyond.now c.run_job-answer.new.piles.beyond
+    (StopsAt link c.args.means.now.portions.limit first left)) c.number-link.ensures
     (c.run_job-answer.ensures.beyond c.args.asked.now
     (begun c.new-counting.result c.args.asked.now c.totals_head_text.new.out.items c.new-counting.ensures.seats
     c.new-counting.ensures.framing c.new-counting.ensures.none
     (c.in_ok-totals_head_text.ensures.appended
-    ∙ ap (λ (t : List ℕ). t ++ totals_head c.args.asked.now.seats c.args.asked.now.batch) c.new-text.ensures.items)))
+    ∙ ap (λ (t : List ℕ). t ++ totals_head c.args.asked.now.seats c.args.asked.now.batch) c.new-text.ensures.items))))
 
 pub run_job-answer-requires-clause-ways : goal.run_job-answer-requires-clause-ways
 run_job-answer-requires-clause-ways g c = λ lives within. (

@@ -1,7 +1,6 @@
 -- One batch more is served, and told later.
 use Rattle.std.proofs.Common.{◌≡◌, ◌+◌, ◌++◌, ◌∷◌, [], List, ℕ, Vec, Global, length, map, ap, refl, subst, sym, ◌∙◌, arith}
 use Rattle.plain_map.specs.declared.calls.Call.{Call}
-use Rattle.plain_map.specs.declared.keys.Pair.{Pair}
 use Rattle.trace_share.specs.declared.outcome.Outcome.{Outcome}
 use Rattle.batch_deals.specs.declared.service.Service.{Service}
 use Rattle.batch_runner.specs.Printed.{AreLines, CanBeTold}
