@@ -18,7 +18,7 @@ use Rattle.lasting_model.specs.Steps.{Step, Stand, Sweep, SeatNow, Update, Try, 
 use Rattle.lasting_model.specs.Goes.{rows_of, SweepFate, SweepsOn, Swept, sweep_fate_of, swept, sweep_begins, Fate, On, Ends, Refuses, first_fate, ends_with, reply_by, lost, fate, with_published, GlanceFate, Looks, Shows, Disturbed, glance_fate, time_after}
 use Rattle.lasting_model.specs.Worlds.{Lasting, Answer, Event, OfSeat, OfReader, IsEvent, AreEvents, What, Begin, Copy, Step_on, Open, Peek_on, LOOK_TRIES, seat_in, with_seat, ticked, found_by, store_after, seat_after, answers_after, stepped, goes, glances, look_after, look_answers, stand_at, next_update, course_from, update_begins, look_begins, call_begins, goes_on, act, peeks_on, happens, nobody, opening_seat, opening_world, IsFlying, Fits}
 use Rattle.lasting_laws.proofs.Lists.{either_put}
-use Rattle.lasting_laws.proofs.Pools.{Pool, PoolOf, places, is_row, times, word_in, owner_in}
+use Rattle.lasting_laws.proofs.Pools.{Pool, PoolOf, places, is_row, word_in, owner_in}
 use Rattle.lasting_laws.proofs.PoolsOpen.{seat_is}
 use Rattle.lasting_laws.proofs.FixedDepth.{positive}
 use Rattle.bucket_states.specs.declared.ops.Op.{Op}

@@ -60,3 +60,14 @@ pub mod StepsFit
 pub mod FixedDepth
 pub mod FixedRuns
 pub mod OpeningLeaves
+pub mod Events
+pub mod Rests
+pub mod SeatAnswers
+pub mod Counted
+pub mod InTurn
+pub mod SeatOrder
+pub mod Mirrors
+pub mod OneOrder
+pub mod RestCounts
+pub mod Passes
+pub mod OneByOne

@@ -60,7 +60,7 @@ use Rattle.lasting_laws.proofs.Peeks.{peeks_are_of_moments}
 use Rattle.lasting_laws.proofs.SeatLooks.{looks_are_of_moments}
 
 -- each event is one
-one_event_more : (plan : Plan) → IsPlan plan → (x : Lasting) → IsShown plan x → (event : L.Event) →
+pub one_event_more : (plan : Plan) → IsPlan plan → (x : Lasting) → IsShown plan x → (event : L.Event) →
     IsEvent plan x event → (happens plan x event).clock ≡ x.clock + 1
 one_event_more plan is_plan x shown (OfSeat p what) fits =
     (subst (λ (b : Bool). Leaves plan x (cond b (ticked (act plan x p (L.seat_in x p) what)) x))

@@ -2,6 +2,16 @@
 
 ghost use Rattle.lasting_laws.specs.Facts.{EndedAreApplied, FixedDepthNeverFreezes, NumbersHaveOneReply};
 ghost use Rattle.lasting_laws.specs.Fits.{PeeksAreOnTable, RowsAreOfBuckets, StepsAreOnTable};
+ghost use Rattle.lasting_laws.specs.OneByOne.{LooksAreInTurn};
+ghost use Rattle.lasting_laws.specs.Orders.{
+  AnswersStay,
+  AskingsAreCounted,
+  CopiesAreOfRests,
+  CountsTellRests,
+  InFlightIsAnswered,
+  RestsAreAlike,
+  UpdatesHaveOneOrder,
+};
 ghost use Rattle.lasting_laws.specs.Promises.{UpdatesAreOrdered};
 ghost use Rattle.lasting_model.specs.Laws.{
   AllCountsAreSmall,
@@ -68,4 +78,34 @@ pub fn word_laws()
     ensures on_table { StepsAreOnTable }
     ensures peeks_on_table { PeeksAreOnTable }
     ensures rows { RowsAreOfBuckets }
+{}
+
+/// In every run of a lasting table each bucket stays as it is from a moment at which all seats are idle to another one,
+/// if no update was answered between. So it is if no seat has counted one. A copy that a seat makes between tells what
+/// its bucket had at first.
+pub fn rest_laws()
+    ensures by_counts { CountsTellRests }
+    ensures alike { RestsAreAlike }
+    ensures copied { CopiesAreOfRests }
+{}
+
+/// In every run of a lasting table answers stay. A seat asks at most once in a call, and has counted its answered
+/// updates. The first answer that it gets after it had an update under way is to that one.
+pub fn call_laws()
+    ensures answers_stay { AnswersStay }
+    ensures counted { AskingsAreCounted }
+    ensures answered_first { InFlightIsAnswered }
+{}
+
+/// In every run of a lasting table the updates that were made by any moment have one order, with the plain map's
+/// replies. Those of a seat are the ones that it was answered, in order, and at most the one that it has under way.
+/// Each bucket has what the plain map holds after all of them.
+pub fn update_laws()
+    ensures one_order { UpdatesHaveOneOrder }
+{}
+
+/// In every run of a lasting table the calls of a seat come one after the other. At each moment of a lookup or a copy its
+/// earlier updates are answered, and its later ones have not begun.
+pub fn turn_laws()
+    ensures in_turn { LooksAreInTurn }
 {}

@@ -1,0 +1,4 @@
+pub mod AskedKeys
+pub mod CallLists
+pub mod FlowOrders
+pub mod Parts

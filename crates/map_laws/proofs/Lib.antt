@@ -1,0 +1,4 @@
+pub mod ByKeyLists
+pub mod ByKeyHeld
+pub mod ByKeyLooks
+pub mod ByKeyFree
