@@ -1,5 +1,5 @@
 -- One event of a party in a run: it may come, it leads to where the calls lead, and it takes its word of the table.
-use Rattle.std.proofs.Common.{◌≡◌, ℕ, ◌-◌, ◌<◌, ◌≤◌, List, [], ◌∷◌, length, refl, sym, ap, ◌∙◌, subst, arith, get_or-set_same}
+use Rattle.std.proofs.Common.{◌≡◌, ℕ, ◌+◌, ◌-◌, ◌<◌, ◌≤◌, List, [], ◌∷◌, ◌++◌, length, refl, sym, ap, ◌∙◌, subst, arith, get_or-set_same}
 use Rattle.word_rows.proofs.MemoryLemmas.{put_same}
 use Rattle.plain_map.specs.declared.calls.Call.{Call}
 use Rattle.plain_map.specs.declared.calls.Call.TheVariants.{Insert, Remove, Lookup, Tally, Count, Put}
@@ -7,16 +7,16 @@ use Rattle.lasting_model.specs.Plans.{Plan, ample}
 use Rattle.lasting_model.specs.Words as W
 use Rattle.lasting_model.specs.Steps as S
 use Rattle.lasting_model.specs.Steps.{Step, Stand, SeatNow, Update, Aim, OfKey, OfBucket, Glance, Course, Peeking, ReaderNow, Deed, deed_of, glance_deed}
-use Rattle.lasting_model.specs.Goes.{Fate, On, Ends, Refuses, fate, own_after, first_fate, sweep_begins, GlanceFate, Looks, Shows, Disturbed, glance_fate, Asked, Called, Copied, asked_by_aim}
-use Rattle.lasting_model.specs.Worlds.{Lasting, Answer, Asker, BySeat, ByReader, Event, OfSeat, OfReader, Begin, Copy, Step_on, Open, Peek_on, IsEvent, CanBegin, IsPeeking, IsRun, IsFlying, LOOK_TRIES, answers_after, call_begins, course_from, found_by, goes_on, happens, look_after, look_answers, look_begins, next_update, nobody, peek_acts, peek_after, peek_answers, peeks, peeks_on, seat_after, seat_in, stand_at, stepped, store_after, ticked, update_begins, with_reader, with_seat, world_after}
+use Rattle.lasting_model.specs.Goes.{Fate, On, Ends, Refuses, fate, own_after, first_fate, sweep_begins, GlanceFate, Looks, Shows, Disturbed, glance_fate, Asked, Called, Copied, Told, Again, Refused, Replied, asked_by_aim, told_by_items}
+use Rattle.lasting_model.specs.Worlds.{Lasting, Answer, Asker, BySeat, ByReader, Event, OfSeat, OfReader, Begin, Copy, Step_on, Open, Peek_on, IsEvent, CanBegin, IsPeeking, IsRun, IsFlying, LOOK_TRIES, answers_after, call_begins, course_from, found_by, goes_on, happens, look_after, look_answers, look_begins, next_update, nobody, peek_acts, peek_after, peek_answers, peeks, peeks_on, seat_after, seat_in, stand_at, stepped, store_after, ticked, update_begins, with_answer, with_reader, with_seat, world_after}
 use Rattle.lasting_laws.specs.Fits.{IsLoadThere, IsOnTable, next_deed}
 use Rattle.lasting_laws.proofs.Pools.{Pools}
 use Rattle.lasting_laws.proofs.PoolsOpen.{pools_hold}
 use Rattle.lasting_laws.proofs.Near.{IsTrying, NearPeeking, nearly_hold}
 use Rattle.lasting_laws.proofs.StepsFit.{peeks_are_on_table, steps_are_on_table}
 use Rattle.lasting_calls.specs.Going.{IsOn, begun_look, begun_update, deed, deed_at, goes as goes_by_word, goes_at}
-use Rattle.lasting_table.specs.Parties.{CanAsk, IsParty, Under, UnderIn, as_seat, begin_of, begun, by_event, clean, going_in, party, stand_of, step_of}
-use Rattle.lasting_table.proofs.Events.{look_begun, own_course, deed_clean, peek_begun, peek_goes, seat_happens, step_goes, step_store, update_begun}
+use Rattle.lasting_table.specs.Parties.{CanAsk, IsAnswered, IsParty, Under, UnderIn, answers_by, as_seat, begin_of, begun, by_event, clean, going_in, party, stand_of, step_of}
+use Rattle.lasting_table.proofs.Events.{look_begun, own_course, own_more, deed_clean, peek_begun, peek_goes, seat_happens, step_goes, step_store, update_begun}
 
 -- a load leaves all words as they are
 pub load_same : (plan : Plan) (d : Deed) (s : W.Store) → IsLoadThere plan d → store_after d s ≡ s
@@ -46,37 +46,63 @@ stand_code (S.Glances aim glance) = 1
 
 -- ---- who is answered
 
-module _ (plan : Plan) (x : Lasting) (q : ℕ) (long : q < length x.seats) (asked : Asked) (start : ℕ) where
+-- a call is answered now
+answered_now : (x : Lasting) (who : Asker) (asked it : Asked) (told : Told) (course : Course) (start : ℕ)
+    (had : List Answer) → asked ≡ it → start ≤ course.began → answers_by who x.answers ≡ had →
+    IsAnswered who asked start had (with_answer x who it told course)
+answered_now x who asked it told course start had is after kept =
+    let answer : Answer = record {
+      by = who;
+      asked = it;
+      told = told;
+      began = course.began;
+      ended = x.clock + 1;
+      steps = course.steps;
+    } in
+    record {
+      front = x.answers;
+      answer = answer;
+      is = refl;
+      by = refl;
+      asks = sym is;
+      after = after;
+      only = own_more who x.answers answer refl ∙ ap (λ (as_now : List Answer). as_now ++ answer ∷ []) kept;
+    }
+
+module _ (plan : Plan) (x : Lasting) (q : ℕ) (long : q < length x.seats) (asked : Asked) (start : ℕ)
+    (had : List Answer) where
   abbrev now : SeatNow
   now = seat_in x q
 
   abbrev UnderOf : SeatNow → List Answer → Type 0
-  UnderOf then answers = Under (BySeat q) asked start then then.stand answers
+  UnderOf then answers = Under (BySeat q) asked start had then then.stand answers
 
   under_there : (store : W.Store) (then : SeatNow) (answers : List Answer) → UnderOf then answers →
-      UnderIn (BySeat q) asked start (ticked (with_seat x q store then answers))
+      UnderIn (BySeat q) asked start had (ticked (with_seat x q store then answers))
   under_there store then answers k =
       subst (λ (s : SeatNow). UnderOf s answers) (sym (get_or-set_same x.seats q then nobody long)) k
 
   update_under : (own : SeatNow) (u : Update) (next : Fate) → own.course ≡ now.course → asked ≡ Called u.call →
-      start ≤ now.course.began →
+      start ≤ now.course.began → answers_by (BySeat q) x.answers ≡ had →
       UnderOf (seat_after own u next) (answers_after x q u.call (stepped now.course) next)
-  update_under own u (On step) same is after =
-      (is, (let e = ap (λ (c : Course). c.began) same in omega (arith, e, after)))
-  update_under own u (Ends reply) same is after =
-      record { front = x.answers; answer = _; is = refl; by = refl; asks = sym is; after = after }
-  update_under own u Refuses same is after =
-      record { front = x.answers; answer = _; is = refl; by = refl; asks = sym is; after = after }
+  update_under own u (On step) same is after kept =
+      (is, (let e = ap (λ (c : Course). c.began) same in omega (arith, e, after)), kept)
+  update_under own u (Ends reply) same is after kept =
+      answered_now x (BySeat q) asked (Called u.call) (Replied reply) (stepped now.course) start had is after kept
+  update_under own u Refuses same is after kept =
+      answered_now x (BySeat q) asked (Called u.call) Refused (stepped now.course) start had is after kept
 
   look_under : (aim : Aim) (was : Glance) (next : GlanceFate) → asked ≡ asked_by_aim aim → start ≤ now.course.began →
+      answers_by (BySeat q) x.answers ≡ had →
       UnderOf (look_after now aim was next) (look_answers (ample plan) x q aim (stepped now.course) next)
-  look_under aim was (Looks glance) is after = (is, after)
-  look_under aim was (Shows items) is after =
-      record { front = x.answers; answer = _; is = refl; by = refl; asks = sym is; after = after }
-  look_under aim was Disturbed is after = (is, after)
+  look_under aim was (Looks glance) is after kept = (is, after, kept)
+  look_under aim was (Shows items) is after kept =
+      answered_now x (BySeat q) asked (asked_by_aim aim) (told_by_items (ample plan) aim items) (stepped now.course)
+      start had is after kept
+  look_under aim was Disturbed is after kept = (is, after, kept)
 
-  pub step_under : (stand : Stand) → IsFlying stand → Under (BySeat q) asked start now stand x.answers →
-      UnderIn (BySeat q) asked start (ticked (goes_on plan x q now stand))
+  pub step_under : (stand : Stand) → IsFlying stand → Under (BySeat q) asked start had now stand x.answers →
+      UnderIn (BySeat q) asked start had (ticked (goes_on plan x q now stand))
   step_under S.Idle f k = absurd f
   step_under (S.Goes u step) f k =
       let word = found_by (deed_of (ample plan) q now u step) x.store in
@@ -84,69 +110,75 @@ module _ (plan : Plan) (x : Lasting) (q : ℕ) (long : q < length x.seats) (aske
       let next = fate (ample plan) q now u step word in
       under_there (store_after (deed_of (ample plan) q now u step) x.store) (seat_after own u next)
       (answers_after x q u.call (stepped now.course) next)
-      (update_under own u next (own_course plan q now u step word) k.0 k.1)
+      (update_under own u next (own_course plan q now u step word) k.0 k.1 k.2)
   step_under (S.Glances aim glance) f k =
       let d = glance_deed (ample plan) q now.time aim glance in
       let next = glance_fate (ample plan) now.time aim glance (found_by d x.store) in
       under_there (store_after d x.store) (look_after now aim glance next)
-      (look_answers (ample plan) x q aim (stepped now.course) next) (look_under aim glance next k.0 k.1)
+      (look_answers (ample plan) x q aim (stepped now.course) next) (look_under aim glance next k.0 k.1 k.2)
 
   pub look_first : (aim : Aim) → asked ≡ asked_by_aim aim → start ≤ x.clock →
-      UnderIn (BySeat q) asked start (ticked (look_begins x q now aim))
-  look_first aim is after = under_there x.store
+      answers_by (BySeat q) x.answers ≡ had → UnderIn (BySeat q) asked start had (ticked (look_begins x q now aim))
+  look_first aim is after kept = under_there x.store
       (record now { stand = S.Glances aim (S.GlanceWord (LOOK_TRIES - 1)); course = course_from x.clock }) x.answers
-      (is, after)
+      (is, after, kept)
 
   first_under : (u : Update) (taken : SeatNow) (next : Fate) → asked ≡ Called u.call → start ≤ x.clock →
+      answers_by (BySeat q) x.answers ≡ had →
       UnderOf (record taken { stand = stand_at u next; course = course_from x.clock })
       (answers_after x q u.call (course_from x.clock) next)
-  first_under u taken (On step) is after = (is, after)
-  first_under u taken (Ends reply) is after =
-      record { front = x.answers; answer = _; is = refl; by = refl; asks = sym is; after = after }
-  first_under u taken Refuses is after =
-      record { front = x.answers; answer = _; is = refl; by = refl; asks = sym is; after = after }
+  first_under u taken (On step) is after kept = (is, after, kept)
+  first_under u taken (Ends reply) is after kept =
+      answered_now x (BySeat q) asked (Called u.call) (Replied reply) (course_from x.clock) start had is after kept
+  first_under u taken Refuses is after kept =
+      answered_now x (BySeat q) asked (Called u.call) Refused (course_from x.clock) start had is after kept
 
   pub update_first : (call : Call) → asked ≡ Called call → start ≤ x.clock →
-      UnderIn (BySeat q) asked start (ticked (update_begins x q now call))
-  update_first call is after =
+      answers_by (BySeat q) x.answers ≡ had → UnderIn (BySeat q) asked start had (ticked (update_begins x q now call))
+  update_first call is after kept =
       let taken = sweep_begins now.named now.sweep now in
       let u = next_update now call in
       let next = first_fate now.free taken.sweep in
       under_there x.store (record taken { stand = stand_at u next; course = course_from x.clock })
-      (answers_after x q call (course_from x.clock) next) (first_under u taken next is after)
+      (answers_after x q call (course_from x.clock) next) (first_under u taken next is after kept)
 
-module _ (plan : Plan) (x : Lasting) (r : ℕ) (asked : Asked) (start : ℕ) where
+module _ (plan : Plan) (x : Lasting) (r : ℕ) (asked : Asked) (start : ℕ) (had : List Answer) where
   abbrev peeking : ReaderNow
   peeking = x.readers r
 
   peek_there : (then : ReaderNow) (answers : List Answer) →
-      Under (ByReader r) asked start (as_seat then) (stand_of then.stand) answers →
-      UnderIn (ByReader r) asked start (ticked (with_reader x r then answers))
+      Under (ByReader r) asked start had (as_seat then) (stand_of then.stand) answers →
+      UnderIn (ByReader r) asked start had (ticked (with_reader x r then answers))
   peek_there then answers k =
-      subst (λ (s : ReaderNow). Under (ByReader r) asked start (as_seat s) (stand_of s.stand) answers)
+      subst (λ (s : ReaderNow). Under (ByReader r) asked start had (as_seat s) (stand_of s.stand) answers)
       (sym (put_same x.readers r then)) k
 
   peek_under : (aim : Aim) (next : GlanceFate) → asked ≡ asked_by_aim aim → start ≤ peeking.course.began →
-      Under (ByReader r) asked start (as_seat (peek_after peeking aim next)) (stand_of (peek_after peeking aim
-      next).stand)
+      answers_by (ByReader r) x.answers ≡ had →
+      Under (ByReader r) asked start had (as_seat (peek_after peeking aim next))
+      (stand_of (peek_after peeking aim next).stand)
       (peek_answers (ample plan) x r aim (stepped peeking.course) next)
-  peek_under aim (Looks glance) is after = (is, after)
-  peek_under aim (Shows items) is after =
-      record { front = x.answers; answer = _; is = refl; by = refl; asks = sym is; after = after }
-  peek_under aim Disturbed is after =
-      record { front = x.answers; answer = _; is = refl; by = refl; asks = sym is; after = after }
+  peek_under aim (Looks glance) is after kept = (is, after, kept)
+  peek_under aim (Shows items) is after kept =
+      answered_now x (ByReader r) asked (asked_by_aim aim) (told_by_items (ample plan) aim items)
+      (stepped peeking.course) start had is after kept
+  peek_under aim Disturbed is after kept =
+      answered_now x (ByReader r) asked (asked_by_aim aim) Again (stepped peeking.course) start had is after kept
 
-  pub peek_on_under : (aim : Aim) (glance : Glance) → (asked ≡ asked_by_aim aim) × (start ≤ peeking.course.began) →
-      UnderIn (ByReader r) asked start (ticked (peeks plan x r peeking aim glance))
+  pub peek_on_under : (aim : Aim) (glance : Glance) →
+      (asked ≡ asked_by_aim aim) × (start ≤ peeking.course.began) × (answers_by (ByReader r) x.answers ≡ had) →
+      UnderIn (ByReader r) asked start had (ticked (peeks plan x r peeking aim glance))
   peek_on_under aim glance k =
       let next = glance_fate (ample plan) 0 aim glance (found_by (glance_deed (ample plan) 0 0 aim glance) x.store) in
       peek_there (peek_after peeking aim next) (peek_answers (ample plan) x r aim (stepped peeking.course) next)
-      (peek_under aim next k.0 k.1)
+      (peek_under aim next k.0 k.1 k.2)
 
   pub peek_first : (aim : Aim) (tries : ℕ) → asked ≡ asked_by_aim aim → start ≤ x.clock →
-      UnderIn (ByReader r) asked start (ticked (peek_acts plan x r peeking (Open aim tries)))
-  peek_first aim tries is after = peek_there
-      (record { stand = S.Peeks aim (S.GlanceWord (tries - 1)); course = course_from x.clock }) x.answers (is, after)
+      answers_by (ByReader r) x.answers ≡ had →
+      UnderIn (ByReader r) asked start had (ticked (peek_acts plan x r peeking (Open aim tries)))
+  peek_first aim tries is after kept = peek_there
+      (record { stand = S.Peeks aim (S.GlanceWord (tries - 1)); course = course_from x.clock }) x.answers
+      (is, after, kept)
 
 -- ---- a step of a party
 
@@ -157,8 +189,8 @@ pub record Steps (plan : Plan) (who : Asker) (x : Lasting) : Type 0 where
       ≡ goes_by_word (going_in plan who x) (found_by (deed (going_in plan who x)) x.store)
   pub store : (happens plan x (step_of who)).store ≡ store_after (deed (going_in plan who x)) x.store
   pub on_table : IsOn plan (deed (going_in plan who x))
-  pub under : (asked : Asked) (start : ℕ) → UnderIn who asked start x →
-      UnderIn who asked start (happens plan x (step_of who))
+  pub under : (asked : Asked) (start : ℕ) (had : List Answer) → UnderIn who asked start had x →
+      UnderIn who asked start had (happens plan x (step_of who))
 
 -- a call may begin, and does
 pub record Begins (plan : Plan) (who : Asker) (asked : Asked) (tries : ℕ) (x : Lasting) : Type 0 where
@@ -168,7 +200,8 @@ pub record Begins (plan : Plan) (who : Asker) (asked : Asked) (tries : ℕ) (x :
   pub can : IsEvent plan x event
   pub goes : going_in plan who (happens plan x event) ≡ begun asked tries (going_in plan who x)
   pub store : (happens plan x event).store ≡ x.store
-  pub under : (start : ℕ) → start ≤ x.clock → UnderIn who asked start (happens plan x event)
+  pub under : (start : ℕ) (had : List Answer) → start ≤ x.clock → answers_by who x.answers ≡ had →
+      UnderIn who asked start had (happens plan x event)
 
 module _ (plan : Plan) (events : List Event) (run : IsRun plan events) where
   abbrev x : Lasting
@@ -197,8 +230,8 @@ module _ (plan : Plan) (events : List Event) (run : IsRun plan events) where
         goes = ap (going_in plan (BySeat q)) acts ∙ step_goes plan x q (seat_long q inside) now.stand refl flies;
         store = ap (λ (z : Lasting). z.store) acts ∙ step_store plan x q (seat_long q inside) now.stand flies;
         on_table = on_at q now.stand (steps_are_on_table plan events q run inside);
-        under = λ asked start k. subst (UnderIn (BySeat q) asked start) (sym acts)
-            (step_under plan x q (seat_long q inside) asked start now.stand flies k);
+        under = λ asked start had k. subst (UnderIn (BySeat q) asked start had) (sym acts)
+            (step_under plan x q (seat_long q inside) asked start had now.stand flies k);
       }
 
   -- a reader's look is one of its tries
@@ -226,9 +259,9 @@ module _ (plan : Plan) (events : List Event) (run : IsRun plan events) where
         store = ap (λ (z : Lasting). z.store) acts ∙ sym (load_same plan d x.store there)
             ∙ ap (λ (k : Deed). store_after k x.store) (sym same);
         on_table = subst (IsOn plan) (sym same) (load_on plan d there);
-        under = λ asked start k. subst (UnderIn (ByReader r) asked start) (sym acts)
-            (peek_on_under plan x r asked start aim glance
-            (subst (λ (s : Peeking). Under (ByReader r) asked start (as_seat peeking) (stand_of s) x.answers) e k));
+        under = λ asked start had k. subst (UnderIn (ByReader r) asked start had) (sym acts)
+            (peek_on_under plan x r asked start had aim glance
+            (subst (λ (s : Peeking). Under (ByReader r) asked start had (as_seat peeking) (stand_of s) x.answers) e k));
       }
 
   -- THE RESULT
@@ -256,8 +289,8 @@ module _ (plan : Plan) (events : List Event) (run : IsRun plan events) where
         can = (inside, (idle, can));
         goes = ap (going_in plan (BySeat q)) acts ∙ update_begun plan x q (seat_long q inside) call ∙ sym same;
         store = ap (λ (z : Lasting). z.store) acts;
-        under = λ start after. subst (UnderIn (BySeat q) (Called call) start) (sym acts)
-            (update_first plan x q (seat_long q inside) (Called call) start call refl after);
+        under = λ start had after kept. subst (UnderIn (BySeat q) (Called call) start had) (sym acts)
+            (update_first plan x q (seat_long q inside) (Called call) start had call refl after kept);
       }
 
   seat_begins : (q : ℕ) → q < plan.settings.seats → (asked : Asked) (tries : ℕ) → (seat_in x q).stand ≡ S.Idle →
@@ -272,8 +305,8 @@ module _ (plan : Plan) (events : List Event) (run : IsRun plan events) where
         goes = ap (going_in plan (BySeat q)) acts ∙ look_begun plan x q (seat_long q inside) (OfKey key)
             ∙ ap (begun_look (going_in plan (BySeat q) x) (OfKey key)) (sym can.1);
         store = ap (λ (z : Lasting). z.store) acts;
-        under = λ start after. subst (UnderIn (BySeat q) (Called (Lookup key)) start) (sym acts)
-            (look_first plan x q (seat_long q inside) (Called (Lookup key)) start (OfKey key) refl after);
+        under = λ start had after kept. subst (UnderIn (BySeat q) (Called (Lookup key)) start had) (sym acts)
+            (look_first plan x q (seat_long q inside) (Called (Lookup key)) start had (OfKey key) refl after kept);
       }
   seat_begins q inside (Called (Insert key value)) tries idle can =
       seat_update q inside (Insert key value) tries idle can refl refl
@@ -294,8 +327,8 @@ module _ (plan : Plan) (events : List Event) (run : IsRun plan events) where
         goes = ap (going_in plan (BySeat q)) acts ∙ look_begun plan x q (seat_long q inside) (OfBucket bucket)
             ∙ ap (begun_look (going_in plan (BySeat q) x) (OfBucket bucket)) (sym can.1);
         store = ap (λ (z : Lasting). z.store) acts;
-        under = λ start after. subst (UnderIn (BySeat q) (Copied bucket) start) (sym acts)
-            (look_first plan x q (seat_long q inside) (Copied bucket) start (OfBucket bucket) refl after);
+        under = λ start had after kept. subst (UnderIn (BySeat q) (Copied bucket) start had) (sym acts)
+            (look_first plan x q (seat_long q inside) (Copied bucket) start had (OfBucket bucket) refl after kept);
       }
 
   reader_begins : (r : ℕ) (asked : Asked) (tries : ℕ) → stand_of (x.readers r).stand ≡ S.Idle →
@@ -307,7 +340,8 @@ module _ (plan : Plan) (events : List Event) (run : IsRun plan events) where
     can = (resting (x.readers r).stand idle, can.0, can.1);
     goes = peek_begun plan x r (OfKey key) tries;
     store = refl;
-    under = λ start after. peek_first plan x r (Called (Lookup key)) start (OfKey key) tries refl after;
+    under = λ start had after kept.
+        peek_first plan x r (Called (Lookup key)) start had (OfKey key) tries refl after kept;
   }
   reader_begins r (Called (Insert key value)) tries idle can = absurd can
   reader_begins r (Called (Remove key)) tries idle can = absurd can
@@ -321,7 +355,8 @@ module _ (plan : Plan) (events : List Event) (run : IsRun plan events) where
     can = (resting (x.readers r).stand idle, can.0, can.1);
     goes = peek_begun plan x r (OfBucket bucket) tries;
     store = refl;
-    under = λ start after. peek_first plan x r (Copied bucket) start (OfBucket bucket) tries refl after;
+    under = λ start had after kept. peek_first plan x r (Copied bucket) start had (OfBucket bucket) tries refl after
+        kept;
   }
 
   -- THE RESULT

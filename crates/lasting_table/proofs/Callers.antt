@@ -23,7 +23,7 @@ use Rattle.lasting_calls.specs.declared.seat_state.SeatState.{SeatState}
 use Rattle.lasting_table.proofs.Ends.{looked_again}
 use Rattle.lasting_model.specs.Words.{word_count}
 use Rattle.lasting_table.specs.declared.table.LastingTable.TheInside as table
-use Rattle.lasting_table.specs.Values.{Answers, IsPartyOf, IsResting, IsSame, PartyStands, SeatStands, TableValue, holding_in, party_value}
+use Rattle.lasting_table.specs.Values.{Answers, IsPartyOf, IsResting, IsSame, PartyStands, SeatStands, TableValue, answered_updates, holding_in, party_value}
 use Rattle.lasting_table.specs.Tables.{TableStands, table_value}
 
 -- the first of the views, or this one
@@ -96,6 +96,7 @@ module _ (key : Opening) (holds : Bool) (desk : Desk) (views : List View) (me : 
       before = here.answered.front;
       answer = here.answered.answer;
       last = here.answered.is;
+      own = here.answered.only;
       by = here.answered.by;
       asks = here.answered.asks;
       tells = here.told_is;
@@ -106,6 +107,7 @@ module _ (key : Opening) (holds : Bool) (desk : Desk) (views : List View) (me : 
           (subst (All (IsWithin now.plan.settings)) here.answered.is
           (steps_are_bounded now.plan now.known here.run)) seat e);
       ordered = updates_are_ordered now.plan now.known here.run;
+      idle = here.idle;
     }
 
     pub stands_after : PartyStands holds desk views_then
@@ -169,6 +171,17 @@ module _ (key : Opening) (holds : Bool) (desk : Desk) (views : List View) (me : 
   -- what a seat keeps, as its call has it
   pub keeps_at : (state : SeatState) → IsSeatOf (going_of was) state → IsSeatOf (going_of (holding_of key me)) state
   keeps_at state k = subst (λ (h : Holding). IsSeatOf (going_of h) state) (sym held) k
+
+  -- and that it has answered no update in a look
+  pub updates_same : (time : ℕ) (told : Told) (table table_then : TableId) (views_then : List View) (me_then : M) →
+      views_then ≡ me_then.0 ∷ [] → IsResting key me_then →
+      going_of (holding_of key me_then) ≡ ended (untold (going_of (holding_of key me))) time told →
+      answered_updates (party_value desk table_then views_then) ≡ answered_updates (party_value desk table views)
+  updates_same time told table table_then views_then me_then out rests e =
+      ap (λ (h : Holding). (going_of h).now.answered)
+      (badge_holds key desk views_then me_then out (holding_of key me_then)
+      (out ∙ ap (λ (m : M). m.0 ∷ []) rests.one)).1
+      ∙ ap (λ (g : Going). g.now.answered) e ∙ ap (λ (h : Holding). (going_of h).now.answered) held
 
   -- and what it keeps after a look
   pub looked_stands : (time : ℕ) (told : Told) (state state_then : SeatState) → IsSeatOf (going_of was) state →

@@ -1,5 +1,6 @@
 -- What an event of a party changes: its own state, as the calls have it, and no other's.
-use Rattle.std.proofs.Common.{◌≡◌, ◌≢◌, ℕ, ◌+◌, ◌-◌, ◌<◌, Bool, true, false, cond, List, [], ◌∷◌, ◌++◌, length, Option, Some, None, refl, sym, ap, ◌∙◌, arith, get_or-set_same, get_or-set_other, lt-ltb}
+use Rattle.std.proofs.Common.{◌≡◌, ◌≢◌, ◌⊎◌, inl, inr, ℕ, ◌+◌, ◌-◌, ◌<◌, Bool, true, false, cond, eq-eqb, ne_eqb, List, [], ◌∷◌, ◌++◌, length, Option, Some, None, refl, sym, ap, ◌∙◌, arith, append-nil, get_or-set_same, get_or-set_other, lt-ltb}
+use Rattle.std.proofs.lemmas.List.Elements.{filter-append}
 use Rattle.std.specs.Prelude.{◌==◌, fold}
 use Rattle.word_rows.proofs.MemoryLemmas.{put_same, put_other}
 use Rattle.plain_map.specs.declared.calls.Call.{Call}
@@ -13,7 +14,7 @@ use Rattle.lasting_model.specs.Worlds.{Lasting, Answer, Asker, BySeat, ByReader,
 use Rattle.lasting_laws.proofs.Peeks.{after_both}
 use Rattle.lasting_laws.proofs.Near.{IsTrying}
 use Rattle.lasting_calls.specs.Going.{Going, after_glance, begun_look, begun_update, deed_at, goes_at, told_by}
-use Rattle.lasting_table.specs.Parties.{as_seat, by_event, clean, going_in, last_told, party, stand_of, told_at}
+use Rattle.lasting_table.specs.Parties.{HasNone, answers_by, as_seat, by_event, clean, going_in, is_asker, last_told, party, stand_of, told_at}
 
 -- ---- runs with one event more
 
@@ -31,6 +32,44 @@ pub world_more : (plan : Plan) (es : List Event) (e : Event) →
     world_after plan (es ++ e ∷ []) ≡ happens plan (world_after plan es) e
 world_more plan es e = after_both plan es (e ∷ []) (opening_world plan)
 
+-- and what follows a front of a run may follow it
+follow_later : (plan : Plan) (es fs : List Event) (x : Lasting) → AreEvents plan x (es ++ fs) →
+    AreEvents plan (fold (happens plan) x es) fs
+follow_later plan [] fs x f = f
+follow_later plan (e ∷ es) fs x f = follow_later plan es fs (happens plan x e) f.1
+
+-- ---- whose answers they are
+
+asker_same : (who : Asker) → is_asker who who ≡ true
+asker_same (BySeat q) = eq-eqb q q refl
+asker_same (ByReader r) = eq-eqb r r refl
+
+asker_other : (who by : Asker) → by ≢ who → is_asker who by ≡ false
+asker_other (BySeat q) (BySeat p) n = ne_eqb q p (λ e. n (ap BySeat (sym e)))
+asker_other (BySeat q) (ByReader k) n = refl
+asker_other (ByReader r) (BySeat p) n = refl
+asker_other (ByReader r) (ByReader k) n = ne_eqb r k (λ e. n (ap ByReader (sym e)))
+
+pub own_more : (who : Asker) (xs : List Answer) (a : Answer) → a.by ≡ who →
+    answers_by who (xs ++ a ∷ []) ≡ answers_by who xs ++ a ∷ []
+own_more who xs a is = filter-append (λ (b : Answer). is_asker who b.by) xs (a ∷ [])
+    ∙ ap (λ (c : Bool). answers_by who xs ++ cond c (a ∷ []) []) (ap (is_asker who) is ∙ asker_same who)
+
+own_less : (who : Asker) (xs : List Answer) (a : Answer) → a.by ≢ who →
+    answers_by who (xs ++ a ∷ []) ≡ answers_by who xs
+own_less who xs a n = filter-append (λ (b : Answer). is_asker who b.by) xs (a ∷ [])
+    ∙ ap (λ (c : Bool). answers_by who xs ++ cond c (a ∷ []) []) (asker_other who a.by n)
+    ∙ append-nil (answers_by who xs)
+
+-- the answers stay, or one to this asker has come
+abbrev IsMore : Asker → (xs ys : List Answer) → Type 0
+IsMore by xs ys = (ys ≡ xs) ⊎ ((a : Answer) × (a.by ≡ by) × (ys ≡ xs ++ a ∷ []))
+
+more_other : (by who : Asker) (xs ys : List Answer) → IsMore by xs ys → by ≢ who →
+    answers_by who ys ≡ answers_by who xs
+more_other by who xs ys (inl same) n = ap (answers_by who) same
+more_other by who xs ys (inr z) n = ap (answers_by who) z.2 ∙ own_less who xs z.0 (λ e. n (sym z.1 ∙ e))
+
 -- ---- what one event leaves
 
 -- another seat in the place of this one
@@ -39,39 +78,91 @@ pub record SeatForm (x : Lasting) (q : ℕ) (y : Lasting) : Type 0 where
   pub then : SeatNow
   pub answers : List Answer
   pub is : y ≡ with_seat x q store then answers
+  pub more : IsMore (BySeat q) x.answers answers
 
 pub record ReaderForm (x : Lasting) (r : ℕ) (y : Lasting) : Type 0 where
   pub then : ReaderNow
   pub answers : List Answer
   pub is : y ≡ with_reader x r then answers
+  pub more : IsMore (ByReader r) x.answers answers
 
 module _ (plan : Plan) (x : Lasting) where
+  update_more : (q : ℕ) (call : Call) (course : Course) (next : Fate) →
+      IsMore (BySeat q) x.answers (answers_after x q call course next)
+  update_more q call course (On step) = inl refl
+  update_more q call course (Ends reply) = inr (_, refl, refl)
+  update_more q call course Refuses = inr (_, refl, refl)
+
+  look_more : (q : ℕ) (aim : Aim) (course : Course) (next : GlanceFate) →
+      IsMore (BySeat q) x.answers (look_answers (ample plan) x q aim course next)
+  look_more q aim course (Looks glance) = inl refl
+  look_more q aim course (Shows items) = inr (_, refl, refl)
+  look_more q aim course Disturbed = inl refl
+
+  peek_more : (r : ℕ) (aim : Aim) (course : Course) (next : GlanceFate) →
+      IsMore (ByReader r) x.answers (peek_answers (ample plan) x r aim course next)
+  peek_more r aim course (Looks glance) = inl refl
+  peek_more r aim course (Shows items) = inr (_, refl, refl)
+  peek_more r aim course Disturbed = inr (_, refl, refl)
+
+  update_form : (q : ℕ) (now : SeatNow) (call : Call) → SeatForm x q (update_begins x q now call)
+  update_form q now call = record {
+    store = _;
+    then = _;
+    answers = _;
+    is = refl;
+    more = update_more q call (course_from x.clock) (first_fate now.free (sweep_begins now.named now.sweep now).sweep);
+  }
+
   begin_form : (q : ℕ) (now : SeatNow) (call : Call) → SeatForm x q (call_begins x q now call)
-  begin_form q now (Lookup key) = record { store = _; then = _; answers = _; is = refl }
-  begin_form q now (Insert key value) = record { store = _; then = _; answers = _; is = refl }
-  begin_form q now (Remove key) = record { store = _; then = _; answers = _; is = refl }
-  begin_form q now (Tally key amount) = record { store = _; then = _; answers = _; is = refl }
-  begin_form q now (Count key value amount) = record { store = _; then = _; answers = _; is = refl }
-  begin_form q now (Put key value) = record { store = _; then = _; answers = _; is = refl }
+  begin_form q now (Lookup key) = record { store = _; then = _; answers = _; is = refl; more = inl refl }
+  begin_form q now (Insert key value) = update_form q now (Insert key value)
+  begin_form q now (Remove key) = update_form q now (Remove key)
+  begin_form q now (Tally key amount) = update_form q now (Tally key amount)
+  begin_form q now (Count key value amount) = update_form q now (Count key value amount)
+  begin_form q now (Put key value) = update_form q now (Put key value)
 
   goes_form : (q : ℕ) (now : SeatNow) (stand : Stand) → IsFlying stand → SeatForm x q (goes_on plan x q now stand)
   goes_form q now S.Idle f = absurd f
-  goes_form q now (S.Goes u step) f = record { store = _; then = _; answers = _; is = refl }
-  goes_form q now (S.Glances aim glance) f = record { store = _; then = _; answers = _; is = refl }
+  goes_form q now (S.Goes u step) f =
+      let word = found_by (deed_of (ample plan) q now u step) x.store in
+      record {
+        store = _;
+        then = _;
+        answers = _;
+        is = refl;
+        more = update_more q u.call (stepped now.course) (fate (ample plan) q now u step word);
+      }
+  goes_form q now (S.Glances aim glance) f =
+      let word = found_by (glance_deed (ample plan) q now.time aim glance) x.store in
+      record {
+        store = _;
+        then = _;
+        answers = _;
+        is = refl;
+        more = look_more q aim (stepped now.course) (glance_fate (ample plan) now.time aim glance word);
+      }
 
   act_form : (q : ℕ) (now : SeatNow) (what : What) → Fits plan now what → SeatForm x q (act plan x q now what)
   act_form q now (Begin call) f = begin_form q now call
-  act_form q now (Copy bucket) f = record { store = _; then = _; answers = _; is = refl }
+  act_form q now (Copy bucket) f = record { store = _; then = _; answers = _; is = refl; more = inl refl }
   act_form q now Step_on f = goes_form q now now.stand f
 
   peeks_form : (r : ℕ) (now : ReaderNow) (stand : Peeking) → IsPeeking stand →
       ReaderForm x r (peeks_on plan x r now stand)
   peeks_form r now S.Rests f = absurd f
-  peeks_form r now (S.Peeks aim glance) f = record { then = _; answers = _; is = refl }
+  peeks_form r now (S.Peeks aim glance) f =
+      let word = found_by (glance_deed (ample plan) 0 0 aim glance) x.store in
+      record {
+        then = _;
+        answers = _;
+        is = refl;
+        more = peek_more r aim (stepped now.course) (glance_fate (ample plan) 0 aim glance word);
+      }
 
   peek_form : (r : ℕ) (now : ReaderNow) (peek : Peek) → PeekFits plan now peek →
       ReaderForm x r (peek_acts plan x r now peek)
-  peek_form r now (Open aim tries) f = record { then = _; answers = _; is = refl }
+  peek_form r now (Open aim tries) f = record { then = _; answers = _; is = refl; more = inl refl }
   peek_form r now Peek_on f = peeks_form r now now.stand f
 
   -- an event of a seat acts
@@ -101,6 +192,19 @@ module _ (plan : Plan) (x : Lasting) where
   party_other (OfReader r peek) k who n =
       reader_other r (peek_acts plan x r (x.readers r) peek) (peek_form r (x.readers r) peek k) who n
 
+  -- and have the same answers
+  own_other : (e : Event) → IsEvent plan x e → (who : Asker) → by_event e ≢ who →
+      answers_by who (happens plan x e).answers ≡ answers_by who x.answers
+  own_other (OfSeat q what) k who n =
+      let f = act_form q (seat_in x q) what k.1 in
+      ap (λ (z : Lasting). answers_by who z.answers) (seat_happens q what k.0)
+      ∙ ap (λ (z : Lasting). answers_by who z.answers) f.is
+      ∙ more_other (BySeat q) who x.answers f.answers f.more n
+  own_other (OfReader r peek) k who n =
+      let f = peek_form r (x.readers r) peek k in
+      ap (λ (z : Lasting). answers_by who z.answers) f.is
+      ∙ more_other (ByReader r) who x.answers f.answers f.more n
+
   -- and one event more has come
   pub clock_more : (e : Event) → IsEvent plan x e → (happens plan x e).clock ≡ x.clock + 1
   clock_more (OfSeat q what) k =
@@ -119,6 +223,21 @@ clock_follow plan (e ∷ es) x f =
 pub clock_is : (plan : Plan) (es : List Event) → IsRun plan es → (world_after plan es).clock ≡ length es
 clock_is plan es run =
     (let all = clock_follow plan es (opening_world plan) run.follow in omega (arith, all))
+
+own_follow : (plan : Plan) (who : Asker) (es : List Event) (x : Lasting) → AreEvents plan x es → HasNone who es →
+    answers_by who (fold (happens plan) x es).answers ≡ answers_by who x.answers
+own_follow plan who [] x f none = refl
+own_follow plan who (e ∷ es) x f none =
+    own_follow plan who es (happens plan x e) f.1 none.1 ∙ own_other plan x e f.0 who none.0
+
+-- while none of its events comes, a party has the same answers
+pub own_stays : (plan : Plan) (who : Asker) (known later : List Event) → IsRun plan (known ++ later) →
+    HasNone who later →
+    answers_by who (world_after plan (known ++ later)).answers ≡ answers_by who (world_after plan known).answers
+own_stays plan who known later run none =
+    ap (λ (z : Lasting). answers_by who z.answers) (after_both plan known later (opening_world plan))
+    ∙ own_follow plan who later (world_after plan known)
+    (follow_later plan known later (opening_world plan) run.follow) none
 
 -- ---- what was told last
 

@@ -6,7 +6,13 @@ pub mod Allowed
 pub mod OnTheWay
 pub mod Ends
 pub mod Opens
+pub mod Joining
 pub mod Callers
 pub mod Seated
+pub mod Gathering
+pub mod SeatsOf
+pub mod AllPairs
+pub mod Counted
+pub mod Resting
 pub mod OpeningWords
 pub mod Planned

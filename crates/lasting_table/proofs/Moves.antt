@@ -20,9 +20,9 @@ use Rattle.lasting_laws.proofs.StepsFit.{rows_are_of_buckets}
 use Rattle.lasting_calls.specs.Going.{Going, Fits, Finds, IsOn, IsOpen, Task, deed, deed_at, goes, numbered, task}
 use Rattle.lasting_calls.specs.Going.Task.{Rest, Load, Store, Exchange}
 use Rattle.lasting_table.specs.declared.view.View.{View}
-use Rattle.lasting_table.specs.Parties.{CanAsk, HasNone, Holding, IsParty, Under, UnderIn, begin_at, begin_of, begun, by_event, clean, going_in, going_of, party, stand_of, started, started_at, step_of, told_at}
+use Rattle.lasting_table.specs.Parties.{CanAsk, HasNone, Holding, IsParty, Under, UnderIn, begin_at, begin_of, begun, by_event, clean, going_in, going_of, answers_by, own_answers, party, stand_of, started, started_at, step_of, told_at}
 use Rattle.lasting_table.specs.Rule.{Apart, Each, HasWords, Holds, IsOfRun, StandsIn, Stepped, after_step, alone, known_after, lone}
-use Rattle.lasting_table.proofs.Events.{clock_is, party_other, run_more, world_more}
+use Rattle.lasting_table.proofs.Events.{clock_is, own_stays, party_other, run_more, world_more}
 use Rattle.lasting_table.proofs.Acting.{Steps, begins_on, stand_code, steps_on}
 use Rattle.lasting_table.proofs.Places.{after_load, after_store, after_swap, found}
 
@@ -64,7 +64,7 @@ none_both who [] fs a b = b
 none_both who (e ∷ es) fs a b = (a.0, none_both who es fs a.1 b)
 
 -- one party stands in one view
-stands_once : (f : ℕ → ℕ) (a b : ℕ) (who : Asker) → StandsIn f a who → StandsIn f b who → a ≡ b
+pub stands_once : (f : ℕ → ℕ) (a b : ℕ) (who : Asker) → StandsIn f a who → StandsIn f b who → a ≡ b
 stands_once f a b (BySeat q) j k = sym j ∙ k
 stands_once f a b (ByReader r) j k = sym j ∙ k
 
@@ -155,12 +155,13 @@ no_told S.Idle xs ys f = absurd f
 no_told (S.Goes u step) xs ys f = refl
 no_told (S.Glances aim glance) xs ys f = refl
 
--- and it is under way however the answers go on
-under_still : (who : Asker) (asked : Asked) (start : ℕ) (now : SeatNow) (stand : Stand) (xs ys : List Answer) →
-    IsFlying stand → Under who asked start now stand xs → Under who asked start now stand ys
-under_still who asked start now S.Idle xs ys f k = absurd f
-under_still who asked start now (S.Goes u step) xs ys f k = k
-under_still who asked start now (S.Glances aim glance) xs ys f k = k
+-- and it is under way however the answers of others go on
+under_still : (who : Asker) (asked : Asked) (start : ℕ) (had : List Answer) (now : SeatNow) (stand : Stand)
+    (xs ys : List Answer) → answers_by who ys ≡ answers_by who xs → IsFlying stand →
+    Under who asked start had now stand xs → Under who asked start had now stand ys
+under_still who asked start had now S.Idle xs ys same f k = absurd f
+under_still who asked start had now (S.Goes u step) xs ys same f k = (k.0, k.1, same ∙ k.2)
+under_still who asked start had now (S.Glances aim glance) xs ys same f k = (k.0, k.1, same ∙ k.2)
 
 module _ (asked : Asked) (tries : ℕ) (h : Holding) (s : State (Unit {0}) View) (r : Holds h.plan s) (id : ℕ)
     (at : get_elem? s.views id ≡ some (lone h))
@@ -194,13 +195,17 @@ module _ (asked : Asked) (tries : ℕ) (h : Holding) (s : State (Unit {0}) View)
     other : (o : Asker) → who ≢ o → party (world_after plan (ready stand)) o ≡ party x o
     by : (o : Asker) → who ≢ o → HasNone o (begin_at stand (begin_of who asked tries))
     first : (start : ℕ) → start ≤ length h.known → stand ≡ S.Idle →
-        UnderIn who asked start (world_after plan (ready stand))
-    on : (start : ℕ) → UnderIn who asked start was → (stand ≡ S.Idle → ⊥) →
-        UnderIn who asked start (world_after plan (ready stand))
+        UnderIn who asked start (own_answers h) (world_after plan (ready stand))
+    on : (start : ℕ) (had : List Answer) → UnderIn who asked start had was → (stand ≡ S.Idle → ⊥) →
+        UnderIn who asked start had (world_after plan (ready stand))
 
   -- it stands there
   party_same : party x who ≡ party was who
   party_same = mine.state
+
+  own_same : answers_by who x.answers ≡ own_answers h
+  own_same = subst (λ (es : List Event). answers_by who (world_after plan es).answers ≡ own_answers h) (sym mine.known)
+      (own_stays plan who h.known mine.later (subst (IsRun plan) mine.known r.run) mine.none)
 
   clean_same : (told : Option Told) → going_in plan who x ≡ record (going_of h) { told = (going_in plan who x).told }
   clean_same told i = record {
@@ -241,9 +246,9 @@ module _ (asked : Asked) (tries : ℕ) (h : Holding) (s : State (Unit {0}) View)
         other = λ o n. ap (λ (z : Lasting). party z o) world;
         by = λ o n. subst (HasNone o) (sym none) tt;
         first = λ start less idle. absurd (busy idle);
-        on = λ start k _. subst (UnderIn who asked start) (sym world)
-            (under_still who asked start (party x who) (party x who).stand was.answers x.answers flight
-            (subst (λ (m : SeatNow). Under who asked start m m.stand was.answers) (sym party_same) k));
+        on = λ start had k _. subst (UnderIn who asked start had) (sym world)
+            (under_still who asked start had (party x who) (party x who).stand was.answers x.answers own_same flight
+            (subst (λ (m : SeatNow). Under who asked start had m m.stand was.answers) (sym party_same) k));
       }
 
   idle_ready : (party was who).stand ≡ S.Idle → Ready S.Idle
@@ -263,12 +268,12 @@ module _ (asked : Asked) (tries : ℕ) (h : Holding) (s : State (Unit {0}) View)
         other = λ o n. ap (λ (z : Lasting). party z o) world
             ∙ party_other plan x b.event b.can o (λ same. n (sym b.by ∙ same));
         by = λ o n. subst (HasNone o) (sym b.is) ((λ same. n (sym b.by ∙ same)), tt);
-        first = λ start less _. subst (UnderIn who asked start) (sym world)
-            (b.under start
+        first = λ start less _. subst (UnderIn who asked start (own_answers h)) (sym world)
+            (b.under start (own_answers h)
             (let clock = clock_is plan r.events r.run in
             let long = ap (λ (es : List Event). length es) mine.known ∙ length-append h.known mine.later in
-            omega (arith, less, clock, long)));
-        on = λ start k busy. absurd (busy refl);
+            omega (arith, less, clock, long)) own_same);
+        on = λ start had k busy. absurd (busy refl);
       }
 
   ready_at : (stand : Stand) → (party was who).stand ≡ stand → Ready stand
@@ -430,10 +435,10 @@ module _ (asked : Asked) (tries : ℕ) (h : Holding) (s : State (Unit {0}) View)
     run = run_fin;
     goes_to = goes_fin word e;
     fits = fits_now word e small;
-    first = λ start less idle. subst (UnderIn who asked start) (sym world_fin)
-        (step.under asked start (here.first start less idle));
-    on = λ start k busy. subst (UnderIn who asked start) (sym world_fin) (step.under asked start (here.on start k
-        busy));
+    first = λ start less idle. subst (UnderIn who asked start (own_answers h)) (sym world_fin)
+        (step.under asked start (own_answers h) (here.first start less idle));
+    on = λ start had k busy. subst (UnderIn who asked start had) (sym world_fin)
+        (step.under asked start had (here.on start had k busy));
   }
 
   -- ---- the rule then

@@ -20,10 +20,10 @@ use Rattle.lasting_calls.specs.Going.Task.{Load, Store, Exchange}
 use Rattle.lasting_table.specs.declared.rule.Opening.{Opening}
 use Rattle.lasting_table.specs.declared.stage.Stage.{Stage}
 use Rattle.lasting_table.specs.declared.stage.Stage.TheVariants.{Rests, Begun, Runs}
-use Rattle.lasting_table.specs.Parties.{CanAsk, Holding, PartyValue, IsAnswered, IsParty, Under, UnderIn, begin_at, begin_of, begun, clean, going_in, going_of, has_hold, last_told, party, started, started_at, step_of, told_at}
+use Rattle.lasting_table.specs.Parties.{CanAsk, Holding, PartyValue, IsAnswered, IsParty, Under, UnderIn, begin_at, begin_of, begun, clean, going_in, going_of, has_hold, last_told, own_answers, party, started, started_at, step_of, told_at}
 use Rattle.lasting_table.specs.Rule.{Holds, M, Moved, Stepped, after_step, alone, known_after, plain}
 use Rattle.lasting_table.specs.Readiness.{IsReady}
-use Rattle.lasting_table.specs.Calls.{AtStage, GoesOn, HasAnswer, HasEnded, HasWaited, IsIdle, IsRunning, MayAsk, RunningValue, Token, holding_of, now_at, now_of, running_value}
+use Rattle.lasting_table.specs.Calls.{AtStage, GoesOn, HasAnswer, HasEnded, HasWaited, IsIdle, IsNotMade, IsRunning, MayAsk, RunningValue, Token, holding_of, now_at, now_of, running_value}
 use Rattle.lasting_table.proofs.Events.{told_more, world_more, run_more}
 use Rattle.lasting_table.proofs.Acting.{begins_on, stand_code, steps_on}
 use Rattle.lasting_table.proofs.Places.{place_small}
@@ -264,7 +264,8 @@ module _ (asked : Asked) (tries : ℕ) (since : List PartyValue) (key : Opening)
     started_is : started asked tries h ≡ now_at asked tries s (going_of h)
     may : stand ≡ S.Idle → CanAsk h.plan h.who (party (world_after h.plan h.known) h.who) asked tries
     under : (m : M) (n : ℕ) → (st : Stepped asked tries h n m) →
-        UnderIn h.who asked (length inv.first.holding.known) (world_after h.plan (known_after asked tries h st.before))
+        UnderIn h.who asked (length inv.first.holding.known) (own_answers inv.first.holding)
+        (world_after h.plan (known_after asked tries h st.before))
 
   known_long : length inv.first.holding.known ≤ length h.known
   known_long = (let long = ap (λ (es : List Event). length es) inv.goes_on.grown
@@ -280,7 +281,10 @@ module _ (asked : Asked) (tries : ℕ) (since : List PartyValue) (key : Opening)
   starts_at Begun at t e least = record {
     started_is = ap (λ (k : Stand). started_at k asked tries (going_of h)) at.0;
     may = λ _. at.1;
-    under = λ m n st. st.first (length inv.first.holding.known) known_long at.0;
+    under = λ m n st.
+        subst (λ (k : Holding). UnderIn h.who asked (length inv.first.holding.known) (own_answers k)
+        (world_after h.plan (known_after asked tries h st.before))) at.2
+        (st.first (length inv.first.holding.known) known_long at.0);
   }
   starts_at Runs at t e least = go stand refl
     where
@@ -289,13 +293,13 @@ module _ (asked : Asked) (tries : ℕ) (since : List PartyValue) (key : Opening)
       go (S.Goes u step) is = record {
         started_is = ap (λ (j : Stand). started_at j asked tries (going_of h)) is;
         may = λ idle. absurd (omega (arith, ap stand_code (sym is ∙ idle)));
-        under = λ m n st. st.on (length inv.first.holding.known) at
+        under = λ m n st. st.on (length inv.first.holding.known) (own_answers inv.first.holding) at
             (λ idle. omega (arith, ap stand_code (sym is ∙ idle)));
       }
       go (S.Glances aim glance) is = record {
         started_is = ap (λ (j : Stand). started_at j asked tries (going_of h)) is;
         may = λ idle. absurd (omega (arith, ap stand_code (sym is ∙ idle)));
-        under = λ m n st. st.on (length inv.first.holding.known) at
+        under = λ m n st. st.on (length inv.first.holding.known) (own_answers inv.first.holding) at
             (λ idle. omega (arith, ap stand_code (sym is ∙ idle)));
       }
 
@@ -389,9 +393,9 @@ module _ (asked : Asked) (tries : ℕ) (since : List PartyValue) (key : Opening)
           is = inv.is;
           of_table = inv.of_table;
           goes_on = subst (GoesOn inv.first.holding) (sym holds_then) goes_on_then;
-          at = subst (λ (k : Holding). UnderIn k.who asked (length inv.first.holding.known) (world_after k.plan
-              k.known))
-              (sym holds_then) (starts.under then_token.me n st);
+          at = subst (λ (k : Holding). UnderIn k.who asked (length inv.first.holding.known)
+              (own_answers inv.first.holding) (world_after k.plan k.known)) (sym holds_then)
+              (starts.under then_token.me n st);
         }
 
         now_then : started asked tries h ≡ now_of asked tries value
@@ -439,8 +443,14 @@ module _ (asked : Asked) (tries : ℕ) (since : List PartyValue) (key : Opening)
         ≡ S.Idle →
         (a : Asked) (t : ℕ) → MayAsk asked tries s a t → IsIdle h
     idle_at Rests at idle a t may = at.0
-    idle_at Begun at idle a t may = absurd may.open_
-    idle_at Runs at idle a t may = idle
+    idle_at Begun at idle a t may = absurd may.first
+    idle_at Runs at idle a t may = absurd may.first
+
+    first_at : (s : Stage) → AtStage asked tries inv.first.holding h s → (a : Asked) (t : ℕ) →
+        MayAsk asked tries s a t → h ≡ inv.first.holding
+    first_at Rests at a t may = at.1
+    first_at Begun at a t may = absurd may.first
+    first_at Runs at a t may = absurd may.first
 
     idle_now : (now_of asked tries value).now.stand ≡ S.Idle → (a : Asked) (t : ℕ) →
         MayAsk asked tries value.stage a t → IsIdle h
@@ -468,6 +478,7 @@ module _ (asked : Asked) (tries : ℕ) (since : List PartyValue) (key : Opening)
         idle_now idle a t may,
         subst (λ (z : Asked × ℕ). CanAsk h.plan h.who (party (world_after h.plan h.known) h.who) (z.0) (z.1))
             (λ i. (may.call_is i, may.tries_are i)) can,
+        first_at stage inv.at a t (subst (λ (v : RunningValue). MayAsk asked tries v.stage a t) (sym view_is) may),
       );
     }
 
@@ -475,11 +486,8 @@ module _ (asked : Asked) (tries : ℕ) (since : List PartyValue) (key : Opening)
     open_now : (a : Asked) (t : ℕ) → MayAsk asked tries stage a t → (s : Stage) → stage ≡ s →
         (told : Option Told) × (now_at asked tries s (going_of h) ≡ record (going_of h) { told = told })
     open_now a t may Rests e = (None, refl)
-    open_now a t may Begun e = absurd (subst (λ (s : Stage). IsOpenStage s) e may.open_)
-      where
-        IsOpenStage : Stage → Type 0
-        IsOpenStage s = Rattle.lasting_table.specs.Calls.IsNotBegun s
-    open_now a t may Runs e = ((going_of h).told, refl)
+    open_now a t may Begun e = absurd (subst IsNotMade e may.first)
+    open_now a t may Runs e = absurd (subst IsNotMade e may.first)
 
     seen_now : (a : Asked) (t : ℕ) → MayAsk asked tries value.stage a t →
         (told : Option Told) × (now_of asked tries value ≡ record (going_of h) { told = told })
@@ -534,10 +542,10 @@ module _ (asked : Asked) (tries : ℕ) (since : List PartyValue) (key : Opening)
         code (Some t) = 1
     ends_at Begun at told e n idle = absurd (n (begun_told asked tries (going_of h) told e))
     ends_at Runs at told e n idle =
-        let k : IsAnswered h.who asked (length inv.first.holding.known) (world_after h.plan h.known).answers =
-        subst (λ (s : Stand). Under h.who asked (length inv.first.holding.known) (party (world_after h.plan h.known)
-        h.who) s
-        (world_after h.plan h.known).answers) idle at in (
+        let k : IsAnswered h.who asked (length inv.first.holding.known) (own_answers inv.first.holding)
+        (world_after h.plan h.known).answers =
+        subst (λ (s : Stand). Under h.who asked (length inv.first.holding.known) (own_answers inv.first.holding)
+        (party (world_after h.plan h.known) h.who) s (world_after h.plan h.known).answers) idle at in (
           record {
             goes_on = inv.goes_on;
             run = inv.run;
@@ -574,8 +582,9 @@ module _ (asked : Asked) (tries : ℕ) (since : List PartyValue) (key : Opening)
     waits_at Rests at e idle = at.1
     waits_at Begun at e idle = absurd (begun_open asked tries (going_of h) idle e)
     waits_at Runs at e idle =
-        let k : IsAnswered h.who asked (length inv.first.holding.known) (world_after h.plan h.known).answers =
-        subst (λ (s : Stand). Under h.who asked (length inv.first.holding.known)
+        let k : IsAnswered h.who asked (length inv.first.holding.known) (own_answers inv.first.holding)
+        (world_after h.plan h.known).answers =
+        subst (λ (s : Stand). Under h.who asked (length inv.first.holding.known) (own_answers inv.first.holding)
         (party (world_after h.plan h.known) h.who) s (world_after h.plan h.known).answers) idle at in
         absurd (omega (
           arith,

@@ -9,9 +9,9 @@ use Rattle.lasting_model.specs.Plans.{IsPlan, Plan}
 use Rattle.lasting_model.specs.Worlds.{Asker, BySeat, ByReader}
 use Rattle.lasting_table.specs.declared.view.View.{View}
 use Rattle.lasting_table.specs.Parties.{Holding}
-use Rattle.lasting_table.specs.Rule.{Apart, Each, Entered, Holds, IsOfRun, StandsIn, first_or, foremost, fresh, fresh_from, lone, others, whole}
+use Rattle.lasting_table.specs.Rule.{Apart, Each, Entered, Holds, IsOfRun, StandsIn, first_or, foremost, fresh_from, lone, others, whole}
 use Rattle.lasting_table.specs.Tables.{IsOpened}
-use Rattle.lasting_table.proofs.Moves.{at_place, each_map, set_place}
+use Rattle.lasting_table.proofs.Moves.{at_place, each_map, set_place, stands_once}
 
 -- what stands in a list with one more behind it
 snoc_place : {X : Type 0} (xs : List X) (w : X) (i : ℕ) (v : X) → get_elem? (xs ++ w ∷ []) i ≡ some v →
@@ -81,18 +81,14 @@ opens plan words is_plan is = record {
 
 -- ---- a seat is cut off
 
--- from one on, so many
-abbrev view_from : Plan → (k many : ℕ) → View
-view_from plan k many = record { bundle = fresh_from plan k many }
-
 each_both : (P Q : Holding → Type 0) → (hs : List Holding) → Each P hs → Each Q hs → Each (λ h. P h × Q h) hs
 each_both P Q [] a b = tt
 each_both P Q (h ∷ hs) a b = ((a.0, b.0), each_both P Q hs a.1 b.1)
 
-pub splits : (plan : Plan) (id k many : ℕ) →
-    Splits (Holds plan) id (view_from plan k (suc many)) (others (view_from plan k (suc many)))
-    (foremost (view_from plan k (suc many)))
-splits plan id k many s r at = record {
+pub splits : (plan : Plan) (id : ℕ) (first : Holding) (q : ℕ) (hs : List Holding) → first.who ≡ BySeat q →
+    Splits (Holds plan) id (record { bundle = first ∷ hs }) (others (record { bundle = first ∷ hs }))
+    (foremost (record { bundle = first ∷ hs }))
+splits plan id first q hs is s r at = record {
   events = r.events;
   run = r.run;
   long = r.long;
@@ -113,41 +109,44 @@ splits plan id k many s r at = record {
   ];
   apart = λ i v e. elim (snoc_place (set s.views id (others was)) (foremost was) i v e) [
     | inl z ↦ elim (set_place s.views id (others was) i v placed z) [
-      | inl y ↦ subst (λ (w : View). Apart w.bundle) y.1 (all_apart plan (suc k) many)
+      | inl y ↦ subst (λ (w : View). Apart w.bundle) y.1 apart_here.1
       | inr y ↦ r.apart i v y.1
     ]
     | inr z ↦ subst (λ (w : View). Apart w.bundle) z.1 (tt, tt)
   ];
-  rest = λ q less.
+  rest = λ k less.
       (let l = length-append (set s.views id (others was)) (foremost was ∷ []) in
       let m = length-set s.views id (others was) in
-      r.rest q (omega (arith, less, l, m)));
+      r.rest k (omega (arith, less, l, m)));
 }
   where
     was : View
-    was = view_from plan k (suc many)
+    was = record { bundle = first ∷ hs }
 
     placed : id < length s.views
     placed = (at_place s.views id was was at).0
 
     -- the seat stands in the new view
     moved : ℕ → ℕ
-    moved q = cond (eqb q k) (length s.views) (r.seat_at q)
+    moved k = cond (eqb k q) (length s.views) (r.seat_at k)
 
-    here : Each (IsOfRun plan r.events r.seat_at id) (fresh_from plan k (suc many))
+    here : Each (IsOfRun plan r.events r.seat_at id) (first ∷ hs)
     here = r.of_run id was at
 
-    moved_here : moved k ≡ length s.views
-    moved_here = ap (λ (b : Bool). cond b (length s.views) (r.seat_at k)) (eq-eqb k k refl)
+    apart_here : Apart (first ∷ hs)
+    apart_here = r.apart id was at
 
-    moved_other : (q : ℕ) → q ≢ k → moved q ≡ r.seat_at q
-    moved_other q n = ap (λ (b : Bool). cond b (length s.views) (r.seat_at q)) (ne_eqb q k n)
+    moved_here : moved q ≡ length s.views
+    moved_here = ap (λ (b : Bool). cond b (length s.views) (r.seat_at q)) (eq-eqb q q refl)
 
-    still : (who : Asker) (i : ℕ) → (who ≡ BySeat k → ⊥) → StandsIn r.seat_at i who → StandsIn moved i who
-    still (BySeat q) i n stands = moved_other q (λ e. n (ap BySeat e)) ∙ stands
-    still (ByReader q) i n stands = stands
+    moved_other : (k : ℕ) → k ≢ q → moved k ≡ r.seat_at k
+    moved_other k n = ap (λ (b : Bool). cond b (length s.views) (r.seat_at k)) (ne_eqb k q n)
 
-    moved_of : (h : Holding) (i : ℕ) → IsOfRun plan r.events r.seat_at i h → (h.who ≡ BySeat k → ⊥) →
+    still : (who : Asker) (i : ℕ) → (who ≡ first.who → ⊥) → StandsIn r.seat_at i who → StandsIn moved i who
+    still (BySeat k) i n stands = moved_other k (λ e. n (ap BySeat e ∙ sym is)) ∙ stands
+    still (ByReader k) i n stands = stands
+
+    moved_of : (h : Holding) (i : ℕ) → IsOfRun plan r.events r.seat_at i h → (h.who ≡ first.who → ⊥) →
         IsOfRun plan r.events moved i h
     moved_of h i o n = record {
       opened = o.opened;
@@ -159,25 +158,25 @@ splits plan id k many s r at = record {
       state = o.state;
     }
 
-    stands_there : (h : Holding) (i : ℕ) → IsOfRun plan r.events r.seat_at i h → h.who ≡ BySeat k → id ≡ i
-    stands_there h i o same = sym here.0.stands ∙ subst (StandsIn r.seat_at i) same o.stands
+    stands_there : (h : Holding) (i : ℕ) → IsOfRun plan r.events r.seat_at i h → h.who ≡ first.who → id ≡ i
+    stands_there h i o same =
+        stands_once r.seat_at id i first.who here.0.stands (subst (StandsIn r.seat_at i) same o.stands)
 
-    head_of_run : IsOfRun plan r.events moved (length s.views) (fresh plan k)
+    head_of_run : IsOfRun plan r.events moved (length s.views) first
     head_of_run = record {
       opened = here.0.opened;
       inside = here.0.inside;
-      stands = moved_here;
+      stands = subst (StandsIn moved (length s.views)) (sym is) moved_here;
       later = here.0.later;
       known = here.0.known;
       none = here.0.none;
       state = here.0.state;
     }
 
-    tail_of_run : Each (IsOfRun plan r.events moved id) (fresh_from plan (suc k) many)
-    tail_of_run = each_map (λ h. IsOfRun plan r.events r.seat_at id h × (h.who ≡ BySeat k → ⊥))
-        (IsOfRun plan r.events moved id) (fresh_from plan (suc k) many) (λ h o. moved_of h id o.0 o.1)
-        (each_both (IsOfRun plan r.events r.seat_at id) (λ h. h.who ≡ BySeat k → ⊥) (fresh_from plan (suc k) many)
-        here.1 (fresh_apart plan k (suc k) many (omega arith)))
+    tail_of_run : Each (IsOfRun plan r.events moved id) hs
+    tail_of_run = each_map (λ h. IsOfRun plan r.events r.seat_at id h × (h.who ≡ first.who → ⊥))
+        (IsOfRun plan r.events moved id) hs (λ h o. moved_of h id o.0 o.1)
+        (each_both (IsOfRun plan r.events r.seat_at id) (λ h. h.who ≡ first.who → ⊥) hs here.1 apart_here.0)
 
 -- ---- a new reader
 

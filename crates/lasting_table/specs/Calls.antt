@@ -12,7 +12,7 @@ use Rattle.lasting_table.specs.declared.view.View.{View}
 use Rattle.lasting_table.specs.declared.rule.Opening.{Opening}
 use Rattle.lasting_table.specs.declared.stage.Stage.{Stage}
 use Rattle.lasting_table.specs.declared.stage.Stage.TheVariants.{Rests, Begun, Runs}
-use Rattle.lasting_table.specs.Parties.{CanAsk, Holding, PartyValue, IsAnswered, IsParty, UnderIn, begun, going_of, party}
+use Rattle.lasting_table.specs.Parties.{CanAsk, Holding, PartyValue, IsAnswered, IsParty, UnderIn, begun, going_of, own_answers, party}
 use Rattle.lasting_table.specs.Rule.{M, alone, first_or, plain}
 
 -- the token of a party of this table
@@ -47,16 +47,18 @@ abbrev pub IsFitting : Asked → (tries : ℕ) → Type 0
 IsFitting (Called call) zero = IsUpdate call
 IsFitting asked tries = Unit {0}
 
-abbrev pub IsNotBegun : Stage → Type 0
-IsNotBegun Begun = ⊥
-IsNotBegun stage = Unit {0}
+-- no call was made yet
+abbrev pub IsNotMade : Stage → Type 0
+IsNotMade Rests = Unit {0}
+IsNotMade Begun = ⊥
+IsNotMade Runs = ⊥
 
--- it was made for this call
+-- it was made for this call, and for one alone
 pub record MayAsk (asked : Asked) (tries : ℕ) (stage : Stage) (a : Asked) (t : ℕ) : Type 0 where
   pub call_is : a ≡ asked
   pub tries_are : t ≡ tries
   pub fitting : IsFitting a t
-  pub open_ : IsNotBegun stage
+  pub first : IsNotMade stage
 
 -- a holding stands between two calls
 abbrev pub IsIdle : Holding → Type 0
@@ -67,7 +69,9 @@ abbrev pub AtStage : Asked → (tries : ℕ) → (first now : Holding) → Stage
 AtStage asked tries first now Rests = IsIdle now × (now ≡ first)
 AtStage asked tries first now Begun =
     IsIdle now × CanAsk now.plan now.who (party (world_after now.plan now.known) now.who) asked tries
-AtStage asked tries first now Runs = UnderIn now.who asked (length first.known) (world_after now.plan now.known)
+    × (now ≡ first)
+AtStage asked tries first now Runs =
+    UnderIn now.who asked (length first.known) (own_answers first) (world_after now.plan now.known)
 
 -- it goes on from this holding
 pub record GoesOn (first now : Holding) : Type 0 where
@@ -91,12 +95,13 @@ pub record IsRunning (asked : Asked) (tries : ℕ) (since : List PartyValue) (ke
   pub goes_on : GoesOn first.holding (holding_of key token.me)
   pub at : AtStage asked tries first.holding (holding_of key token.me) stage
 
--- the call was answered with this, and the party stands between two calls again
+-- the call was answered with this and no other one was, and the party stands between two calls again
 pub record HasAnswer (asked : Asked) (first now : Holding) (told : Told) : Type 0 where
   pub goes_on : GoesOn first now
   pub run : IsRun now.plan now.known
   pub idle : IsIdle now
-  pub answered : IsAnswered now.who asked (length first.known) (world_after now.plan now.known).answers
+  pub answered : IsAnswered now.who asked (length first.known) (own_answers first)
+      (world_after now.plan now.known).answers
   pub told_is : answered.answer.told ≡ told
 
 -- where it tells something, it was answered with that

@@ -2,5 +2,8 @@ pub mod Parties
 pub mod Rule
 pub mod Readiness
 pub mod Calls
+pub mod Joins
 pub mod Values
+pub mod Meetings
+pub mod Rests
 pub mod Tables

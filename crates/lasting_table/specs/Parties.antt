@@ -1,6 +1,6 @@
 -- A seat or a reader of a lasting table, which knows the first events of a run, up to its own last one. Where it stands
 -- is told by these events, and no other's event changes it.
-use Rattle.std.specs.Prelude.{◌≡◌, ℕ, ◌<◌, ◌≤◌, Bool, true, false, List, [], ◌∷◌, ◌++◌, Option, Some, None}
+use Rattle.std.specs.Prelude.{◌≡◌, ℕ, ◌<◌, ◌≤◌, ◌==◌, Bool, true, false, List, [], ◌∷◌, ◌++◌, filter, Option, Some, None}
 use Rattle.atomic_table.specs.Seated.{TableId}
 use Rattle.plain_map.specs.declared.calls.Call.TheVariants.{Lookup}
 use Rattle.plain_map.specs.Keys.{IsKey}
@@ -147,22 +147,41 @@ abbrev pub HasNone : Asker → List Event → Type 0
 HasNone who [] = Unit {0}
 HasNone who (e ∷ es) = (by_event e ≡ who → ⊥) × HasNone who es
 
+-- ---- who is answered
+
+-- whether two askers are one
+abbrev pub is_asker : Asker → Asker → Bool
+is_asker (BySeat q) (BySeat p) = q == p
+is_asker (ByReader r) (ByReader k) = r == k
+is_asker who other = false
+
+-- the answers to one of them, in order
+abbrev pub answers_by : Asker → List Answer → List Answer
+answers_by who answers = filter (λ (a : Answer). is_asker who a.by) answers
+
+-- those to a party, by what it knows
+abbrev pub own_answers : Holding → List Answer
+own_answers h = answers_by h.who (world_after h.plan h.known).answers
+
 -- ---- what comes of a call
 
--- it was answered last, after so many events
-pub record IsAnswered (who : Asker) (asked : Asked) (start : ℕ) (answers : List Answer) : Type 0 where
+-- it was answered last, after so many events, and this is its only answer since it had those
+pub record IsAnswered (who : Asker) (asked : Asked) (start : ℕ) (had answers : List Answer) : Type 0 where
   pub front : List Answer
   pub answer : Answer
   pub is : answers ≡ front ++ answer ∷ []
   pub by : answer.by ≡ who
   pub asks : answer.asked ≡ asked
   pub after : start ≤ answer.began
+  pub only : answers_by who answers ≡ had ++ answer ∷ []
 
--- the call is under way since then, or was answered
-abbrev pub Under : Asker → Asked → (start : ℕ) → SeatNow → Stand → List Answer → Type 0
-Under who asked start now Idle answers = IsAnswered who asked start answers
-Under who asked start now (Goes u step) answers = (asked ≡ Called u.call) × (start ≤ now.course.began)
-Under who asked start now (Glances aim glance) answers = (asked ≡ asked_by_aim aim) × (start ≤ now.course.began)
+-- the call is under way since then, with no answer but those that it had, or was answered
+abbrev pub Under : Asker → Asked → (start : ℕ) (had : List Answer) → SeatNow → Stand → List Answer → Type 0
+Under who asked start had now Idle answers = IsAnswered who asked start had answers
+Under who asked start had now (Goes u step) answers =
+    (asked ≡ Called u.call) × (start ≤ now.course.began) × (answers_by who answers ≡ had)
+Under who asked start had now (Glances aim glance) answers =
+    (asked ≡ asked_by_aim aim) × (start ≤ now.course.began) × (answers_by who answers ≡ had)
 
-abbrev pub UnderIn : Asker → Asked → (start : ℕ) → Lasting → Type 0
-UnderIn who asked start x = Under who asked start (party x who) (party x who).stand x.answers
+abbrev pub UnderIn : Asker → Asked → (start : ℕ) (had : List Answer) → Lasting → Type 0
+UnderIn who asked start had x = Under who asked start had (party x who) (party x who).stand x.answers

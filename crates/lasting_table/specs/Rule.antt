@@ -7,11 +7,11 @@ use Rattle.lasting_model.specs.Plans.{Plan}
 use Rattle.lasting_model.specs.Words.{At, IsAt, Store, held_at, place, word_count}
 use Rattle.lasting_model.specs.Steps.{Idle}
 use Rattle.lasting_model.specs.Goes.{Asked, Copied}
-use Rattle.lasting_model.specs.Worlds.{Asker, BySeat, ByReader, Event, IsRun, world_after}
+use Rattle.lasting_model.specs.Worlds.{Answer, Asker, BySeat, ByReader, Event, IsRun, world_after}
 use Rattle.lasting_calls.specs.Going.{Fits, goes}
 use Rattle.lasting_table.specs.declared.view.View.{View}
 use Rattle.lasting_table.specs.declared.rule.Opening.{Opening}
-use Rattle.lasting_table.specs.Parties.{Holding, HasNone, IsParty, UnderIn, begin_at, begin_of, going_of, party, started, step_of}
+use Rattle.lasting_table.specs.Parties.{Holding, HasNone, IsParty, UnderIn, begin_at, begin_of, going_of, own_answers, party, started, step_of}
 
 -- what a table was opened with, as the definitions see it: with no pairs
 abbrev pub plain : Opening → Plan
@@ -101,10 +101,10 @@ pub record Stepped (asked : Asked) (tries : ℕ) (h : Holding) (word : ℕ) (m :
   pub fits : Fits (started asked tries h) word
   -- a call that begins now began after all that was known
   pub first : (start : ℕ) → start ≤ length h.known → (party (world_after h.plan h.known) h.who).stand ≡ Idle →
-      UnderIn h.who asked start (world_after h.plan (known_after asked tries h before))
-  pub on : (start : ℕ) → UnderIn h.who asked start (world_after h.plan h.known) →
+      UnderIn h.who asked start (own_answers h) (world_after h.plan (known_after asked tries h before))
+  pub on : (start : ℕ) (had : List Answer) → UnderIn h.who asked start had (world_after h.plan h.known) →
       ((party (world_after h.plan h.known) h.who).stand ≡ Idle → ⊥) →
-      UnderIn h.who asked start (world_after h.plan (known_after asked tries h before))
+      UnderIn h.who asked start had (world_after h.plan (known_after asked tries h before))
 
 -- a token of one party knows its step then
 abbrev pub Moved : Asked → (tries : ℕ) → M → (word : ℕ) → M → Type 0

@@ -14,7 +14,7 @@ use Rattle.lasting_calls.specs.declared.desk.Desk.{Desk}
 use Rattle.lasting_calls.specs.declared.seat_state.SeatState.{SeatState}
 use Rattle.lasting_table.specs.declared.view.View.{View}
 use Rattle.lasting_table.specs.declared.rule.Opening.{Opening}
-use Rattle.lasting_table.specs.Parties.{Holding, PartyValue, IsParty, going_of, has_hold, party}
+use Rattle.lasting_table.specs.Parties.{Holding, PartyValue, IsParty, going_of, has_hold, own_answers, party}
 use Rattle.lasting_table.specs.Rule.{M, alone, first_or, fresh, lone, plain}
 use Rattle.lasting_table.specs.Calls.{IsIdle, holding_of}
 
@@ -42,10 +42,11 @@ asked_times p = (party (world_after p.holding.plan p.holding.known) p.holding.wh
 abbrev pub answered_updates : PartyValue → ℕ
 answered_updates p = (party (world_after p.holding.plan p.holding.known) p.holding.who).answered
 
--- the call was answered so. What is known goes on, and is a run of the table. The answer is the last of the run, and
--- the call began after all that was known before it. A seat's took no more steps than its bound. All updates of the run
--- have one order, in which each has the reply of the plain map. Each lookup and each copy tells what that map had at
--- one moment of its call
+-- the call was answered so, and its caller stands between two calls again. What is known goes on, and is a run of the
+-- table. The answer is the last of the run, and the only one that the caller has more than before. The call began
+-- after all that was known before it. A seat's took no more steps than its bound. All updates of the run have one
+-- order, in which each has the reply of the plain map. Each lookup and each copy tells what that map had at one moment
+-- of its call
 pub record Answers (asked : Asked) (told : Told) (was now : PartyValue) : Type 0 where
   pub later : List Event
   pub grown : now.holding.known ≡ was.holding.known ++ later
@@ -53,12 +54,14 @@ pub record Answers (asked : Asked) (told : Told) (was now : PartyValue) : Type 0
   pub before : List Answer
   pub answer : Answer
   pub last : (world_after now.holding.plan now.holding.known).answers ≡ before ++ answer ∷ []
+  pub own : own_answers now.holding ≡ own_answers was.holding ++ answer ∷ []
   pub by : answer.by ≡ now.holding.who
   pub asks : answer.asked ≡ asked
   pub tells : answer.told ≡ told
   pub after : length was.holding.known ≤ answer.began
   pub bounded : (seat : ℕ) → answer.by ≡ BySeat seat → answer.steps ≤ call_bound now.holding.plan.settings asked
   pub ordered : HasGhost now.holding.plan now.holding.known
+  pub idle : IsIdle now.holding
 
 -- a token of one party that stands between two calls
 pub record IsResting (key : Opening) (m : M) : Type 0 where

@@ -7,7 +7,9 @@
 //! **Why it ends:** each call is straight code over its own steps; no loop waits for another thread.
 #![tactic(auto)]
 
+mod meeting;
 mod reader;
+mod rest;
 mod rule;
 mod running;
 mod runs;
@@ -16,7 +18,9 @@ mod stage;
 mod table;
 mod view;
 
+pub use lasting_calls::MOST_ASKED;
 pub use reader::Reader;
+pub use rest::Uncopied;
 pub use rule::Opening;
-pub use seat::{MOST_ASKED, Seat};
+pub use seat::Seat;
 pub use table::{LastingTable, rows_for, words_for};

@@ -3,10 +3,11 @@
 ghost use Rattle.std.specs.Prelude.{ℕ, List, []};
 ghost use Rattle.lasting_table.specs.Parties.{PartyValue};
 ghost use Rattle.lasting_model.specs.Goes.{Asked as AskedCall};
+ghost use Rattle.lasting_table.specs.Joins.{joined, meets, spent};
 ghost use Rattle.lasting_table.specs.Rule.{Holds, acted, entered, foremost, no_call, others, plain, stored, whole};
 
 use crate::view::View;
-use atomic_table::{Play, Split, TableRule};
+use atomic_table::{Join, Play, Split, TableRule};
 use hash_bits::Hashing;
 use std::marker::{Brand, PhantomData};
 use step_counts::Settings;
@@ -71,6 +72,22 @@ pub struct Enters;
 
 impl Play<(), View> for Enters {
     ghost then = { entered };
+}
+
+/// All seats of a token come to know the run.
+pub struct Meets;
+
+impl Play<(), View> for Meets {
+    ghost then = { meets };
+}
+
+/// Another seat comes to those of a view.
+pub struct Joint;
+
+impl Join<View> for Joint {
+    ghost both = { joined };
+
+    ghost spent = { spent };
 }
 
 /// The first seat of a view is cut off.

@@ -15,19 +15,17 @@ ghost use Rattle.lasting_calls.specs.declared.calls.Spent.{Spent as SpentValue};
 ghost use Rattle.lasting_calls.specs.declared.calls.Spent.TheVariants.{Asked as SpentAskings, Updates};
 ghost use Rattle.lasting_model.specs.Plans.{MOST_UPDATES, buckets_of};
 ghost use Rattle.lasting_model.specs.Goes.{Called, Copied, Pairs, Replied};
+ghost use Rattle.lasting_table.specs.Parties.{own_answers};
 ghost use Rattle.lasting_table.specs.Values.{Answers, IsPartyOf, IsSame, answered_updates, asked_times};
 
 use crate::runs::{run_copy, run_lookup, run_update};
 use crate::table::LastingTable;
 use crate::view::View;
 use atomic_table::Badge;
-use lasting_calls::{Desk, SeatState, Spent};
+use lasting_calls::{Desk, MOST_ASKED, SeatState, Spent};
 use plain_map::{Call, Key, Pair, Reply};
 use std::marker::{Brand, Model};
 use std::mem;
-
-/// So often a seat may ask for a hold.
-pub const MOST_ASKED: u64 = 1 << 62;
 
 /// One seat of a lasting table. It may go from thread to thread; whoever has it makes its calls.
 #[derive(Drop)]
@@ -53,7 +51,8 @@ impl Model for Seat {
 impl Seat {
     /// Whether it may make another call: it has asked for a hold less than 2^62 times, and each call asks once at most.
     pub fn can_ask(&self) -> bool
-        ensures { IsTrue result ↔ (asked_times self.now < 2 ^ 62) }
+        ensures asks { IsTrue result ↔ (asked_times self.now < 2 ^ 62) }
+        ensures counted { asked_times self.now ≤ length (own_answers self.now.holding) }
     {
         self.state.time < MOST_ASKED
     }
@@ -68,6 +67,7 @@ impl Seat {
         requires late { asked_times self.old < 2 ^ 62 }
         ensures same { IsSame self.old self.new }
         ensures answered { Answers (Called (Lookup key.now)) (Replied result) self.old self.new }
+        ensures updates { answered_updates self.new ≡ answered_updates self.old }
     {
         let badge = mem::replace(&mut self.badge, Badge::blank());
         let mut asked = self.state.time;
@@ -97,6 +97,7 @@ impl Seat {
         ensures same { IsSame self.old self.new }
         ensures few { result ≤ length out.new }
         ensures answered { Answers (Copied bucket) (Pairs (take result out.new)) self.old self.new }
+        ensures updates { answered_updates self.new ≡ answered_updates self.old }
     {
         let badge = mem::replace(&mut self.badge, Badge::blank());
         let mut asked = self.state.time;

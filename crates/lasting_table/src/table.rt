@@ -9,6 +9,7 @@ ghost use Rattle.lasting_calls.specs.Going.{Going};
 ghost use Rattle.lasting_calls.specs.Desks.{IsOf};
 ghost use Rattle.lasting_calls.specs.Seats.{IsSeatOf};
 ghost use Rattle.lasting_table.specs.Tables.{IsOpened, new_seats, plan_at};
+ghost use Rattle.lasting_table.specs.Meetings.{AreSeatsOf};
 
 use crate::rule::{Deal, OneRun, Opening};
 use crate::running::{Token, Words};
@@ -19,7 +20,10 @@ use hash_bits::Hashing;
 use lasting_calls::{Desk, SeatState};
 use std::alloc::{AllocError, Global};
 use std::marker::Model;
-use step_counts::{ITEM_WORDS, SEAT_WORDS, Settings};
+use step_counts::{ITEM_WORDS, OP_WORDS, SEAT_WORDS, Settings};
+
+// The words of each seat: those of its op, whose number is in its announcement, and its want and its hold word.
+const OWN_WORDS: usize = OP_WORDS + 2;
 
 pub(crate) type Board = Table<(), View, Opening, OneRun, Global>;
 
@@ -71,7 +75,7 @@ pub fn words_for(opening: &Opening) -> usize
     ensures { result ≡ word_count (plain opening.now) }
 {
     let seats = opening.settings.seats as usize;
-    10 * seats
+    OWN_WORDS * seats
         + buckets_in(&opening.settings)
         + seats * opening.rows as usize * row_words(&opening.settings)
 }
@@ -92,7 +96,7 @@ fn name_rows(words: &mut [u64], opening: &Opening)
     ensures { IsOpened (plain opening.now) words.new }
 {
     let seats = opening.settings.seats as usize;
-    let first = 10 * seats;
+    let first = OWN_WORDS * seats;
     for bucket in 0..buckets_in(&opening.settings) {
         let row = bucket % seats * opening.rows as usize + bucket / seats;
         words[first + bucket] = row as u64;
@@ -166,6 +170,7 @@ impl LastingTable {
         ensures plan { IfOk result (λ r. r.0.plan
             ≡ record { settings = settings.now; hashing = hashing; first = []; rows = rows }) }
         ensures seats { IfOk result (λ r. r.1.items ≡ new_seats r.0 0 settings.now.seats) }
+        ensures all { IfOk result (λ r. AreSeatsOf r.0 r.1.items) }
     {
         let opening = Opening {
             settings: *settings,

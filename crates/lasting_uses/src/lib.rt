@@ -4,6 +4,7 @@
 ghost use Rattle.std.specs.Prelude.{◌≡◌, ◌≤◌, ◌<◌, ◌^◌, IfSome};
 ghost use Rattle.plain_map.specs.Updates.{value_limit};
 ghost use Rattle.lasting_model.specs.Plans.{least_rows};
+ghost use Rattle.lasting_table.specs.Meetings.{AreSeatsOf};
 ghost use Rattle.lasting_table.specs.Tables.{new_seats};
 ghost use Rattle.lasting_table.specs.Values.{IsPartyOf, IsSame};
 
@@ -63,6 +64,29 @@ pub fn put_often(alloc: Global, key: Key, times: u64) -> Option<Reply>
         return None;
     }
     Some(seat.lookup(&table, &key))
+}
+
+/// Two flows with their sessions, each inserted by a seat of its own, and then all pairs of the table. `None` comes for
+/// want of memory.
+pub fn remember_and_list(alloc: Global, one: Pair, other: Pair) -> Option<Vec<Pair>>
+    requires { (one.value < value_limit) × (other.value < value_limit) }
+{
+    let settings = settings()?;
+    let rows = rows_for(&settings);
+    let (table, mut seats) = LastingTable::open(alloc, &settings, Hashing::Mix(0), rows).ok()?;
+    insert_by(&table, &mut seats, 0, one)?;
+    insert_by(&table, &mut seats, 1, other)?;
+    table.pairs_at_rest(alloc, &mut seats).ok()
+}
+
+// One of all seats inserts this.
+fn insert_by(table: &LastingTable, seats: &mut [Seat], number: usize, pair: Pair) -> Option<Reply>
+    requires seats { AreSeatsOf table.now seats.old }
+    requires number { number < table.now.plan.settings.seats }
+    requires value { pair.value < value_limit }
+    ensures { AreSeatsOf table.now seats.new }
+{
+    seats[number].insert(table, pair.key, pair.value).ok()
 }
 
 // One of these.

@@ -38,3 +38,28 @@ fn rows_are_used_again(rt: HostRuntime) -> Result<(), Fail> {
     assert!(rt; put_often(rt.alloc(), key(1), 1000) == Some(Reply::Found(999)));
     Ok(())
 }
+
+// No clause says that both inserts are made. The order is that of the buckets.
+#[test]
+fn all_pairs_are_listed(rt: HostRuntime) -> Result<(), Fail> {
+    let one = Pair {
+        key: key(1),
+        value: 7,
+        bytes: 0,
+    };
+    let other = Pair {
+        key: key(2),
+        value: 8,
+        bytes: 0,
+    };
+    let pairs = remember_and_list(rt.alloc(), one, other);
+    assert!(rt; are_both(&pairs, &one, &other));
+    Ok(())
+}
+
+fn are_both(pairs: &Option<Vec<Pair>>, one: &Pair, other: &Pair) -> bool {
+    match pairs {
+        Some(pairs) => pairs.len() == 2 && pairs.contains(one) && pairs.contains(other),
+        None => false,
+    }
+}

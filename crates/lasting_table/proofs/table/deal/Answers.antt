@@ -1,9 +1,9 @@
-use Rattle.std.proofs.Common.{◌≡◌, ◌∙◌, ◌-◌, ◌+◌, List, ap, sym, subst, arith}
+use Rattle.std.proofs.Common.{◌≡◌, ◌∙◌, ◌-◌, ◌+◌, suc, List, ap, refl, sym, subst, arith}
 use Rattle.atomic_table.specs.Table.{Splits}
 use Rattle.lasting_table.specs.declared.rule.Opening.{Opening}
 use Rattle.lasting_table.specs.declared.view.View.{View}
 use Rattle.lasting_table.specs.Parties.{Holding}
-use Rattle.lasting_table.specs.Rule.{Holds, M, alone, foremost, fresh_from, others, plain}
+use Rattle.lasting_table.specs.Rule.{Holds, M, alone, foremost, fresh, fresh_from, others, plain}
 use Rattle.lasting_table.specs.Values.{TableValue}
 use Rattle.lasting_model.specs.Plans.{IsPlan}
 use Rattle.lasting_table.proofs.Opens.{splits}
@@ -25,7 +25,8 @@ split_seat-token-requires c =
             sym (is ∙ ap (λ (b : List Holding). record { bundle = b }) (splits_from (plain o) k n
                 c.loop-number-test.true)) i,
           ))
-          (splits (plain o) c.loop-number.rest.id k (n - (k + 1))),
+          (splits (plain o) c.loop-number.rest.id (fresh (plain o) k) k (fresh_from (plain o) (suc k) (n - (k + 1)))
+          refl),
     )
 
 pub seated-requires-clause-plan : goal.seated-requires-clause-plan

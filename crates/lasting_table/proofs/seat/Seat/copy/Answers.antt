@@ -1,10 +1,10 @@
-use Rattle.std.proofs.Common.{◌∙◌, ap, refl, sym, subst, take, true}
+use Rattle.std.proofs.Common.{◌≡◌, ◌∙◌, ap, refl, sym, subst, take, true}
 use Rattle.atomic_table.specs.declared.badge.Badge.{Badge}
 use Rattle.lasting_model.specs.Goes.{Copied, Pairs}
 use Rattle.lasting_table.specs.declared.view.View.{View}
 use Rattle.lasting_table.specs.Parties.{PartyValue}
-use Rattle.lasting_table.specs.Values.{Answers, IsSame, party_value}
-use Rattle.lasting_table.proofs.Callers.{answers_after, looked_stands, made_stands, plan_at, same_after}
+use Rattle.lasting_table.specs.Values.{Answers, IsSame, answered_updates, party_value}
+use Rattle.lasting_table.proofs.Callers.{answers_after, looked_stands, made_stands, plan_at, same_after, updates_same}
 use Rattle.lasting_table.proofs.seat.Seat.copy.Goals as goal
 
 pub returns-clause-same : goal.returns-clause-same
@@ -41,6 +41,20 @@ returns-clause-answered c =
     ∙ ap (λ (b : Badge View). b.table_id) c.replace-badge.ensures.value)
     c.into_badge.result.views c.run_copy-token.result.0.me c.into_badge.ensures.2 c.run_copy-token.ensures.rests
     c.run_copy-token.ensures.answer)
+
+pub returns-clause-updates : goal.returns-clause-updates
+returns-clause-updates c =
+    subst (λ (v : PartyValue). answered_updates (party_value c.self.inside.desk c.into_badge.result.table_id
+    c.into_badge.result.views) ≡ answered_updates v) c.self.view_is
+    (updates_same c.table.inside.board.shared.key true c.self.inside.desk c.self.inside.badge.views
+    c.into_seat.result.me
+    c.self.invariant.stands (sym (ap (λ (b : Badge View). b.views) c.replace-badge.ensures.value) ∙
+    c.into_seat.ensures.2) c.into_seat.ensures.3
+    (plan_at c.self.inside.desk c.self.inside.badge.table_id c.self.inside.badge.views _ c.self.view_is _
+    c.table.view_is c.table.invariant c.requires.seat)
+    c.run_copy-token.new.time (Pairs (take c.run_copy-token.result.1 c.run_copy-token.new.out))
+    c.self.inside.badge.table_id c.into_badge.result.table_id c.into_badge.result.views c.run_copy-token.result.0.me
+    c.into_badge.ensures.2 c.run_copy-token.ensures.rests c.run_copy-token.ensures.going)
 
 pub invariant_of-self : goal.invariant_of-self
 invariant_of-self c =

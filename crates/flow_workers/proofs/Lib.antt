@@ -1,0 +1,3 @@
+pub mod AnswerLists
+pub mod CountLists
+pub mod SeatCalls
