@@ -1,5 +1,5 @@
 -- The line that is written from a plan asks for it.
-use Rattle.std.proofs.Common.{◌≡◌, ◌∙◌, ◌<◌, ◌≤◌, ◌^◌, ℕ, ◌&&◌, Bool, cond, true, [], Option, Some, None}
+use Rattle.std.proofs.Common.{◌≡◌, ◌∙◌, ◌-◌, ◌<◌, ◌≤◌, ◌^◌, ℕ, ◌&&◌, Bool, cond, true, [], Option, Some, None}
 use Rattle.std.proofs.Common.{IfSome, ap, ap₂, refl, arith}
 use Rattle.std.specs.Fmt.{decimal as written}
 use Rattle.std.specs.List.{list_all}
@@ -18,9 +18,9 @@ use Rattle.packet_heads.specs.declared.framing.Link.{Link}
 use Rattle.packet_heads.specs.declared.framing.Link.TheVariants as link
 use Rattle.packet_heads.specs.Heads.{plain_framing}
 use Rattle.key_texts.specs.declared.rules.CallRule.{CallRule}
-use Rattle.key_texts.specs.declared.rules.CallRule.TheVariants.{Sessions, Flows}
-use Rattle.command_line.specs.Command.{Number, batch, capture_number, depth, extensions, items, packets, seats, seed, start}
-use Rattle.command_line.specs.Command.{tags}
+use Rattle.key_texts.specs.declared.rules.CallRule.TheVariants as rule
+use Rattle.command_line.specs.Command.{Number, batch, capture_number, depth, every, extensions, items, packets, seats, seed}
+use Rattle.command_line.specs.Command.{start, tags}
 use Rattle.command_line.specs.CommandLines.{IsAskable, as_used, asked, asked_framing, calls_text, default_plan, given_of, hash_text, is_in}
 use Rattle.command_line.specs.CommandLines.{line_of}
 use Rattle.command_line.specs.CommandLines.{link_text, lists_of, rows_text, seed_of, share_text, tests}
@@ -29,7 +29,7 @@ use Rattle.line_fields.specs.Reading.{◌>>=◌}
 use Rattle.command_line.specs.Words.{asked_rows, asked_schedule, asked_stops, calls_of, decimal, hashing_of, reads, share_of}
 use Rattle.command_line.specs.Words.{link_of, start_below}
 use Rattle.command_line.specs.declared.plan.Mode.{Mode}
-use Rattle.command_line.specs.declared.plan.Mode.TheVariants.{Serve, Play, Make, Trial, Totals, Check}
+use Rattle.command_line.specs.declared.plan.Mode.TheVariants.{Serve, Play, Make, Trial, Totals, Check, Flows}
 use Rattle.command_line.specs.declared.plan.Plan.{Plan}
 use Rattle.command_line.proofs.CommandLinesLemmas.{any_line}
 use Rattle.command_line.proofs.PlayTextLemmas.{schedule_back, stops_back}
@@ -77,13 +77,18 @@ link_back link.Ipv6 = refl
 link_back link.LinuxSll2 = refl
 
 calls_back : (c : CallRule) → calls_of (calls_text c) ≡ Some c
-calls_back Sessions = refl
-calls_back Flows = refl
+calls_back rule.Sessions = refl
+calls_back rule.Flows = refl
 
 tags_back : (given : Option ℕ) → IfSome given (λ most. most ≤ tags.most) →
     option_map decimal (option_map written given) ≡ given
 tags_back None h = refl
 tags_back (Some most) h = ap (λ n. Some n) (read_back most (omega (arith, h)))
+
+every_back : (given : Option ℕ) → IfSome given (λ n. (1 ≤ n) × (n ≤ 2 ^ 52 - 1)) →
+    option_map decimal (option_map written given) ≡ given
+every_back None h = refl
+every_back (Some n) h = ap (λ n. Some n) (read_back n (omega (arith, h.1)))
 
 framing_back : (p : Plan) → IsAskable p → asked_framing (given_of p) (lists_of p) ≡ Some p.framing
 framing_back p h =
@@ -101,6 +106,12 @@ tags_pass : (given : Option ℕ) → IfSome given (λ most. most ≤ tags.most) 
 tags_pass None h = refl
 tags_pass (Some most) h = passes tags most (omega arith) h (omega (arith, h))
 
+-- so is the number of packets between two blocks, where it is given
+every_pass : (given : Option ℕ) → IfSome given (λ n. (1 ≤ n) × (n ≤ 2 ^ 52 - 1)) →
+    option_map_or (is_in every) (option_map written given) true ≡ true
+every_pass None h = refl
+every_pass (Some n) h = passes every n h.0 h.1 (omega (arith, h.1))
+
 all_pass : (p : Plan) → IsAskable p → list_all (λ b. b) (tests (given_of p) (lists_of p)) ≡ true
 all_pass p h =
     let r = h.range.settings in
@@ -113,7 +124,8 @@ all_pass p h =
     (and (passes packets p.packets (omega arith) h.range.packets (omega arith))
     (and (passes extensions p.framing.extensions (omega arith) h.extensions (omega (arith, h.extensions)))
     (and (passes batch p.batch h.range.batch.0 h.range.batch.1 (omega (arith, h.range.batch.1)))
-    (and (tags_pass p.framing.tags h.tags) refl)))))))))
+    (and (tags_pass p.framing.tags h.tags)
+    (and (every_pass p.every h.range.every) refl))))))))))
 
 serve_back : (p : Plan) → IsAskable p → asked Serve (given_of p) (lists_of p) ≡ Some (as_used p Serve)
 serve_back p h =
@@ -145,6 +157,7 @@ serve_back p h =
       batch = bt i;
       framing = framing;
       calls = calls;
+      every = None;
     })))))))
 
 play_back : (p : Plan) → IsAskable p → asked Play (given_of p) (lists_of p) ≡ Some (as_used p Play)
@@ -180,6 +193,7 @@ play_back p h =
       batch = 2048;
       framing = framing;
       calls = calls;
+      every = None;
     })))))))))
 
 make_back : (p : Plan) → IsAskable p → asked Make (given_of p) (lists_of p) ≡ Some (as_used p Make)
@@ -214,7 +228,8 @@ trial_back p h =
       packets = k i;
       batch = bt i;
       framing = plain_framing;
-      calls = Sessions;
+      calls = rule.Sessions;
+      every = None;
     }))
 
 totals_back : (p : Plan) → IsAskable p → asked Totals (given_of p) (lists_of p) ≡ Some (as_used p Totals)
@@ -231,6 +246,36 @@ totals_back p h =
       framing = framing;
     }))
 
+flows_back : (p : Plan) → IsAskable p → asked Flows (given_of p) (lists_of p) ≡ Some (as_used p Flows)
+flows_back p h =
+    let few : p.seats ≤ 8 = omega (arith, h.range.settings.seats_in_range) in
+    let n = read_back p.seats (omega arith) in
+    let b = read_back p.items (omega (arith, h.range.settings.items_in_range)) in
+    let d = read_back p.depth (omega (arith, h.range.settings.depth_in_range)) in
+    let hs = read_back (seed_of p.hashing) h.seed in
+    let bt = read_back p.batch (omega (arith, h.range.batch.1)) in
+    let fr = framing_back p h in
+    let cs = calls_back p.calls in
+    let ev = every_back p.every h.range.every in
+    λ i. (fr i) >>= (λ framing. (cs i) >>= (λ calls. Some (record {
+      mode = Flows;
+      seats = n i;
+      items = b i;
+      depth = d i;
+      start = 0;
+      hashing = Mix (hs i);
+      share = Flow;
+      rows = None;
+      schedule = [];
+      stops = replicate (n i) None;
+      number = 0;
+      packets = 1000;
+      batch = bt i;
+      framing = framing;
+      calls = calls;
+      every = ev i;
+    })))
+
 asked_back : (p : Plan) → IsAskable p → (mode : Mode)
     → asked mode (given_of p) (lists_of p) ≡ Some (as_used p mode)
 asked_back p h Serve = serve_back p h
@@ -239,6 +284,7 @@ asked_back p h Make = make_back p h
 asked_back p h Trial = trial_back p h
 asked_back p h Totals = totals_back p h
 asked_back p h Check = refl
+asked_back p h Flows = flows_back p h
 
 pub round_trip : (p : Plan) → IsAskable p → reads (line_of p) ≡ Some (as_used p p.mode)
 round_trip p h =

@@ -13,7 +13,7 @@ use Rattle.command_line.specs.Words.{share_in, start_in, stops_in, text_in}
 use Rattle.command_line.specs.declared.plays.Segment.{Segment}
 use Rattle.std.specs.Prelude.{replicate, ℕ}
 use Rattle.command_line.specs.declared.plan.Mode.{Mode}
-use Rattle.command_line.specs.declared.plan.Mode.TheVariants.{Serve, Play, Make, Trial, Totals, Check}
+use Rattle.command_line.specs.declared.plan.Mode.TheVariants.{Serve, Play, Make, Trial, Totals, Check, Flows}
 use Rattle.command_line.specs.declared.plan.Plan.{Plan}
 use Rattle.std.proofs.Common.{codes, []}
 
@@ -45,6 +45,12 @@ trial_used : (given : Values)
     → IfSome (plan_with Trial None [] (replicate (seats_in Trial given) None) given) IsAsUsed
 trial_used given = bound IsAsUsed (start_in Trial given) _ (λ start. refl)
 
+flows_used : (given : Values)
+    → IfSome (plan_with Flows None [] (replicate (seats_in Flows given) None) given) IsAsUsed
+flows_used given =
+    bound IsAsUsed (framing_in Flows given) _
+    (λ framing. bound IsAsUsed (calls_in Flows given) _ (λ calls. refl))
+
 mode_used : (given : Values) (mode : Mode)
     → IfSome (rows_for mode given >>= (λ rows. schedule_for mode (seats_in mode given) given >>=
     (λ schedule. stops_in mode (seats_in mode given) given >>=
@@ -59,6 +65,7 @@ mode_used given Make = refl
 mode_used given Trial = trial_used given
 mode_used given Totals = bound IsAsUsed (framing_in Totals given) _ (λ framing. refl)
 mode_used given Check = refl
+mode_used given Flows = flows_used given
 
 plan_used : (given : Values) → IfSome (plan_of given) IsAsUsed
 plan_used given = bound IsAsUsed (mode_of (text_in given (codes "mode") [])) _ (mode_used given)

@@ -97,8 +97,12 @@ extensions = number (codes "extensions") 0 8 0
 abbrev pub batch : Number
 batch = number (codes "batch") 2048 65536 2048
 
+-- after how many packets the sessions are printed; it has no default: where it is not given, another rule holds
+abbrev pub every : Number
+every = number (codes "every") 1 (2 ^ 52 - 1) 1
+
 abbrev pub numbers : List Number
-numbers = seats ∷ items ∷ depth ∷ start ∷ seed ∷ capture_number ∷ packets ∷ tags ∷ extensions ∷ batch ∷ []
+numbers = seats ∷ items ∷ depth ∷ start ∷ seed ∷ capture_number ∷ packets ∷ tags ∷ extensions ∷ batch ∷ every ∷ []
 
 abbrev pub texts : List Text
 texts = codes "hash" ∷ codes "share" ∷ codes "rows" ∷ codes "schedule" ∷ codes "stop" ∷ codes "link"

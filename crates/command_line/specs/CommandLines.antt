@@ -16,8 +16,8 @@ use Rattle.packet_heads.specs.declared.framing.Link.{Link}
 use Rattle.packet_heads.specs.declared.framing.Link.TheVariants as link
 use Rattle.packet_heads.specs.Heads.{plain_framing}
 use Rattle.key_texts.specs.declared.rules.CallRule.{CallRule}
-use Rattle.key_texts.specs.declared.rules.CallRule.TheVariants.{Sessions, Flows}
-use Rattle.command_line.specs.Command.{Number, batch, capture_number, depth, extensions, flowdir_app, items, packets, seats}
+use Rattle.key_texts.specs.declared.rules.CallRule.TheVariants as rule
+use Rattle.command_line.specs.Command.{Number, batch, capture_number, depth, every, extensions, flowdir_app, items, packets, seats}
 use Rattle.command_line.specs.Command.{seed, start, tags}
 use Rattle.command_line.specs.Plays.{colon, most_segments, most_slots, most_steps, star}
 use Rattle.command_line.specs.Texts.{comma}
@@ -25,7 +25,7 @@ use Rattle.line_fields.specs.Reading.{◌>>=◌}
 use Rattle.command_line.specs.Words.{IsInRange, asked_rows, asked_schedule, asked_stops, calls_of, decimal, hashing_of}
 use Rattle.command_line.specs.Words.{link_of, share_of, start_below}
 use Rattle.command_line.specs.declared.plan.Mode.{Mode}
-use Rattle.command_line.specs.declared.plan.Mode.TheVariants.{Serve, Play, Make, Trial, Totals, Check}
+use Rattle.command_line.specs.declared.plan.Mode.TheVariants.{Serve, Play, Make, Trial, Totals, Check, Flows}
 use Rattle.command_line.specs.declared.plan.Plan.{Plan}
 use Rattle.command_line.specs.declared.plays.Segment.{Segment}
 use Rattle.step_counts.specs.Ranges.{IsWithin}
@@ -49,8 +49,13 @@ default_plan = record {
   packets = 1000;
   batch = 2048;
   framing = plain_framing;
-  calls = Sessions;
+  calls = rule.Sessions;
+  every = None;
 }
+
+-- the plan of `flows` alone
+abbrev pub flows_plan : Plan
+flows_plan = record default_plan { mode = Flows; share = Flow; calls = rule.Flows }
 
 -- what the command finds wrong in the words
 abbrev pub faults : List Text → Kinds
@@ -80,6 +85,7 @@ mode_text Make = codes "make"
 mode_text Trial = codes "trial"
 mode_text Totals = codes "totals"
 mode_text Check = codes "check"
+mode_text Flows = codes "flows"
 
 abbrev pub line_with : Mode → Given → List Text → List Text
 line_with mode g more = mode_text mode ∷ (codes "--seats=" ++ g.seats) ∷ (codes "--items=" ++ g.items)
@@ -95,6 +101,7 @@ pub record Lists : Type 0 where
   pub schedule : Option Text
   pub stop : Option Text
   pub tags : Option Text
+  pub every : Option Text
 
 -- an option and its text, or nothing
 abbrev pub words_of : Text → Option Text → List Text
@@ -104,7 +111,8 @@ words_of name (Some text) = (name ++ text) ∷ []
 abbrev pub line : Mode → Given → Lists → List Text
 line mode g lists =
     line_with mode g (words_of (codes "--rows=") lists.rows ++ (words_of (codes "--schedule=") lists.schedule
-    ++ (words_of (codes "--stop=") lists.stop ++ words_of (codes "--tags=") lists.tags)))
+    ++ (words_of (codes "--stop=") lists.stop ++ (words_of (codes "--tags=") lists.tags
+    ++ words_of (codes "--every=") lists.every))))
 
 abbrev pub is_in : Number → Text → Bool
 is_in n text = is_unsigned_in n.least n.most text
@@ -114,7 +122,8 @@ abbrev pub tests : Given → Lists → List Bool
 tests g lists =
     is_in seats g.seats ∷ is_in items g.items ∷ is_in depth g.depth ∷ is_in start g.start ∷ is_in seed g.seed
     ∷ is_in capture_number g.number ∷ is_in packets g.packets ∷ is_in extensions g.extensions
-    ∷ is_in batch g.batch ∷ option_map_or (is_in tags) lists.tags true ∷ []
+    ∷ is_in batch g.batch ∷ option_map_or (is_in tags) lists.tags true
+    ∷ option_map_or (is_in every) lists.every true ∷ []
 
 -- how the packets of a capture are framed, by the texts
 abbrev pub asked_framing : Given → Lists → Option Framing
@@ -147,6 +156,7 @@ asked Serve g lists = do
     batch = decimal g.batch;
     framing = framing;
     calls = calls;
+    every = None;
   })
 asked Play g lists = do
   rows ← asked_rows lists.rows
@@ -173,6 +183,7 @@ asked Play g lists = do
     batch = 2048;
     framing = framing;
     calls = calls;
+    every = None;
   })
 asked Make g lists = Some (record default_plan {
   mode = Make;
@@ -196,7 +207,8 @@ asked Trial g lists = do
     packets = decimal g.packets;
     batch = decimal g.batch;
     framing = plain_framing;
-    calls = Sessions;
+    calls = rule.Sessions;
+    every = None;
   })
 asked Totals g lists = do
   framing ← asked_framing g lists
@@ -208,6 +220,27 @@ asked Totals g lists = do
     framing = framing;
   })
 asked Check g lists = Some (record default_plan { mode = Check })
+asked Flows g lists = do
+  framing ← asked_framing g lists
+  calls ← calls_of g.calls
+  Some (record {
+    mode = Flows;
+    seats = decimal g.seats;
+    items = decimal g.items;
+    depth = decimal g.depth;
+    start = 0;
+    hashing = Mix (decimal g.seed);
+    share = Flow;
+    rows = None;
+    schedule = [];
+    stops = replicate (decimal g.seats) None;
+    number = 0;
+    packets = 1000;
+    batch = decimal g.batch;
+    framing = framing;
+    calls = calls;
+    every = option_map decimal lists.every;
+  })
 
 -- ---- the line that asks for a plan
 
@@ -238,8 +271,8 @@ link_text link.Ipv6 = codes "229"
 link_text link.LinuxSll2 = codes "276"
 
 abbrev pub calls_text : CallRule → Text
-calls_text Sessions = codes "sessions"
-calls_text Flows = codes "flows"
+calls_text rule.Sessions = codes "sessions"
+calls_text rule.Flows = codes "flows"
 
 abbrev pub given_of : Plan → Given
 given_of p = record {
@@ -292,6 +325,7 @@ lists_of p = record {
   schedule = joined (map segment_text p.schedule);
   stop = joined (map stop_text (stopped_from 0 p.stops));
   tags = option_map written p.framing.tags;
+  every = option_map written p.every;
 }
 
 abbrev pub line_of : Plan → List Text
@@ -332,6 +366,7 @@ as_used p Serve = record {
   batch = p.batch;
   framing = p.framing;
   calls = p.calls;
+  every = None;
 }
 as_used p Play = record {
   mode = Play;
@@ -349,6 +384,7 @@ as_used p Play = record {
   batch = 2048;
   framing = p.framing;
   calls = p.calls;
+  every = None;
 }
 as_used p Make = record default_plan { mode = Make; number = p.number; packets = p.packets }
 as_used p Trial = record {
@@ -366,7 +402,8 @@ as_used p Trial = record {
   packets = p.packets;
   batch = p.batch;
   framing = plain_framing;
-  calls = Sessions;
+  calls = rule.Sessions;
+  every = None;
 }
 as_used p Totals = record default_plan {
   mode = Totals;
@@ -376,3 +413,21 @@ as_used p Totals = record default_plan {
   framing = p.framing;
 }
 as_used p Check = record default_plan { mode = Check }
+as_used p Flows = record {
+  mode = Flows;
+  seats = p.seats;
+  items = p.items;
+  depth = p.depth;
+  start = 0;
+  hashing = Mix (seed_of p.hashing);
+  share = Flow;
+  rows = None;
+  schedule = [];
+  stops = replicate p.seats None;
+  number = 0;
+  packets = 1000;
+  batch = p.batch;
+  framing = p.framing;
+  calls = p.calls;
+  every = p.every;
+}

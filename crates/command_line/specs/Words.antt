@@ -4,7 +4,7 @@
 -- in them (`matches_of`). The plan is a function of what was found: each option's value or its
 -- default, where each text that the mode uses is one of the words for it. Of an option that the mode
 -- does not use nothing is looked at: it has its default.
-use Rattle.std.specs.Prelude.{◌≡◌, ◌≤◌, ℕ, Bool, true, false, List, [], Option, Some, None, codes, if◌then◌else◌}
+use Rattle.std.specs.Prelude.{◌≡◌, ◌≤◌, ◌-◌, ◌^◌, ℕ, Bool, true, false, List, [], Option, Some, None, codes, if◌then◌else◌}
 use Rattle.std.specs.Prelude.{Result, Ok, Err, unwrap_or, IfSome, replicate}
 use Rattle.std.specs.Option.{option_map, option_map_or}
 use Rattle.std.specs.Str.{bytes_eq}
@@ -57,7 +57,8 @@ mode_of text = if bytes_eq text (codes "serve") then Some mode.Serve
     else (if bytes_eq text (codes "make") then Some mode.Make
     else (if bytes_eq text (codes "trial") then Some mode.Trial
     else (if bytes_eq text (codes "totals") then Some mode.Totals
-    else (if bytes_eq text (codes "check") then Some mode.Check else None)))))
+    else (if bytes_eq text (codes "check") then Some mode.Check
+    else (if bytes_eq text (codes "flows") then Some mode.Flows else None))))))
 
 -- ---- what a mode uses
 
@@ -69,8 +70,9 @@ has_seats mode.Make = false
 has_seats mode.Trial = true
 has_seats mode.Totals = true
 has_seats mode.Check = false
+has_seats mode.Flows = true
 
--- the mode has a table of flows: it uses `items`, `depth`, `start` and `seed`
+-- the mode has a table of flows: it uses `items`, `depth` and `seed`
 abbrev pub has_table : Mode → Bool
 has_table mode.Serve = true
 has_table mode.Play = true
@@ -78,6 +80,7 @@ has_table mode.Make = false
 has_table mode.Trial = true
 has_table mode.Totals = false
 has_table mode.Check = false
+has_table mode.Flows = true
 
 -- the mode makes a capture: it uses `number` and `packets`
 abbrev pub makes_capture : Mode → Bool
@@ -87,6 +90,7 @@ makes_capture mode.Make = true
 makes_capture mode.Trial = true
 makes_capture mode.Totals = false
 makes_capture mode.Check = false
+makes_capture mode.Flows = false
 
 -- the mode goes through a capture batch by batch: it uses `batch`
 abbrev pub has_batches : Mode → Bool
@@ -96,6 +100,7 @@ has_batches mode.Make = false
 has_batches mode.Trial = true
 has_batches mode.Totals = true
 has_batches mode.Check = false
+has_batches mode.Flows = true
 
 -- the mode reads a capture: it uses `link`, `tags` and `extensions`
 abbrev pub reads_capture : Mode → Bool
@@ -105,6 +110,7 @@ reads_capture mode.Make = false
 reads_capture mode.Trial = false
 reads_capture mode.Totals = true
 reads_capture mode.Check = false
+reads_capture mode.Flows = true
 
 -- the number of an option that may be used, or its default
 abbrev pub number_if : Bool → Values → Number → ℕ
@@ -115,7 +121,13 @@ start_below depth start = if at_most depth start then Some start else None
 
 -- the starting depth is at most the greatest
 abbrev pub start_in : Mode → Values → Option ℕ
-start_in mode given = start_below (number_if (has_table mode) given depth) (number_if (has_table mode) given start)
+start_in mode.Serve given = start_below (number_in given depth) (number_in given start)
+start_in mode.Play given = start_below (number_in given depth) (number_in given start)
+start_in mode.Make given = Some start.default
+start_in mode.Trial given = start_below (number_in given depth) (number_in given start)
+start_in mode.Totals given = Some start.default
+start_in mode.Check given = Some start.default
+start_in mode.Flows given = Some start.default
 
 abbrev pub hashing_of : Text → ℕ → Option Hashing
 hashing_of text seed = if bytes_eq text (codes "mix") then Some (Mix seed)
@@ -128,13 +140,14 @@ hashing_in mode.Make given = Some (Mix seed.default)
 hashing_in mode.Trial given = Some (Mix (number_in given seed))
 hashing_in mode.Totals given = Some (Mix seed.default)
 hashing_in mode.Check given = Some (Mix seed.default)
+hashing_in mode.Flows given = Some (Mix (number_in given seed))
 
 abbrev pub share_of : Text → Option Share
 share_of text = if bytes_eq text (codes "round") then Some Round
     else (if bytes_eq text (codes "block") then Some Block
     else (if bytes_eq text (codes "flow") then Some Flow else None))
 
--- a trial serves by flows
+-- `trial` and `flows` serve by flows
 abbrev pub share_in : Mode → Values → Option Share
 share_in mode.Serve given = share_of (text_in given (codes "share") (codes "round"))
 share_in mode.Play given = share_of (text_in given (codes "share") (codes "round"))
@@ -142,6 +155,7 @@ share_in mode.Make given = Some Round
 share_in mode.Trial given = Some Flow
 share_in mode.Totals given = Some Round
 share_in mode.Check given = Some Round
+share_in mode.Flows given = Some Flow
 
 -- the link type of a number, as it stands
 abbrev pub link_of : Text → Option Link
@@ -164,6 +178,7 @@ link_in mode.Make given = Some link.Ethernet
 link_in mode.Trial given = Some link.Ethernet
 link_in mode.Totals given = link_of (text_in given (codes "link") (codes "1"))
 link_in mode.Check given = Some link.Ethernet
+link_in mode.Flows given = link_of (text_in given (codes "link") (codes "1"))
 
 -- how many tags may stand there, where it is given
 abbrev pub tags_in : Mode → Values → Option ℕ
@@ -184,7 +199,7 @@ abbrev pub calls_of : Text → Option CallRule
 calls_of text = if bytes_eq text (codes "sessions") then Some Sessions
     else (if bytes_eq text (codes "flows") then Some Flows else None)
 
--- which call a packet makes
+-- which call a packet makes: of `flows` a count, where no word says it
 abbrev pub calls_in : Mode → Values → Option CallRule
 calls_in mode.Serve given = calls_of (text_in given (codes "calls") (codes "sessions"))
 calls_in mode.Play given = calls_of (text_in given (codes "calls") (codes "sessions"))
@@ -192,6 +207,17 @@ calls_in mode.Make given = Some Sessions
 calls_in mode.Trial given = Some Sessions
 calls_in mode.Totals given = Some Sessions
 calls_in mode.Check given = Some Sessions
+calls_in mode.Flows given = calls_of (text_in given (codes "calls") (codes "flows"))
+
+-- after how many packets the sessions are printed, where it is given
+abbrev pub every_in : Mode → Values → Option ℕ
+every_in mode.Serve given = None
+every_in mode.Play given = None
+every_in mode.Make given = None
+every_in mode.Trial given = None
+every_in mode.Totals given = None
+every_in mode.Check given = None
+every_in mode.Flows given = option_map decimal (given (codes "every"))
 
 -- the rows of a text, automatic where there is no text
 abbrev pub asked_rows : Option Text → Option (Option SeatRows)
@@ -205,6 +231,7 @@ rows_for mode.Make given = Some None
 rows_for mode.Trial given = Some None
 rows_for mode.Totals given = Some None
 rows_for mode.Check given = Some None
+rows_for mode.Flows given = Some None
 
 abbrev pub seats_in : Mode → Values → ℕ
 seats_in mode given = number_if (has_seats mode) given seats
@@ -221,6 +248,7 @@ schedule_for mode.Make n given = Some []
 schedule_for mode.Trial n given = Some []
 schedule_for mode.Totals n given = Some []
 schedule_for mode.Check n given = Some []
+schedule_for mode.Flows n given = Some []
 
 -- the stops of a text; no seat is stopped where there is no text
 abbrev pub asked_stops : (seats : ℕ) → Option Text → Option (List (Option ℕ))
@@ -234,6 +262,7 @@ stops_in mode.Make n given = Some (replicate n None)
 stops_in mode.Trial n given = Some (replicate n None)
 stops_in mode.Totals n given = Some (replicate n None)
 stops_in mode.Check n given = Some (replicate n None)
+stops_in mode.Flows n given = Some (replicate n None)
 
 -- the plan of a mode with these rows, this schedule and these stops
 abbrev pub plan_with : Mode → Option SeatRows → List Segment → List (Option ℕ) → Values → Option Plan
@@ -259,6 +288,7 @@ plan_with mode rows schedule stops given = do
     batch = number_if (has_batches mode) given batch;
     framing = framing;
     calls = calls;
+    every = every_in mode given;
   })
 
 -- the plan of what the words give, where each text that the mode uses is one of the words for it
@@ -276,6 +306,7 @@ pub record IsInRange (p : Plan) : Type 0 where
   pub rows : IfSome p.rows AreRowsInRange
   pub packets : p.packets ≤ packets.most
   pub batch : IsWithin 2048 65536 p.batch
+  pub every : IfSome p.every (IsWithin 1 (2 ^ 52 - 1))
 
 -- the plan that the words ask for: none where the command does not take them
 unfoldable pub reads : List Text → Option Plan

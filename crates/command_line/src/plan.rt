@@ -23,6 +23,9 @@ pub enum Mode {
     Totals,
     /// Reads a report and says whether it is right, or what is wrong with it first. It uses no option.
     Check,
+    /// Goes through a capture of any length on one table, and prints the sessions that are left and the counts: at the
+    /// end, and after each so many packets where that is asked for. The share is `Flow`, the hash `mix`.
+    Flows,
 }
 
 /// The mode and its settings. A setting that the mode does not use has its default.
@@ -38,7 +41,7 @@ pub struct Plan {
     /// The depth of the table at its opening, 0 to `depth`.
     pub start: u32,
     pub hashing: Hashing,
-    /// Which seat makes which call; in `Trial` it is `Flow`.
+    /// Which seat makes which call; in `Trial` and in `Flows` it is `Flow`.
     pub share: Share,
     /// The rows of each seat; `None` where they are automatic.
     pub rows: Option<SeatRows>,
@@ -56,4 +59,6 @@ pub struct Plan {
     pub framing: Framing,
     /// Which call a packet of the capture makes.
     pub calls: CallRule,
+    /// After how many packets the sessions are printed again and again, 1 to 2^52 - 1; `None` where only at the end.
+    pub every: Option<u64>,
 }

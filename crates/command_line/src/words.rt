@@ -30,7 +30,7 @@ pub use laws::command_line_laws;
 #[derive(Clone, Copy, Debug, PartialEq, Eq, thiserror::Error)]
 pub enum WordsFault {
     /// The command does not take the words, or a text that the mode uses is not a word for it.
-    #[error("usage: flowdir serve|play|make|trial|check|totals [options]")]
+    #[error("usage: flowdir serve|play|make|trial|check|totals|flows [options]")]
     Usage,
     #[error("out of memory")]
     Memory,

@@ -65,7 +65,8 @@ SaysFault (Some found) (Some text) = SaysLink found text
 -- what the program says on standard error of a run that ended so, where it says anything
 abbrev pub Says : Status → Option (List ℕ) → Type 0
 Says status.Memory said = said ≡ Some (codes "flowdir: out of memory")
-Says status.Usage said = said ≡ Some (codes "flowdir: usage: flowdir serve|play|make|trial|check|totals [options]")
+Says status.Usage said =
+    said ≡ Some (codes "flowdir: usage: flowdir serve|play|make|trial|check|totals|flows [options]")
 Says status.ReadFault said = said ≡ Some (codes "flowdir: read fault")
 Says status.WriteFault said = said ≡ Some (codes "flowdir: write fault")
 Says status.Done said = said ≡ None

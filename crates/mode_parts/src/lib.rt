@@ -13,3 +13,4 @@ pub use pile::CallPile;
 pub use planned::{calling_of, head_of, service_of};
 pub use printing::put_sessions;
 pub use status::{Complaint, Status};
+pub use steps::call_in;

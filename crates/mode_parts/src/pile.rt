@@ -2,6 +2,7 @@
 
 ghost use Rattle.std.specs.Prelude.{◌≡◌, ◌≤◌, ◌+◌, ◌++◌, ◌∷◌, [], ℕ, List, length, IfOk, OnOk};
 ghost use Rattle.std.specs.Option.{ForSome};
+ghost use Rattle.capture_loop.specs.declared.job.TheConstants.{PACKET_LIMIT};
 ghost use Rattle.mode_parts.specs.Callings.{calling_way};
 ghost use Rattle.mode_parts.specs.Piles.{HoldsCalls};
 
@@ -53,12 +54,14 @@ impl Pile for CallPile {
 
     ghost way = { λ pile. calling_way pile.calling };
 
-    fn take(&mut self, number: u32, packet: &[u8]) -> Result<(), AllocError> {
+    ghost most = { PACKET_LIMIT };
+
+    fn take(&mut self, number: u64, packet: &[u8]) -> Result<(), AllocError> {
         // Most often there is none, and it costs to give one up.
         if self.dealt.is_some() {
             self.dealt = None;
         }
-        keep_call(&self.calling, packet, number, &mut self.calls)?;
+        keep_call(&self.calling, packet, number as u32, &mut self.calls)?;
         self.packets += 1;
         Ok(())
     }
@@ -69,7 +72,7 @@ impl Pile for CallPile {
         Ok(())
     }
 
-    fn clear(&mut self, _before: u32) {
+    fn clear(&mut self, _before: u64) {
         self.dealt = None;
         self.calls.clear();
         self.packets = 0;

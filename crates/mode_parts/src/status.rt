@@ -52,7 +52,7 @@ impl Status {
         match self {
             Status::Memory => Some(Complaint::of("flowdir: out of memory")),
             Status::Usage => Some(Complaint::of(
-                "flowdir: usage: flowdir serve|play|make|trial|check|totals [options]",
+                "flowdir: usage: flowdir serve|play|make|trial|check|totals|flows [options]",
             )),
             Status::ReadFault => Some(Complaint::of("flowdir: read fault")),
             Status::WriteFault => Some(Complaint::of("flowdir: write fault")),

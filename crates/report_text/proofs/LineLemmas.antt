@@ -50,3 +50,10 @@ line_whole {old} {begun} {full} {new} {first} {words} head body end =
     ∙ append_assoc begun (spaced words) (codes "\n")
     ∙ ap (λ (text : List ℕ). text ++ (spaced words ++ codes "\n")) head.appended
     ∙ append_assoc old first (spaced words ++ codes "\n")
+
+-- three texts, appended one after another
+pub three_texts : (old first second third after_first after_second : List ℕ) → after_first ≡ old ++ first
+    → after_second ≡ after_first ++ second → after_second ++ third ≡ old ++ (first ++ (second ++ third))
+three_texts old first second third after_first after_second one two =
+    ap (λ (text : List ℕ). text ++ third) (two ∙ ap (λ (text : List ℕ). text ++ second) one)
+    ∙ append_assoc (old ++ first) second third ∙ append_assoc old first (second ++ third)

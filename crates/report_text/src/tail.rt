@@ -28,6 +28,17 @@ pub fn tail_text(out: &mut Vec<u8>, tail: &Tail) -> Result<(), AllocError>
     append(out, &lines)
 }
 
+/// Appends the line that says how the input came to its end.
+pub fn input_text(out: &mut Vec<u8>, ending: &Ending) -> Result<(), AllocError>
+    requires { IsEnding ending.now }
+    ensures appended { OnOk result (out.new.items ≡ out.old.items ++ input_line ending.now) }
+    ensures kept { OnErr result (out.new.items ≡ out.old.items) }
+{
+    let mut line = Line::new();
+    put_input(&mut line, ending);
+    append(out, &line)
+}
+
 // Appends the last lines.
 fn put_tail(out: &mut Line, tail: &Tail)
     requires format { IsEnding tail.now.ending }

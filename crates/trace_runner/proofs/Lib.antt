@@ -1,3 +1,3 @@
 pub mod TrialWords
 mod JudgedLemmas
-mod TotalsLemmas
+mod LoopLemmas

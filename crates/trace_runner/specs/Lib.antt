@@ -2,3 +2,4 @@ pub mod Judged
 pub mod Beyond
 pub mod Made
 pub mod Totalled
+pub mod Flowed

@@ -2,11 +2,13 @@
 #![tactic(auto)]
 
 mod checking;
+mod flows;
 mod making;
 mod running;
 mod totals;
 
 pub use capture_loop::{BATCH, MOST_BATCH, PACKET_LIMIT};
+pub use flows_runner::FLOW_LIMIT;
 pub use mode_parts::Status;
 pub use play_mode::{PLAY_LIMIT, playing_laws};
 pub use running::run;

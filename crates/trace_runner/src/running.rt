@@ -6,23 +6,26 @@ ghost use Rattle.capture_loop.specs.Leaves.{EndsBy};
 ghost use Rattle.pcapng_reader.specs.Input.{Input};
 ghost use Rattle.capture_faults.specs.declared.any_fault.AnyFault.{AnyFault};
 ghost use Rattle.command_line.specs.declared.plan.Plan.{Plan as APlan};
-ghost use Rattle.command_line.specs.declared.plan.Mode.TheVariants.{Check, Make, Play, Serve, Totals, Trial};
+ghost use Rattle.command_line.specs.declared.plan.Mode.TheVariants.{Check, Flows, Make, Play, Serve, Totals, Trial};
 ghost use Rattle.command_line.specs.Words.{IsInRange, reads};
 ghost use Rattle.serve_modes.specs.Headline.{LeavesAll, LeavesTried};
 ghost use Rattle.trace_runner.specs.Made.{LeavesMade};
 ghost use Rattle.mode_parts.specs.Callings.{calling_of, plain_calling};
 ghost use Rattle.packet_heads.specs.Links.{number_in};
 ghost use Rattle.mode_parts.specs.Statuses.{MarksFor, NoneFailed, ReadsFailed, WritesFailed, status_for, status_up_to};
-ghost use Rattle.capture_loop.specs.Input.{StopsAt, packet_limit};
+ghost use Rattle.capture_loop.specs.Input.{StopsAt, in_batches, packet_limit};
 ghost use Rattle.trace_runner.specs.Beyond.{ReadsNoPackets};
 ghost use Rattle.trace_runner.specs.Judged.{LeavesVerdict, status_of_text};
 ghost use Rattle.play_mode.specs.Playing.{LeavesPlayed, play_limit};
+ghost use Rattle.flows_runner.specs.declared.pile.TheConstants.{FLOW_LIMIT};
 ghost use Rattle.trace_runner.specs.Totalled.{LeavesTotals};
+ghost use Rattle.trace_runner.specs.Flowed.{LeavesFlows};
 
 use crate::checking::check;
+use crate::flows::flow;
 use crate::making::make;
 use crate::totals::count;
-use capture_loop::Means;
+use capture_loop::{Means, Portions};
 use command_line::{Mode, Plan, WordsFault, read_words};
 use edge_traits::{Gate, Sink, Source};
 use mode_parts::Status;
@@ -39,9 +42,12 @@ use std::thread::Threads;
 /// lines are put into the sink before more is read of the source. `play` reads a capture of up to `PLAY_LIMIT`
 /// packets, whose calls are made step by step, by one schedule, and puts the report at once. `make` puts a made
 /// capture, and `trial` serves it and puts how many calls had each reply. `totals` goes through a capture as `serve`
-/// does, and counts its packets by adders in threads. `check` reads a report, and puts the line of its verdict. The
-/// gate is passed before each call that is served and each add, and told of each answer. Where a capture has more
-/// packets than a mode takes, `beyond` is where the first of these starts, in bytes from the input's first.
+/// does, and counts its packets by adders in threads. `flows` goes through a capture of up to `FLOW_LIMIT` packets on
+/// one table that lasts, and puts the sessions that are left and the counts: behind each so many packets, if the words
+/// say so, and at the end. Each flow's calls are made by one caller, in packet order; the callers are threads. `check`
+/// reads a report, and puts the line of its verdict. The gate is passed before each call that is served and each add,
+/// and told of each answer. Where a capture has more packets than a mode takes, `beyond` is where the first of these
+/// starts, in bytes from the input's first.
 pub fn run<R: Threads + Sync, S: Source, K: Sink, G: Gate + Sync>(
     rt: &R,
     alloc: Global,
@@ -89,6 +95,9 @@ pub fn run<R: Threads + Sync, S: Source, K: Sink, G: Gate + Sync>(
     ensures beyond_totals { (plan : APlan) → reads (map string_bytes words.now) ≡ Some plan → plan.mode ≡ Totals →
         MarksFor result beyond.old beyond.new
         (StopsAt (number_in plan.framing.link) packet_limit (S.left source.old) (S.left source.new)) }
+    ensures beyond_flows { (plan : APlan) → reads (map string_bytes words.now) ≡ Some plan → plan.mode ≡ Flows →
+        MarksFor result beyond.old beyond.new
+        (StopsAt (number_in plan.framing.link) FLOW_LIMIT (S.left source.old) (S.left source.new)) }
     ensures beyond_none { (plan : APlan) → reads (map string_bytes words.now) ≡ Some plan →
         ReadsNoPackets plan.mode → beyond.new ≡ beyond.old }
 
@@ -113,6 +122,21 @@ pub fn run<R: Threads + Sync, S: Source, K: Sink, G: Gate + Sync>(
         NoneFailed (S.failed source.old) (S.failed source.new) →
         NoneFailed (K.failed sink.old) (K.failed sink.new) →
         (result ≡ status_for packets ending) ⊎ (result ≡ Status.Memory) }
+
+    // `flows`: what is put is the report of the input's packets, each flow's calls made by one caller on one table, in
+    // packet order. Each block tells of one order of all calls so far, with the plain map's replies, and of the
+    // sessions that it holds then.
+    ensures flowed { (plan : APlan) → reads (map string_bytes words.now) ≡ Some plan → plan.mode ≡ Flows →
+        LeavesFlows plan (EndsBy (S.failed source.old) (S.failed source.new)) (S.left source.old) (S.left source.new)
+        (K.put sink.old) (K.put sink.new) result }
+
+    // Where nothing fails, here too the input decides.
+    ensures exact_flows { (plan : APlan) (bytes : List ℕ) (packets : List (List ℕ)) (ending : Result ℕ AnyFault) →
+        reads (map string_bytes words.now) ≡ Some plan → plan.mode ≡ Flows →
+        S.left source.old ≡ Some bytes → Input (number_in plan.framing.link) bytes packets ending →
+        NoneFailed (S.failed source.old) (S.failed source.new) →
+        NoneFailed (K.failed sink.old) (K.failed sink.new) →
+        (result ≡ status_up_to FLOW_LIMIT packets ending) ⊎ (result ≡ Status.Memory) }
 
     // `check`: what is put is the line of the verdict that the text deserves; so it is `check yes` exactly if the text
     // is certified.
@@ -144,12 +168,12 @@ pub fn run<R: Threads + Sync, S: Source, K: Sink, G: Gate + Sync>(
     one_input();
     match read_words(alloc, words) {
         Ok(plan) => {
-            let batch = plan.batch;
+            let portions = Portions::of(plan.batch);
             let means = Means {
                 rt,
                 alloc,
                 gate,
-                batch,
+                portions,
             };
             run_plan(&means, &plan, source, sink, beyond)
         }
@@ -167,7 +191,7 @@ fn run_plan<R: Threads + Sync, S: Source, K: Sink, G: Gate + Sync>(
     beyond: &mut Option<u64>,
 ) -> Status
     requires range { IsInRange plan.now }
-    requires batch { means.now.batch ≡ plan.now.batch }
+    requires batch { means.now.portions ≡ in_batches plan.now.batch }
     ensures headline { plan.now.mode ≡ Serve →
         LeavesAll plan.now (EndsBy (S.failed source.old) (S.failed source.new)) (S.left source.old)
         (S.left source.new) (K.put sink.old) (K.put sink.new) result }
@@ -181,6 +205,9 @@ fn run_plan<R: Threads + Sync, S: Source, K: Sink, G: Gate + Sync>(
     ensures totals { plan.now.mode ≡ Totals →
         LeavesTotals plan.now (EndsBy (S.failed source.old) (S.failed source.new)) (S.left source.old)
         (S.left source.new) (K.put sink.old) (K.put sink.new) result }
+    ensures flowed { plan.now.mode ≡ Flows →
+        LeavesFlows plan.now (EndsBy (S.failed source.old) (S.failed source.new)) (S.left source.old)
+        (S.left source.new) (K.put sink.old) (K.put sink.new) result }
     ensures checked { plan.now.mode ≡ Check →
         LeavesVerdict (S.left source.old) (S.left source.new) (K.put sink.old) (K.put sink.new) result }
     ensures beyond { plan.now.mode ≡ Serve → MarksFor result beyond.old beyond.new
@@ -189,6 +216,8 @@ fn run_plan<R: Threads + Sync, S: Source, K: Sink, G: Gate + Sync>(
         (StopsAt (number_in plan.now.framing.link) play_limit (S.left source.old) (S.left source.new)) }
     ensures beyond_totals { plan.now.mode ≡ Totals → MarksFor result beyond.old beyond.new
         (StopsAt (number_in plan.now.framing.link) packet_limit (S.left source.old) (S.left source.new)) }
+    ensures beyond_flows { plan.now.mode ≡ Flows → MarksFor result beyond.old beyond.new
+        (StopsAt (number_in plan.now.framing.link) FLOW_LIMIT (S.left source.old) (S.left source.new)) }
     ensures beyond_none { ReadsNoPackets plan.now.mode → beyond.new ≡ beyond.old }
     ensures no_usage { result ≡ Status.Usage → ⊥ }
     ensures read_fault { result ≡ Status.ReadFault → Rose (S.faults source.old) (S.faults source.new) }
@@ -204,5 +233,6 @@ fn run_plan<R: Threads + Sync, S: Source, K: Sink, G: Gate + Sync>(
         Mode::Trial => try_plan(means, plan, sink),
         Mode::Check => check(means.alloc, source, sink),
         Mode::Totals => count(means, plan, source, sink, beyond),
+        Mode::Flows => flow(means, plan, source, sink, beyond),
     }
 }

@@ -5,7 +5,7 @@ ghost use Rattle.edge_traits.specs.Edge.{Rose};
 ghost use Rattle.capture_loop.specs.Leaves.{EndsBy};
 ghost use Rattle.command_line.specs.Words.{IsInRange};
 ghost use Rattle.mode_parts.specs.Statuses.{MarksFor, ReadsFailed, WritesFailed};
-ghost use Rattle.capture_loop.specs.Input.{StopsAt, packet_limit};
+ghost use Rattle.capture_loop.specs.Input.{StopsAt, in_batches, packet_limit};
 ghost use Rattle.packet_heads.specs.Links.{number_in};
 ghost use Rattle.trace_runner.specs.Totalled.{LeavesTotals};
 
@@ -25,7 +25,7 @@ pub(crate) fn count<R: Threads + Sync, S: Source, K: Sink, G: Gate + Sync>(
     beyond: &mut Option<u64>,
 ) -> Status
     requires range { IsInRange plan.now }
-    requires batch { means.now.batch ≡ plan.now.batch }
+    requires batch { means.now.portions ≡ in_batches plan.now.batch }
     ensures leaves { LeavesTotals plan.now (EndsBy (S.failed source.old) (S.failed source.new)) (S.left source.old)
         (S.left source.new) (K.put sink.old) (K.put sink.new) result }
     ensures read_fault { result ≡ Status.ReadFault → Rose (S.faults source.old) (S.faults source.new) }

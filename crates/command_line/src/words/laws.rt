@@ -6,7 +6,7 @@ ghost use Rattle.clap.specs.ValueTests.{is_unsigned_in};
 ghost use Rattle.clap.specs.Walk.{Text};
 ghost use Rattle.clap.specs.Words.{is_simple_and_free};
 ghost use Rattle.command_line.specs.Command.{flowdir_app};
-ghost use Rattle.command_line.specs.CommandLines.{Given, IsAskable, Lists, as_used, asked, default_plan, faults};
+ghost use Rattle.command_line.specs.CommandLines.{Given, IsAskable, Lists, as_used, asked, default_plan, faults, flows_plan};
 ghost use Rattle.command_line.specs.CommandLines.{line, line_of, tests};
 ghost use Rattle.command_line.specs.Words.{decimal, reads};
 ghost use Rattle.command_line.specs.declared.plan.Mode.{Mode};
@@ -22,6 +22,7 @@ use clap::error::ErrorKind;
 pub fn command_line_laws()
     ensures simple { is_simple_and_free flowdir_app ≡ true }
     ensures alone { reads (codes "serve" ∷ []) ≡ Some default_plan }
+    ensures alone_flows { reads (codes "flows" ∷ []) ≡ Some flows_plan }
     ensures spaced { reads (codes "serve" ∷ codes "--items" ∷ codes "3" ∷ [])
         ≡ Some (record default_plan { items = 3 }) }
     ensures any_items { (t : List ℕ) → reads (codes "serve" ∷ (codes "--items=" ++ t) ∷ [])
@@ -32,6 +33,8 @@ pub fn command_line_laws()
     ensures round_trip { (p : Plan) → IsAskable p → reads (line_of p) ≡ Some (as_used p p.mode) }
     ensures unused { (words : List Text) (p : Plan) → reads words ≡ Some p → as_used p p.mode ≡ p }
     ensures no_words { faults [] ≡ ErrorKind.MissingRequiredArgument ∷ [] }
+    ensures every_none { faults (codes "serve" ∷ codes "--every=0" ∷ [])
+        ≡ ErrorKind.ValueValidation ∷ [] }
     ensures twice { faults (codes "serve" ∷ codes "--items=3" ∷ codes "--items=3" ∷ [])
         ≡ ErrorKind.ArgumentConflict ∷ [] }
 {}

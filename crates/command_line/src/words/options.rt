@@ -89,9 +89,17 @@ pub const BATCH: NumberOption<'static> = NumberOption {
     default: 2_048,
 };
 
+/// After how many packets the sessions are printed again and again. Its number is used only where it is given.
+pub const EVERY: NumberOption<'static> = NumberOption {
+    name: "every",
+    least: 1,
+    most: 4_503_599_627_370_495,
+    default: 1,
+};
+
 /// The options with a number.
-pub static NUMBERS: [NumberOption<'static>; 10] = [
-    SEATS, ITEMS, DEPTH, START, SEED, NUMBER, PACKETS, TAGS, EXTENSIONS, BATCH,
+pub static NUMBERS: [NumberOption<'static>; 11] = [
+    SEATS, ITEMS, DEPTH, START, SEED, NUMBER, PACKETS, TAGS, EXTENSIONS, BATCH, EVERY,
 ];
 
 /// The options with a text.

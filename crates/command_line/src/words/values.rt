@@ -2,14 +2,15 @@
 //!
 //! An option that its mode does not use has no effect, and its text is not looked at.
 
-ghost use Rattle.std.specs.Prelude.{◌≡◌, ◌<◌, ◌≤◌, IfOk, IfSome, None, replicate};
+ghost use Rattle.std.specs.Prelude.{◌≡◌, ◌-◌, ◌<◌, ◌≤◌, ◌^◌, IfOk, IfSome, None, replicate};
 ghost use Rattle.std.specs.List.{AllByRecursion};
 ghost use Rattle.std.specs.Option.{option_map};
 ghost use Rattle.clap.specs.Words.{first_value, found_of};
 ghost use Rattle.step_counts.specs.Ranges.{IsWithin};
-ghost use Rattle.command_line.specs.Command.{depth, number_of, numbers, Passes};
+ghost use Rattle.command_line.specs.Command.{depth, number_of, numbers, start, Passes};
 ghost use Rattle.command_line.specs.Texts.{AreRowsInRange};
 ghost use Rattle.command_line.specs.Words.{asked_rows, asked_schedule, asked_stops, has_batches, has_seats, has_table};
+ghost use Rattle.command_line.specs.Words.{every_in, start_below};
 ghost use Rattle.command_line.specs.Words.{hashing_in};
 ghost use Rattle.command_line.specs.Words.{hashing_of, makes_capture, mode_of, number_if, number_in};
 ghost use Rattle.command_line.specs.Words.{plan_of, plan_with, rows_for, schedule_for, seats_in, share_in};
@@ -19,7 +20,7 @@ ghost use Rattle.command_line.specs.Words.{calls_in, calls_of, framing_in, link_
 use crate::plan::{Mode, Plan};
 use crate::plays::{Schedule, Stops};
 use crate::words::options::{
-    BATCH, DEPTH, EXTENSIONS, ITEMS, NUMBER, NumberOption, PACKETS, SEATS, SEED, START, TAGS,
+    BATCH, DEPTH, EVERY, EXTENSIONS, ITEMS, NUMBER, NumberOption, PACKETS, SEATS, SEED, START, TAGS,
 };
 use crate::words::plays::{schedule_of, stops_of};
 use crate::words::texts::rows_of;
@@ -73,6 +74,8 @@ fn mode_of(text: &str) -> Option<Mode>
         Some(Mode::Totals)
     } else if text == "check" {
         Some(Mode::Check)
+    } else if text == "flows" {
+        Some(Mode::Flows)
     } else {
         None
     }
@@ -83,7 +86,7 @@ fn has_seats(mode: Mode) -> bool
     ensures { result ≡ has_seats mode }
 {
     match mode {
-        Mode::Serve | Mode::Play | Mode::Trial | Mode::Totals => true,
+        Mode::Serve | Mode::Play | Mode::Trial | Mode::Totals | Mode::Flows => true,
         Mode::Make | Mode::Check => false,
     }
 }
@@ -93,7 +96,7 @@ fn has_table(mode: Mode) -> bool
     ensures { result ≡ has_table mode }
 {
     match mode {
-        Mode::Serve | Mode::Play | Mode::Trial => true,
+        Mode::Serve | Mode::Play | Mode::Trial | Mode::Flows => true,
         Mode::Make | Mode::Totals | Mode::Check => false,
     }
 }
@@ -103,7 +106,7 @@ fn makes_capture(mode: Mode) -> bool
     ensures { result ≡ makes_capture mode }
 {
     match mode {
-        Mode::Serve | Mode::Play | Mode::Totals | Mode::Check => false,
+        Mode::Serve | Mode::Play | Mode::Totals | Mode::Check | Mode::Flows => false,
         Mode::Make | Mode::Trial => true,
     }
 }
@@ -113,7 +116,7 @@ fn reads_capture(mode: Mode) -> bool
     ensures { result ≡ reads_capture mode }
 {
     match mode {
-        Mode::Serve | Mode::Play | Mode::Totals => true,
+        Mode::Serve | Mode::Play | Mode::Totals | Mode::Flows => true,
         Mode::Make | Mode::Trial | Mode::Check => false,
     }
 }
@@ -123,7 +126,7 @@ fn has_batches(mode: Mode) -> bool
     ensures { result ≡ has_batches mode }
 {
     match mode {
-        Mode::Serve | Mode::Trial | Mode::Totals => true,
+        Mode::Serve | Mode::Trial | Mode::Totals | Mode::Flows => true,
         Mode::Play | Mode::Make | Mode::Check => false,
     }
 }
@@ -144,6 +147,22 @@ fn number_if(uses: bool, matches: &ArgMatches<'_>, option: &NumberOption<'_>) ->
     }
 }
 
+/// The starting depth that the words give, where it is at most the greatest that they give.
+fn start_below(matches: &ArgMatches<'_>) -> Option<u32>
+    requires { AllByRecursion (Passes (found_of matches.now)) numbers }
+    ensures start { result ≡ start_below (number_in (first_value (found_of matches.now)) depth)
+        (number_in (first_value (found_of matches.now)) start) }
+    ensures fits { IfSome result (λ start.
+        start ≤ number_in (first_value (found_of matches.now)) depth) }
+{
+    let start = number(matches, &START);
+    if start <= number(matches, &DEPTH) {
+        Some(start as u32)
+    } else {
+        None
+    }
+}
+
 /// The starting depth, which is at most the greatest.
 fn start_in(mode: Mode, matches: &ArgMatches<'_>) -> Option<u32>
     requires { AllByRecursion (Passes (found_of matches.now)) numbers }
@@ -151,11 +170,9 @@ fn start_in(mode: Mode, matches: &ArgMatches<'_>) -> Option<u32>
     ensures fits { IfSome result (λ start.
         start ≤ number_if (has_table mode) (first_value (found_of matches.now)) depth) }
 {
-    let start = number_if(has_table(mode), matches, &START);
-    if start <= number_if(has_table(mode), matches, &DEPTH) {
-        Some(start as u32)
-    } else {
-        None
+    match mode {
+        Mode::Serve | Mode::Play | Mode::Trial => start_below(matches),
+        Mode::Make | Mode::Totals | Mode::Check | Mode::Flows => Some(START.default as u32),
     }
 }
 
@@ -181,7 +198,7 @@ fn hashing_in(mode: Mode, matches: &ArgMatches<'_>) -> Option<Hashing>
             number(matches, &SEED),
         ),
         Mode::Make | Mode::Totals | Mode::Check => Some(Hashing::Mix(SEED.default)),
-        Mode::Trial => Some(Hashing::Mix(number(matches, &SEED))),
+        Mode::Trial | Mode::Flows => Some(Hashing::Mix(number(matches, &SEED))),
     }
 }
 
@@ -205,7 +222,7 @@ fn share_in(mode: Mode, matches: &ArgMatches<'_>) -> Option<Share>
     match mode {
         Mode::Serve | Mode::Play => share_of(text(matches, "share", "round")),
         Mode::Make | Mode::Totals | Mode::Check => Some(Share::Round),
-        Mode::Trial => Some(Share::Flow),
+        Mode::Trial | Mode::Flows => Some(Share::Flow),
     }
 }
 
@@ -244,7 +261,9 @@ fn link_in(mode: Mode, matches: &ArgMatches<'_>) -> Option<Link>
     ensures { result ≡ link_in mode (first_value (found_of matches.now)) }
 {
     match mode {
-        Mode::Serve | Mode::Play | Mode::Totals => link_of(text(matches, "link", "1")),
+        Mode::Serve | Mode::Play | Mode::Totals | Mode::Flows => {
+            link_of(text(matches, "link", "1"))
+        }
         Mode::Make | Mode::Trial | Mode::Check => Some(Link::Ethernet),
     }
 }
@@ -293,7 +312,23 @@ fn calls_in(mode: Mode, matches: &ArgMatches<'_>) -> Option<CallRule>
 {
     match mode {
         Mode::Serve | Mode::Play => calls_of(text(matches, "calls", "sessions")),
+        Mode::Flows => calls_of(text(matches, "calls", "flows")),
         Mode::Make | Mode::Trial | Mode::Totals | Mode::Check => Some(CallRule::Sessions),
+    }
+}
+
+/// After how many packets the sessions are printed again and again, where it is given.
+fn every_in(mode: Mode, matches: &ArgMatches<'_>) -> Option<u64>
+    requires { AllByRecursion (Passes (found_of matches.now)) numbers }
+    ensures every { result ≡ every_in mode (first_value (found_of matches.now)) }
+    ensures within { IfSome result (IsWithin 1 (2 ^ 52 - 1)) }
+{
+    match mode {
+        Mode::Flows => match matches.get_str("every") {
+            Some(_) => Some(number(matches, &EVERY)),
+            None => None,
+        },
+        Mode::Serve | Mode::Play | Mode::Make | Mode::Trial | Mode::Totals | Mode::Check => None,
     }
 }
 
@@ -322,7 +357,7 @@ fn rows_for(
 {
     match mode {
         Mode::Serve | Mode::Play => asked_rows(alloc, matches.get_str("rows")),
-        Mode::Make | Mode::Trial | Mode::Totals | Mode::Check => Ok(Some(None)),
+        Mode::Make | Mode::Trial | Mode::Totals | Mode::Check | Mode::Flows => Ok(Some(None)),
     }
 }
 
@@ -364,9 +399,8 @@ fn schedule_for(
 {
     match mode {
         Mode::Play => asked_schedule(alloc, seats, matches.get_str("schedule")),
-        Mode::Serve | Mode::Make | Mode::Trial | Mode::Totals | Mode::Check => {
-            asked_schedule(alloc, seats, None)
-        }
+        Mode::Serve | Mode::Make | Mode::Trial | Mode::Totals | Mode::Check | Mode::Flows =>
+            asked_schedule(alloc, seats, None),
     }
 }
 
@@ -409,9 +443,8 @@ fn stops_in(
 {
     match mode {
         Mode::Play => asked_stops(alloc, seats, matches.get_str("stop")),
-        Mode::Serve | Mode::Make | Mode::Trial | Mode::Totals | Mode::Check => {
-            asked_stops(alloc, seats, None)
-        }
+        Mode::Serve | Mode::Make | Mode::Trial | Mode::Totals | Mode::Check | Mode::Flows =>
+            asked_stops(alloc, seats, None),
     }
 }
 
@@ -452,6 +485,7 @@ fn plan_with(
         batch: number_if(has_batches(mode), matches, &BATCH) as u32,
         framing,
         calls,
+        every: every_in(mode, matches),
     })
 }
 

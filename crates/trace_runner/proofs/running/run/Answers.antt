@@ -3,13 +3,15 @@ use Rattle.command_line.specs.declared.plan.Plan.{Plan}
 use Rattle.packet_heads.specs.Links.{number_in}
 use Rattle.mode_parts.specs.Callings.{calling_of, plain_calling}
 use Rattle.pcapng_reader.specs.Input.{Input}
-use Rattle.capture_loop.specs.Input.{StopsAt, packet_limit}
+use Rattle.capture_loop.specs.Input.{StopsAt, in_batches, packet_limit}
 use Rattle.mode_parts.specs.Statuses.{MarksFor}
 use Rattle.trace_runner.specs.Beyond.{ReadsNoPackets}
 use Rattle.serve_modes.specs.Headline.{LeavesAll, LeavesTried}
 use Rattle.trace_runner.specs.Made.{LeavesMade}
 use Rattle.play_mode.specs.Playing.{LeavesPlayed, play_limit}
 use Rattle.trace_runner.specs.Totalled.{LeavesTotals}
+use Rattle.trace_runner.specs.Flowed.{LeavesFlows, portions_of}
+use Rattle.flows_runner.specs.declared.pile.TheConstants.{FLOW_LIMIT}
 use Rattle.capture_loop.specs.Leaves.{EndsBy}
 use Rattle.capture_loop.proofs.LeavesLemmas.{Keeps-same}
 use Rattle.mode_parts.proofs.ExactLemmas.{not_read, not_written}
@@ -17,7 +19,7 @@ use Rattle.serve_modes.proofs.HeadlineLemmas.{leaves_nothing}
 use Rattle.serve_modes.proofs.ExactServes.{Leaves-exact}
 use Rattle.trace_runner.proofs.JudgedLemmas.{check_exact, check_nothing}
 use Rattle.play_mode.proofs.PlayLemmas.{LeavesPlay-exact, LeavesPlayed-nothing}
-use Rattle.trace_runner.proofs.TotalsLemmas.{totals_exact, totals_nothing}
+use Rattle.trace_runner.proofs.LoopLemmas.{flows_nothing, loop_exact, totals_nothing}
 use Rattle.trace_runner.proofs.TrialWords.{no_rows}
 use Rattle.trace_runner.proofs.running.run.Goals as goal
 
@@ -107,8 +109,8 @@ pub returns-in-Ok-clause-exact_totals : goal.returns-in-Ok-clause-exact_totals
 returns-in-Ok-clause-exact_totals g c = λ plan bytes packets ending asked counts told capture no_read no_write.
     let same : c.in-Ok.plan ≡ plan = same_plan (sym c.in-Ok.ensures.answers ∙ asked) in
     let left = c.run_plan.ensures.totals (ap (λ (p : Plan). p.mode) same ∙ counts) in
-    totals_exact c.in-Ok.plan.batch (number_in c.in-Ok.plan.framing.link) _ _ _ bytes _ _ _ left.0 c.run_plan.result
-    packets ending left.1
+    loop_exact (in_batches c.in-Ok.plan.batch) (number_in c.in-Ok.plan.framing.link) _ _ _ bytes _ _ _ left.0
+    c.run_plan.result packets ending left.1
     (c.one_input.ensures (number_in c.in-Ok.plan.framing.link) bytes)
     (subst (λ (p : Plan). Input (number_in p.framing.link) bytes packets ending) (sym same) capture)
     (not_read _ _ _ no_read c.run_plan.ensures.reads) (not_written _ _ _ no_write c.run_plan.ensures.writes)
@@ -117,6 +119,32 @@ returns-in-Ok-clause-exact_totals g c = λ plan bytes packets ending asked count
 pub returns-in-Err-Memory-clause-totals : goal.returns-in-Err-Memory-clause-totals
 returns-in-Err-Memory-clause-totals g c = λ plan asked counts.
     totals_nothing plan (EndsBy (g.S.Source.failed c.args.source.now) (g.S.Source.failed c.args.source.now))
+    (g.S.Source.left c.args.source.now) (g.S.Source.left c.args.source.now) (g.K.Sink.put c.args.sink.now)
+    (g.K.Sink.put c.args.sink.now) (Keeps-same (g.K.Sink.put c.args.sink.now))
+
+pub returns-in-Ok-clause-flowed : goal.returns-in-Ok-clause-flowed
+returns-in-Ok-clause-flowed g c = λ plan asked flows.
+    let same : c.in-Ok.plan ≡ plan = same_plan (sym c.in-Ok.ensures.answers ∙ asked) in
+    subst (λ (p : Plan). LeavesFlows p
+    (EndsBy (g.S.Source.failed c.args.source.now) (g.S.Source.failed c.run_plan.new.source))
+    (g.S.Source.left c.args.source.now) (g.S.Source.left c.run_plan.new.source) (g.K.Sink.put c.args.sink.now)
+    (g.K.Sink.put c.run_plan.new.sink) c.run_plan.result) same
+    (c.run_plan.ensures.flowed (ap (λ (p : Plan). p.mode) same ∙ flows))
+
+pub returns-in-Ok-clause-exact_flows : goal.returns-in-Ok-clause-exact_flows
+returns-in-Ok-clause-exact_flows g c = λ plan bytes packets ending asked flows told capture no_read no_write.
+    let same : c.in-Ok.plan ≡ plan = same_plan (sym c.in-Ok.ensures.answers ∙ asked) in
+    let left = c.run_plan.ensures.flowed (ap (λ (p : Plan). p.mode) same ∙ flows) in
+    loop_exact (portions_of c.in-Ok.plan) (number_in c.in-Ok.plan.framing.link) _ _ _ bytes _ _ _ left.0
+    c.run_plan.result packets ending left.1
+    (c.one_input.ensures (number_in c.in-Ok.plan.framing.link) bytes)
+    (subst (λ (p : Plan). Input (number_in p.framing.link) bytes packets ending) (sym same) capture)
+    (not_read _ _ _ no_read c.run_plan.ensures.reads) (not_written _ _ _ no_write c.run_plan.ensures.writes)
+    (left.2.told bytes told)
+
+pub returns-in-Err-Memory-clause-flowed : goal.returns-in-Err-Memory-clause-flowed
+returns-in-Err-Memory-clause-flowed g c = λ plan asked flows.
+    flows_nothing plan (EndsBy (g.S.Source.failed c.args.source.now) (g.S.Source.failed c.args.source.now))
     (g.S.Source.left c.args.source.now) (g.S.Source.left c.args.source.now) (g.K.Sink.put c.args.sink.now)
     (g.K.Sink.put c.args.sink.now) (Keeps-same (g.K.Sink.put c.args.sink.now))
 
@@ -160,6 +188,14 @@ returns-in-Ok-clause-beyond_totals g c = λ plan asked counts.
     (StopsAt (number_in p.framing.link) packet_limit (g.S.Source.left c.args.source.now)
     (g.S.Source.left c.run_plan.new.source))) same
     (c.run_plan.ensures.beyond_totals (ap (λ (p : Plan). p.mode) same ∙ counts))
+
+pub returns-in-Ok-clause-beyond_flows : goal.returns-in-Ok-clause-beyond_flows
+returns-in-Ok-clause-beyond_flows g c = λ plan asked flows.
+    let same : c.in-Ok.plan ≡ plan = same_plan (sym c.in-Ok.ensures.answers ∙ asked) in
+    subst (λ (p : Plan). MarksFor c.run_plan.result c.args.beyond.now c.run_plan.new.beyond
+    (StopsAt (number_in p.framing.link) FLOW_LIMIT (g.S.Source.left c.args.source.now)
+    (g.S.Source.left c.run_plan.new.source))) same
+    (c.run_plan.ensures.beyond_flows (ap (λ (p : Plan). p.mode) same ∙ flows))
 
 pub returns-in-Ok-clause-beyond_none : goal.returns-in-Ok-clause-beyond_none
 returns-in-Ok-clause-beyond_none g c = λ plan asked none.

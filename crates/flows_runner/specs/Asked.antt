@@ -1,0 +1,57 @@
+-- What is asked of a run that goes through flows, and the table that it is served on.
+-- Source: docs/FORMATS.md, the report of flows.
+use Rattle.std.specs.Prelude.{◌≡◌, ◌<◌, ◌≤◌, ℕ, ◌%◌, []}
+use Rattle.std.specs.Option.{ForSome}
+use Rattle.capture_loop.specs.declared.job.TheConstants.{MOST_BATCH}
+use Rattle.capture_loop.specs.declared.portions.Portions.{Portions}
+use Rattle.flows_runner.specs.declared.pile.TheConstants.{FLOW_LIMIT}
+use Rattle.hash_bits.specs.declared.hashing.Hashing.TheVariants.{Mix}
+use Rattle.step_counts.specs.Made.{IsMadeOf}
+use Rattle.plain_map.specs.declared.keys.Key.{Key}
+use Rattle.plain_map.specs.declared.rules.Rules.{Rules}
+use Rattle.trace_share.specs.Deal.{flow_hash}
+use Rattle.report_text.specs.declared.flows.FlowsHead.{FlowsHead}
+use Rattle.lasting_model.specs.Plans.{Plan}
+use Rattle.flows_runner.specs.declared.asked.Asked.{Asked}
+
+-- a table opens so: as deep as it may be, and without pairs
+pub record IsPlanOf (asked : Asked) (plan : Plan) : Type 0 where
+  pub settings : IsMadeOf plan.settings asked.seats asked.items asked.depth asked.depth
+  pub hashing : plan.hashing ≡ Mix asked.seed
+  pub first : plan.first ≡ []
+
+-- the rules of the plain map
+abbrev pub rules_of : Asked → Rules
+rules_of asked = record { items = asked.items; depth = asked.depth; hashing = Mix asked.seed }
+
+-- the seat that makes the calls of a flow
+abbrev pub flow_seat : (seats : ℕ) → Key → ℕ
+flow_seat seats key = flow_hash key % seats
+
+-- what the head line tells
+abbrev pub head_of : Asked → FlowsHead
+head_of asked = record {
+  seats = asked.seats;
+  items = asked.items;
+  depth = asked.depth;
+  seed = asked.seed;
+  calls = asked.calling.calls;
+  every = asked.every;
+  batch = asked.batch;
+}
+
+-- it can be asked: numbers of seats, items and depth that a table may have, and a batch that the loop may have
+pub record CanBeAsked (asked : Asked) : Type 0 where
+  pub some_seats : 1 ≤ asked.seats
+  pub few_seats : asked.seats ≤ 8
+  pub some_items : 1 ≤ asked.items
+  pub few_items : asked.items ≤ 16
+  pub few_bits : asked.depth ≤ 12
+  pub some_packets : 1 ≤ asked.batch
+  pub few_packets : asked.batch ≤ MOST_BATCH
+  pub every : ForSome asked.every (λ every. 0 < every)
+
+-- so the input is cut
+abbrev pub IsPortionsOf : Asked → Portions → Type 0
+IsPortionsOf asked portions =
+    portions ≡ record { batch = asked.batch; every = asked.every; limit = FLOW_LIMIT }

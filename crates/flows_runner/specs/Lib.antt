@@ -1,0 +1,9 @@
+pub mod Asked
+pub mod Piles
+pub mod Served
+pub mod Blocks
+pub mod Told
+pub mod Going
+pub mod BlockLaws
+pub mod Hands
+pub mod JobLaws
