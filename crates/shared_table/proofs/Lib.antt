@@ -3,6 +3,8 @@ mod Fronts
 mod Loads
 mod GlanceLemmas
 mod ReaderLemmas
+mod Learning
+mod ZerosLemmas
 pub mod Moves
 pub mod StepLemmas
 mod Parts

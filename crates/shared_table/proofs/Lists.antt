@@ -1,5 +1,5 @@
 -- Lists of views, and events one after the other.
-use Rattle.std.proofs.Common.{◌≡◌, ◌≢◌, ℕ, zero, suc, ◌+◌, ◌<◌, Bool, cond, List, [], ◌∷◌, ◌++◌, length, get_or, set, map, inl, inr, sym, ap, ◌∙◌, subst, arith, get_or-set_same, get_or-set_other, length-set}
+use Rattle.std.proofs.Common.{◌≡◌, ◌≢◌, ℕ, zero, suc, ◌+◌, ◌<◌, Bool, cond, List, [], ◌∷◌, ◌++◌, length, get_or, set, map, inl, inr, refl, sym, ap, ◌∙◌, subst, arith, get_or-set_same, get_or-set_other, length-set}
 use Rattle.std.specs.Prelude.{All, sum_by, count_by}
 use Rattle.std.proofs.lemmas.Bool.{cases_eq}
 use Rattle.std.proofs.lemmas.List.Sums.{sum_by-cons, sum_by-set, get_or-le-sum_by, sum_by-append}
@@ -19,6 +19,13 @@ pub elem_map : {X Y : Type 0} (f : X → Y) (xs : List X) (i : ℕ) (x : X) → 
 elem_map f [] i x e = absurd (some-ne-none x (sym e))
 elem_map f (y ∷ ys) zero x e = ap some (ap f (some-injective y x e))
 elem_map f (y ∷ ys) (suc i) x e = elem_map f ys i x e
+
+-- what was put at a place stands there
+pub elem_set : {X : Type 0} (xs : List X) (i : ℕ) (x y : X) → get_elem? xs i ≡ some x →
+    get_elem? (set xs i y) i ≡ some y
+elem_set [] i x y e = absurd (some-ne-none x (sym e))
+elem_set (z ∷ zs) zero x y e = refl
+elem_set (z ∷ zs) (suc i) x y e = elem_set zs i x y e
 
 -- where the sum is that of one place alone, it is 0 at every other
 module _ {X : Type 0} (f : X → ℕ) where

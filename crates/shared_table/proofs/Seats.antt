@@ -23,7 +23,9 @@ use Rattle.seat_calls.specs.Desks.{settings_at}
 use Rattle.seat_calls.specs.Rooms.{HasAllRoom}
 use Rattle.shared_table.specs.declared.rule.Plan.{Plan}
 use Rattle.shared_table.specs.declared.view.View.{View}
+use Rattle.shared_table.specs.declared.zeros.Zeros.{Zeros}
 use Rattle.shared_table.specs.Rule.{M, IsReached}
+use Rattle.shared_table.specs.Zeros.{HasZeros}
 use Rattle.shared_table.specs.Calls.{Ended, holding_of}
 use Rattle.shared_table.specs.Values.{Answers, IsSame}
 use Rattle.shared_table.specs.Insides.{SeatStands, holding_in, seat_value}
@@ -104,10 +106,11 @@ module _ (packet : ℕ) (call : Call) (made : Record) (used : SeatRows) (key : P
   }
 
   -- and the seat stands between two calls again
-  pub stands_after : (room room_then : Room) (used_was sizes need : SeatRows) (answered : ℕ) →
-      SeatStands desk room views used_was sizes need answered →
-      HasAllRoom (settings_at desk) room_then → SeatStands desk room_then views_then used sizes need (answered + 1)
-  stands_after room room_then used_was sizes need answered stands roomy =
+  pub stands_after : (room room_then : Room) (used_was sizes need : SeatRows) (answered : ℕ) (zeros zeros_then : Zeros) →
+      SeatStands desk room views used_was sizes need answered zeros → HasAllRoom (settings_at desk) room_then →
+      HasZeros (holding_of key me_then) zeros_then →
+      SeatStands desk room_then views_then used sizes need (answered + 1) zeros_then
+  stands_after room room_then used_was sizes need answered zeros zeros_then stands roomy has =
       let h : Holding = holding_in desk views in
       let k : Holding = holding_in desk views_then in
       let b = stands.between in
@@ -131,4 +134,5 @@ module _ (packet : ℕ) (call : Call) (made : Record) (used : SeatRows) (key : P
           need_is = b.need_is ∙ ap (λ (s : Setup). need_of (settings_of s)) (sym ended_here.setup);
         };
         room_is = roomy;
+        has_zeros = subst (λ (x : Holding). HasZeros x zeros_then) held_then has;
       }

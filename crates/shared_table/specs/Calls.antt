@@ -16,17 +16,13 @@ use Rattle.seat_calls.specs.Going.{Going, on}
 use Rattle.shared_table.specs.declared.view.View.{View}
 use Rattle.shared_table.specs.declared.rule.Plan.{Plan}
 use Rattle.shared_table.specs.SeatValues.{SeatValue}
-use Rattle.shared_table.specs.Rule.{M, alone, IsReached, plain}
+use Rattle.shared_table.specs.declared.zeros.Zeros.{Zeros}
+use Rattle.shared_table.specs.Rule.{M, alone, IsReached, Learned, late_state, plain, with_late}
+use Rattle.shared_table.specs.Zeros.{AreLate, HasZeros}
 
 -- the token of a seat of this table
 abbrev pub Token : Type 0
 Token = Seat (Unit {0}) View
-
--- as much more is known, with so many events of the seat
-pub record Learned (seat own : ℕ) (known now : List Event) : Type 0 where
-  pub later : List Event
-  pub is : now ≡ known ++ later
-  pub counts : events_of seat later ≡ own
 
 -- so far the call has taken these steps, and answered nothing
 pub record Under (asked : ℕ × Call) (first now : Holding) : Type 0 where
@@ -55,10 +51,13 @@ pub record Ended (asked : ℕ × Call) (first last : Holding) (made : Record) (u
   pub number : made.number ≡ length first.state.account.records + 1
   pub learned : Learned first.seat made.steps first.known last.known
 
--- what contracts see of a call on its way
+-- what contracts see of a call on its way: the seat as the table knows it, how many steps it has yet to take late, and
+-- which words of its own are 0
 pub record RunningValue : Type 0 where
   pub table_id : TableId
   pub holding : Holding
+  pub late : ℕ
+  pub zeros : Zeros
   pub done : Bool
 
 -- the first of the holdings, or this one
@@ -71,8 +70,14 @@ abbrev pub holding_of : Plan → M → Holding
 holding_of key me = first_or (record { setup = plain key; seat = 0; state = fresh_seat; known = [] }) me.0.bundle
 
 -- what contracts see of a call, by its token
-abbrev pub running_value : Plan → Token → Bool → RunningValue
-running_value key token done = record { table_id = token.table_id; holding = holding_of key token.me; done = done }
+abbrev pub running_value : Plan → Token → (late : ℕ) → Zeros → Bool → RunningValue
+running_value key token late zeros done = record {
+  table_id = token.table_id;
+  holding = holding_of key token.me;
+  late = late;
+  zeros = zeros;
+  done = done;
+}
 
 -- where the call stands: an idle seat begins it
 abbrev pub going_of : ℕ × Call → Holding → Going
@@ -84,25 +89,34 @@ going_of asked h = record {
   phase = phase_in h.state.stand;
 }
 
--- a call that has ended has no next step
+-- a call stands where it stands after its late steps, and one that has ended has no next step
 abbrev pub now_of : ℕ × Call → RunningValue → Going
-now_of asked v = if v.done then on (going_of asked v.holding) Stuck else going_of asked v.holding
+now_of asked v =
+    if v.done then on (going_of asked (with_late asked v.late v.holding)) Stuck
+    else going_of asked (with_late asked v.late v.holding)
 
--- the call had begun with this seat
-pub record Began (asked : ℕ × Call) (was : List SeatValue) (table_id : TableId) (now : Holding) : Type 0 where
-  pub first : SeatValue
-  pub is : was ≡ first ∷ []
-  pub table : table_id ≡ first.table_id
-  pub under : Under asked first.holding now
+-- the call had begun with this seat. What the table knows of it are its steps but the late ones
+pub record Began (asked : ℕ × Call) (was : List SeatValue) (table_id : TableId) (late : ℕ) (now : Holding) : Type 0
+  where
+    pub first : SeatValue
+    pub is : was ≡ first ∷ []
+    pub table : table_id ≡ first.table_id
+    pub under : Under asked first.holding (with_late asked late now)
+    pub own : ℕ
+    pub since : Learned first.holding.seat own first.holding.known now.known
+    pub all : (flight_in (late_state asked late now).account (late_state asked late now).stand asked).steps ≡ own + late
 
 -- the token is that of one seat of the table, and a call that has not ended had begun with it
 pub record IsRunning (asked : ℕ × Call) (was : List SeatValue) (key : Plan) (table_id : TableId) (token : Token)
-    (done : Bool) : Type 0 where
+    (late : ℕ) (zeros : Zeros) (done : Bool) : Type 0 where
   pub table : token.table_id ≡ table_id
   pub size : table_id.words ≡ word_count (plain key).shape
   pub one : token.me ≡ alone (holding_of key token.me)
   pub setup : (holding_of key token.me).setup ≡ plain key
-  pub began : done ≡ false → Began asked was table_id (holding_of key token.me)
+  pub here : IsReached (holding_of key token.me)
+  pub has_zeros : HasZeros (holding_of key token.me) zeros
+  pub are_late : AreLate asked zeros late (holding_of key token.me)
+  pub began : done ≡ false → Began asked was table_id late (holding_of key token.me)
 
 -- the call has ended with this record, at the seat that had begun it
 abbrev pub HasAnswered : ℕ × Call → List SeatValue → RunningValue → Record → SeatRows → Type 0

@@ -18,7 +18,9 @@ use Rattle.seat_calls.specs.Rooms.{HasAllRoom}
 use Rattle.shared_table.specs.declared.view.View.{View}
 use Rattle.shared_table.specs.declared.directory.Directory.TheInside as directory
 use Rattle.shared_table.specs.declared.in_place.ClosedTable.TheInside as closed
+use Rattle.shared_table.specs.declared.zeros.Zeros.{Zeros}
 use Rattle.shared_table.specs.Rule.{plain, IsReached}
+use Rattle.shared_table.specs.Zeros.{HasZeros}
 use Rattle.shared_table.specs.Seating.{no_call}
 use Rattle.shared_table.specs.Calls.{first_or, going_of}
 use Rattle.shared_table.specs.SeatValues.{SeatValue}
@@ -57,12 +59,13 @@ pub record IsBetween (desk : Desk) (used sizes need : SeatRows) (answered : ℕ)
   pub sizes_are : sizes ≡ sizes_of h.setup.shape h.seat
   pub need_is : need ≡ need_of (settings_of h.setup)
 
--- a seat has one view, which holds it alone, and room for each of its tries
-pub record SeatStands (desk : Desk) (room : Room) (views : List View) (used sizes need : SeatRows)
-    (answered : ℕ) : Type 0 where
+-- a seat has one view, which holds it alone, room for each of its tries, and words of its own that are 0
+pub record SeatStands (desk : Desk) (room : Room) (views : List View) (used sizes need : SeatRows) (answered : ℕ)
+    (zeros : Zeros) : Type 0 where
   pub one : views ≡ (record { bundle = holding_in desk views ∷ []; fronts = [] }) ∷ []
   pub between : IsBetween desk used sizes need answered (holding_in desk views)
   pub room_is : HasAllRoom (settings_at desk) room
+  pub has_zeros : HasZeros (holding_in desk views) zeros
 
 -- what contracts see of a directory
 abbrev pub table_value : directory.Inside → TableValue

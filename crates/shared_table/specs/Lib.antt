@@ -2,6 +2,7 @@ pub mod SeatValues
 pub mod Fronts
 pub mod Seen
 pub mod Rule
+pub mod Zeros
 pub mod Readings
 pub mod Seating
 pub mod Calls

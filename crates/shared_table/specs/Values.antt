@@ -15,8 +15,7 @@ use Rattle.table_model.specs.Worlds.{IsRun, world_after, seat_in}
 use Rattle.table_model.specs.Promises.{HasSteps, IsAnsweredBy, words_in}
 use Rattle.shared_table.specs.Seating.{fresh}
 use Rattle.shared_table.specs.SeatValues.{SeatValue, IsIdle, account_of}
-use Rattle.shared_table.specs.Rule.{IsReached}
-use Rattle.shared_table.specs.Calls.{Learned}
+use Rattle.shared_table.specs.Rule.{IsReached, Learned}
 
 -- a table that runs: which one, and what it was opened with
 pub record TableValue : Type 0 where

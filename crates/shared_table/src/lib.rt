@@ -1,6 +1,7 @@
 //! The directory that threads share: its words, its seats, and their calls.
 #![tactic(auto)]
 
+mod accesses;
 mod blank;
 mod caller;
 mod closed;
@@ -14,6 +15,7 @@ mod rule;
 mod running;
 mod seat;
 mod view;
+mod zeros;
 
 pub use blank::Blank;
 pub use caller::Caller;

@@ -45,13 +45,26 @@ impl Asked for Brand {
     ghost was = { [] };
 }
 
-/// One step of a seat.
-pub struct Acts<B> {
-    marker: PhantomData<B>,
+/// The call that a step is of, and how many steps are taken late with it. Each access picks them.
+pub trait Access {
+    ghost asked: { ℕ × Call };
+
+    ghost late: { ℕ };
 }
 
-impl<B: Asked> Play<(), View> for Acts<B> {
-    ghost then = { acted B.asked };
+impl Access for Brand {
+    ghost asked = { no_call };
+
+    ghost late = { 0 };
+}
+
+/// One access of a seat: its step, and right before it those that it takes late.
+pub struct Acts<A> {
+    marker: PhantomData<A>,
+}
+
+impl<A: Access> Play<(), View> for Acts<A> {
+    ghost then = { acted A.asked A.late };
 }
 
 /// One load of a reader.

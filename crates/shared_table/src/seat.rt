@@ -23,8 +23,9 @@ ghost use Rattle.shared_table.specs.Values.{Answers, IsOf, IsSame, refused_at, s
 
 use crate::directory::Directory;
 use crate::rooms::Rooms;
-use crate::running::{Token, run_lookup, run_update};
+use crate::running::{Hand, Token, run_lookup, run_update};
 use crate::view::View;
+use crate::zeros::Zeros;
 use atomic_table::Badge;
 use hash_bits::Hashing;
 use plain_map::{Call, Full, Key, Record, first_short};
@@ -48,6 +49,8 @@ pub struct Seat {
     pub(crate) need: SeatRows,
     // How many calls it has answered.
     pub(crate) answered: u32,
+    // The words of its own rows that are 0.
+    pub(crate) zeros: Zeros,
 }
 
 impl Model for Seat {
@@ -59,7 +62,7 @@ impl Model for Seat {
 
     ghost view = { λ s. seat_value s.desk s.badge.table_id s.badge.views };
 
-    ghost invariant = { λ s. SeatStands s.desk s.room s.badge.views s.used s.sizes s.need s.answered };
+    ghost invariant = { λ s. SeatStands s.desk s.room s.badge.views s.used s.sizes s.need s.answered s.zeros };
 }
 
 impl Seat {
@@ -192,15 +195,21 @@ impl Seat {
     {
         key.has_words();
         let badge = mem::replace(&mut self.badge, Badge::blank());
-        let (token, made) = run_lookup::<Brand>(
+        let hand = Hand {
+            token: badge.into_seat(),
+            zeros: self.zeros,
+        };
+        let (hand, made) = run_lookup::<Brand>(
             &directory.table.shared,
-            badge.into_seat(),
+            hand,
             &self.desk,
             packet,
             self.answered + 1,
             key,
         );
+        let Hand { token, zeros } = hand;
         self.badge = token.into_badge();
+        self.zeros = zeros;
         self.answered += 1;
         made
     }
@@ -262,9 +271,13 @@ impl Seat {
     {
         call.key().has_words();
         let badge = mem::replace(&mut self.badge, Badge::blank());
-        let (token, made) = run_update::<Brand>(
+        let hand = Hand {
+            token: badge.into_seat(),
+            zeros: self.zeros,
+        };
+        let (hand, made) = run_update::<Brand>(
             &directory.table.shared,
-            badge.into_seat(),
+            hand,
             &self.desk,
             &mut self.room,
             &mut self.used,
@@ -272,7 +285,9 @@ impl Seat {
             self.answered + 1,
             call,
         );
+        let Hand { token, zeros } = hand;
         self.badge = token.into_badge();
+        self.zeros = zeros;
         self.answered += 1;
         made
     }
@@ -299,14 +314,17 @@ pub(crate) fn seated(
         bucket_words: 0,
         directory_rows: 0,
     };
+    let desk = Desk::new(*layout, hashing, number);
+    let sizes = layout.sizes(number);
     Seat {
         badge: token.into_badge(),
-        desk: Desk::new(*layout, hashing, number),
+        desk,
         room,
         used: none,
-        sizes: layout.sizes(number),
+        sizes,
         need: need(layout.settings()),
         answered: 0,
+        zeros: Zeros::all(&desk, &sizes),
     }
 }
 

@@ -12,40 +12,41 @@ returns-clause-same c =
     let s = c.self.inside in
     subst (λ (v : SeatValue). IsSame v (seat_value s.desk c.into_badge.result.table_id c.into_badge.result.views))
     c.self.view_is
-    (same_after c.args.packet c.args.call.now c.run_update-token.result.1 _ c.directory.inside.table.shared.key s.desk
+    (same_after c.args.packet c.args.call.now c.run_update-hand.result.1 _ c.directory.inside.table.shared.key s.desk
     s.badge.table_id c.into_badge.result.table_id
-    (c.into_badge.ensures.0 ∙ c.run_update-token.ensures.table ∙ c.into_seat.ensures.0
+    (c.into_badge.ensures.0 ∙ c.run_update-hand.ensures.table ∙ c.into_seat.ensures.0
     ∙ ap (λ (b : Badge View). b.table_id) c.replace-badge.ensures.value)
     s.badge.views c.into_seat.result.me (sym (ap (λ (b : Badge View). b.views) c.replace-badge.ensures.value)
     ∙ c.into_seat.ensures.2) c.self.invariant.one
-    c.into_badge.result.views c.run_update-token.result.0.me c.into_badge.ensures.2 c.run_update-token.ensures.one
-    c.run_update-token.ensures.ended)
+    c.into_badge.result.views c.run_update-hand.result.0.token.me c.into_badge.ensures.2 c.run_update-hand.ensures.one
+    c.run_update-hand.ensures.ended)
 
 pub returns-clause-answered : goal.returns-clause-answered
 returns-clause-answered c =
     let s = c.self.inside in
     subst (λ (v : SeatValue). Answers c.args.packet c.args.call.now v
-    (seat_value s.desk c.into_badge.result.table_id c.into_badge.result.views) c.run_update-token.result.1)
+    (seat_value s.desk c.into_badge.result.table_id c.into_badge.result.views) c.run_update-hand.result.1)
     c.self.view_is
-    (answers_after c.args.packet c.args.call.now c.run_update-token.result.1 _ c.directory.inside.table.shared.key
+    (answers_after c.args.packet c.args.call.now c.run_update-hand.result.1 _ c.directory.inside.table.shared.key
     s.desk
     s.badge.table_id c.into_badge.result.table_id
-    (c.into_badge.ensures.0 ∙ c.run_update-token.ensures.table ∙ c.into_seat.ensures.0
+    (c.into_badge.ensures.0 ∙ c.run_update-hand.ensures.table ∙ c.into_seat.ensures.0
     ∙ ap (λ (b : Badge View). b.table_id) c.replace-badge.ensures.value)
     s.badge.views c.into_seat.result.me (sym (ap (λ (b : Badge View). b.views) c.replace-badge.ensures.value)
     ∙ c.into_seat.ensures.2) c.self.invariant.one
-    c.into_badge.result.views c.run_update-token.result.0.me c.into_badge.ensures.2 c.run_update-token.ensures.one
-    c.run_update-token.ensures.ended)
+    c.into_badge.result.views c.run_update-hand.result.0.token.me c.into_badge.ensures.2 c.run_update-hand.ensures.one
+    c.run_update-hand.ensures.ended)
 
 pub invariant_of-self : goal.invariant_of-self
 invariant_of-self c =
     let s = c.self.inside in
-    stands_after c.args.packet c.args.call.now c.run_update-token.result.1 _ c.directory.inside.table.shared.key s.desk
+    stands_after c.args.packet c.args.call.now c.run_update-hand.result.1 _ c.directory.inside.table.shared.key s.desk
     s.badge.table_id c.into_badge.result.table_id
-    (c.into_badge.ensures.0 ∙ c.run_update-token.ensures.table ∙ c.into_seat.ensures.0
+    (c.into_badge.ensures.0 ∙ c.run_update-hand.ensures.table ∙ c.into_seat.ensures.0
     ∙ ap (λ (b : Badge View). b.table_id) c.replace-badge.ensures.value)
     s.badge.views c.into_seat.result.me (sym (ap (λ (b : Badge View). b.views) c.replace-badge.ensures.value)
     ∙ c.into_seat.ensures.2) c.self.invariant.one
-    c.into_badge.result.views c.run_update-token.result.0.me c.into_badge.ensures.2 c.run_update-token.ensures.one
-    c.run_update-token.ensures.ended
-    s.room _ s.used s.sizes s.need s.answered c.self.invariant c.run_update-token.ensures.room
+    c.into_badge.result.views c.run_update-hand.result.0.token.me c.into_badge.ensures.2 c.run_update-hand.ensures.one
+    c.run_update-hand.ensures.ended
+    s.room _ s.used s.sizes s.need s.answered s.zeros
+    c.run_update-hand.result.0.zeros c.self.invariant c.run_update-hand.ensures.room c.run_update-hand.ensures.zeros
