@@ -320,7 +320,7 @@ module _ (asked : ℕ × Call) (zeros : Zeros) (h : Holding) (s : State (Unit {0
       let found = get_or s.words (place h.setup.shape (address_of (asked_by hl asked))) 0 in
       let none : told (asked_by hl asked) found ≡ 0 = ap (λ (a : Ask). told a found) is.asks in
       let views : set (set s.views id (alone hl).0) id (alone (after_step hl asked
-          (told (asked_by hl asked) found) before)).0 ≡ set s.views id (alone (after_step hl asked 0 before)).0 =
+      (told (asked_by hl asked) found) before)).0 ≡ set s.views id (alone (after_step hl asked 0 before)).0 =
       set-set s.views id (alone hl).0 _
       ∙ ap (λ (k : ℕ). set s.views id (alone (after_step hl asked k before)).0) none in
       let mine = mine_of h.setup sl t.holds id hl at_l in
@@ -396,9 +396,12 @@ moves_at c slots id asked late zeros h has all may s r _ at _ =
       tt,
       subst (λ (d : Setup). Holds d (stepped s (place h.setup.shape (address_of (asked_by hl asked)))
           (becomes (asked_by hl asked) found) id [] last.0 keeps)) same
-          (subst (λ (vs : List View). Holds h.setup (record
-          { words = set s.words (place h.setup.shape (address_of (asked_by hl asked)))
-              (becomes (asked_by hl asked) found); homes = s.homes; views = vs }))
+          (subst (λ (vs : List View). Holds h.setup (record {
+            words = set s.words (place h.setup.shape (address_of (asked_by hl asked)))
+                (becomes (asked_by hl asked) found);
+            homes = s.homes;
+            views = vs;
+          }))
           (set-set s.views id (alone hl).0 last.0) (goes_on asked hl sl t.holds id at_l may)),
       λ k told_same h' is. subst (λ (x : Holding). Steps asked late x k last) (alone_is h h' is)
           (with_taken asked late h s id t k last (stepped_to asked hl sl t.holds id at_l may k told_same)),

@@ -364,57 +364,57 @@ module _ (asked : ℕ × Call) (late : ℕ) (h : Holding) where
 -- before an access
 module _ (asked : ℕ × Call) (was : List SeatValue) (key : Plan) (table_id : TableId) (token : Token) (late : ℕ)
     (zeros : Zeros) (done : Bool) (inv : IsRunning asked was key table_id token late zeros done) (not : done ≡ false)
-    where
-  -- the holding of the token
-  abbrev pub h : Holding
-  h = holding_of key token.me
+  where
+    -- the holding of the token
+    abbrev pub h : Holding
+    h = holding_of key token.me
 
-  -- the seat behind its late steps
-  abbrev pub now_at : Holding
-  now_at = with_late asked late h
+    -- the seat behind its late steps
+    abbrev pub now_at : Holding
+    now_at = with_late asked late h
 
-  -- what contracts see of the call
-  abbrev pub v : RunningValue
-  v = running_value key token late zeros done
+    -- what contracts see of the call
+    abbrev pub v : RunningValue
+    v = running_value key token late zeros done
 
-  -- the call had begun with its first seat
-  pub began : Began asked was table_id late h
-  began = inv.began not
+    -- the call had begun with its first seat
+    pub began : Began asked was table_id late h
+    began = inv.began not
 
-  -- so it stands where its late steps have led it
-  pub now_is : now_of asked v ≡ going_of asked now_at
-  now_is = ap (λ (d : Bool). cond d (on (going_of asked now_at) Stuck) (going_of asked now_at)) not
+    -- so it stands where its late steps have led it
+    pub now_is : now_of asked v ≡ going_of asked now_at
+    now_is = ap (λ (d : Bool). cond d (on (going_of asked now_at) Stuck) (going_of asked now_at)) not
 
-  -- its next step fits, as every step of a run does
-  law_here : StepFits h.setup h.seat now_at.state.account.used
-      (flight_in now_at.state.account now_at.state.stand asked) (phase_in now_at.state.stand)
-      (found_by h.setup (ask_of h.setup h.seat asked now_at.state) (world_after h.setup now_at.known).words)
-  law_here = every_step_fits h.setup now_at.known h.seat asked now_at.state began.under.reached.run
-      began.under.reached.seat began.under.reached.state began.under.may
+    -- its next step fits, as every step of a run does
+    law_here : StepFits h.setup h.seat now_at.state.account.used
+        (flight_in now_at.state.account now_at.state.stand asked) (phase_in now_at.state.stand)
+        (found_by h.setup (ask_of h.setup h.seat asked now_at.state) (world_after h.setup now_at.known).words)
+    law_here = every_step_fits h.setup now_at.known h.seat asked now_at.state began.under.reached.run
+        began.under.reached.seat began.under.reached.state began.under.may
 
-  -- what it asks for is a word of the table
-  pub on_word : IsOnWord (now_of asked v).setup.shape (asks (now_of asked v))
-  on_word = subst (λ (g : Going). IsOnWord g.setup.shape (asks g)) (sym now_is) law_here.on_word
+    -- what it asks for is a word of the table
+    pub on_word : IsOnWord (now_of asked v).setup.shape (asks (now_of asked v))
+    on_word = subst (λ (g : Going). IsOnWord g.setup.shape (asks g)) (sym now_is) law_here.on_word
 
-  -- its counts can go on
-  pub counts : Counts (now_of asked v).setup (now_of asked v).account.used (now_of asked v).flight
-  counts = subst (λ (g : Going). Counts g.setup g.account.used g.flight) (sym now_is) law_here.counts
+    -- its counts can go on
+    pub counts : Counts (now_of asked v).setup (now_of asked v).account.used (now_of asked v).flight
+    counts = subst (λ (g : Going). Counts g.setup g.account.used g.flight) (sym now_is) law_here.counts
 
-  -- its token asks for what the call asks for
-  asks_it : (a : Ask) → asks (going_of asked now_at) ≡ a → AsksFor asked late zeros a h token.me
-  asks_it a is = record {
-    one = inv.one;
-    here = inv.here;
-    there = began.under.reached;
-    has_zeros = inv.has_zeros;
-    are_late = inv.are_late;
-    may = began.under.may;
-    asks = is;
-  }
+    -- its token asks for what the call asks for
+    asks_it : (a : Ask) → asks (going_of asked now_at) ≡ a → AsksFor asked late zeros a h token.me
+    asks_it a is = record {
+      one = inv.one;
+      here = inv.here;
+      there = began.under.reached;
+      has_zeros = inv.has_zeros;
+      are_late = inv.are_late;
+      may = began.under.may;
+      asks = is;
+    }
 
-  -- and that is of a table of its shape
-  pub for_it : (a : Ask) → asks (going_of asked now_at) ≡ a → IsFor h.setup.shape asked late zeros a token.me
-  for_it a is = record { holding = h; asks = asks_it a is; shape_is = refl }
+    -- and that is of a table of its shape
+    pub for_it : (a : Ask) → asks (going_of asked now_at) ≡ a → IsFor h.setup.shape asked late zeros a token.me
+    for_it a is = record { holding = h; asks = asks_it a is; shape_is = refl }
 
 -- after it
 module _ (asked : ℕ × Call) (was : List SeatValue) (key : Plan) (table_id : TableId) (token then_token : Token)
@@ -512,9 +512,11 @@ module _ (asked : ℕ × Call) (was : List SeatValue) (key : Plan) (table_id : T
       let table : then_token.table_id ≡ b.first.table_id = same ∙ inv.table ∙ b.table in
       let used = (going_of asked (with_late asked late held_before)).account.used in
       subst (λ (x : SeatValue). (then_token.table_id ≡ x.table_id)
-      × Ended asked x.holding (holding_of key then_token.me) made used) (of_first f is)
-      (table, subst (λ (x : Holding). Ended asked b.first.holding x made used) (sym holds)
-      (ended asked late held_before b.first.holding b.own b.under b.since b.all n then_token.me step heard made is_made))
+      × Ended asked x.holding (holding_of key then_token.me) made used) (of_first f is) (
+        table,
+        subst (λ (x : Holding). Ended asked b.first.holding x made used) (sym holds)
+            (ended asked late held_before b.first.holding b.own b.under b.since b.all n then_token.me step heard made is_made),
+      )
 
 -- which of the phases ask so
 abbrev AskLoads : Ask → Type 0

@@ -23,8 +23,8 @@ invariant_of-self g c = finish_ends g.B.Asked.asked g.B.Asked.was c.self.inside.
 pub returns : goal.returns
 returns g c = record {
   answered = finish_answers g.B.Asked.asked g.B.Asked.was c.self.inside.words.now.key
-    c.self.inside.words.now.table_id c.self.inside.token c.self.inside.late c.self.inside.zeros c.self.inside.done
-    c.self.invariant _ c.self.view_is
+      c.self.inside.words.now.table_id c.self.inside.token c.self.inside.late c.self.inside.zeros c.self.inside.done
+      c.self.invariant _ c.self.view_is
       c.args.at c.args.word c.requires.asked c.leave_out.new.self c.leave_out.ensures c.store.new.token
       c.store.ensures.moved c.store.ensures.table;
 }
