@@ -102,7 +102,8 @@ about_dealt deals key (made ∷ calls) =
     dealt : List Made
     dealt = dealt_to deals (deals key) calls
 
-    go : about key (dealt_to deals (deals key) calls) ≡ about key calls → (b : Bool) → is_about key made ≡ b → (c : Bool) → (deals (key_in made.0) == deals key) ≡ c →
+    go : about key (dealt_to deals (deals key) calls) ≡ about key calls → (b : Bool) → is_about key made ≡ b →
+        (c : Bool) → (deals (key_in made.0) == deals key) ≡ c →
         about key (cond c (made ∷ dealt) dealt) ≡ cond b (made ∷ about key calls) (about key calls)
     go rest b is true same = ap (λ (t : Bool). cond t (made ∷ about key dealt) (about key dealt)) is
         ∙ (λ i. cond b (made ∷ rest i) (rest i))
@@ -121,7 +122,8 @@ about_made deals key (one ∷ made) right = go (about_made deals key made (λ ot
     those : List Made
     those = made_by (deals key) made
 
-    go : about key (all_made made) ≡ about key (made_by (deals key) made) → (b : Bool) → is_about key one.1 ≡ b → (c : Bool) → (one.0 == deals key) ≡ c →
+    go : about key (all_made made) ≡ about key (made_by (deals key) made) → (b : Bool) → is_about key one.1 ≡ b →
+        (c : Bool) → (one.0 == deals key) ≡ c →
         cond b (one.1 ∷ about key (all_made made)) (about key (all_made made))
         ≡ about key (cons_option (cond c (Some one.1) None) those)
     go rest b is true same = (λ i. cond b (one.1 ∷ rest i) (rest i))

@@ -206,8 +206,8 @@ module _ (plan : Plan) (events : List Event) (deals : Key → ℕ) (asked : List
           (dealt_to deals seat back)) (eq-eqb seat seat refl)
 
       abbrev there : IsToldAt (answers_by seat (answers_then events)) (dealt_to deals seat front) look
-      there = told_at (answers_by seat (answers_then events)) (dealt_to deals seat front) (dealt_to deals seat back) look
-          (answered.answered seat (answered.inside key) ∙ dealt_before)
+      there = told_at (answers_by seat (answers_then events)) (dealt_to deals seat front) (dealt_to deals seat back)
+          look (answered.answered seat (answered.inside key) ∙ dealt_before)
 
       asks : (there.a.asked ≡ Called (Lookup key)) × (there.a.told ≡ Replied reply)
       asks = asked_there there.a.asked there.a.told look there.told

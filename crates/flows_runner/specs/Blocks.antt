@@ -28,9 +28,9 @@ block_counts packets made = record {
 }
 
 -- The block tells of so many packets, which made these calls, with these replies, in packet order. All of them have one
--- order, each flow's in packet order, in which each reply is that of the plain map. The sessions are those that it holds
--- then. If none was answered that its class is full, then replies and sessions are those of the map
--- without a limit, asked in packet order.
+-- order, each flow's in packet order, in which each reply is that of the plain map. The sessions are those that it
+-- holds then. If none was answered that its class is full, then replies and sessions are those of the map without a
+-- limit, asked in packet order.
 pub record IsBlock (asked : Asked) (packets : ℕ) (made : List Made) (block : FlowsBlock) : Type 0 where
   pub at : block.at ≡ packets
   pub counts : block.counts ≡ block_counts packets made

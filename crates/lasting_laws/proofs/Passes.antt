@@ -224,15 +224,22 @@ module _ (plan : Plan) (x : Lasting) (q : ℕ) (long : length x.seats ≡ plan.s
   not_it : (p : ℕ) (by : Asker) → by ≡ BySeat p → p ≢ q → is_by q by ≡ false
   not_it p by e n = ap (is_by q) e ∙ ne_eqb p q n
 
+  -- where another seat is changed, the seat's call is as it was
+  abbrev other_phase : (p : ℕ) → p ≢ q → (z : Lasting) (store : W.Store) (then : SeatNow) (answers : List Answer) →
+      z ≡ with_seat x p store then answers → phase_of (seat_in z q) ≡ phase_of (seat_in x q)
+  other_phase p n z store then answers is =
+      ap (λ (w : Lasting). phase_of (seat_in w q)) is
+      ∙ ap phase_of (get_or-set_other x.seats p q then nobody (λ e. n (sym e)))
+
   other_acts : (p : ℕ) → p ≢ q → (z : Lasting) → Acts x p z → SeenAs z
   other_acts p n z (goes_on_so store then is same) = stays
-      (ap (λ (w : Lasting). phase_of (seat_in w q)) is ∙ ap phase_of (get_or-set_other x.seats p q then nobody (λ e. n (sym e))))
+      (other_phase p n z store then x.answers is)
       (ap (λ (w : Lasting). answers_by q w.answers) is)
   other_acts p n z (begins_so store then is idle begun) = stays
-      (ap (λ (w : Lasting). phase_of (seat_in w q)) is ∙ ap phase_of (get_or-set_other x.seats p q then nobody (λ e. n (sym e))))
+      (other_phase p n z store then x.answers is)
       (ap (λ (w : Lasting). answers_by q w.answers) is)
   other_acts p n z (ends_so store then a is idle by ended of) = stays
-      (ap (λ (w : Lasting). phase_of (seat_in w q)) is ∙ ap phase_of (get_or-set_other x.seats p q then nobody (λ e. n (sym e))))
+      (other_phase p n z store then (x.answers ++ a ∷ []) is)
       (ap (λ (w : Lasting). answers_by q w.answers) is ∙ other_more q x.answers a (not_it p a.by by n))
 
   by_seat : (p : ℕ) → (z : Lasting) → p < plan.settings.seats → Acts x p z → SeenAs z

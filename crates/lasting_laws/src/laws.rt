@@ -104,8 +104,8 @@ pub fn update_laws()
     ensures one_order { UpdatesHaveOneOrder }
 {}
 
-/// In every run of a lasting table the calls of a seat come one after the other. At each moment of a lookup or a copy its
-/// earlier updates are answered, and its later ones have not begun.
+/// In every run of a lasting table the calls of a seat come one after the other. At each moment of a lookup or a copy
+/// its earlier updates are answered, and its later ones have not begun.
 pub fn turn_laws()
     ensures in_turn { LooksAreInTurn }
 {}

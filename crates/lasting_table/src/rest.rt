@@ -97,8 +97,8 @@ impl LastingTable {
     ///
     /// **Steps:** those of two meetings, and at most `look_bound` for each bucket. It waits for nobody.
     ///
-    /// **Errors:** there is no memory for the pairs, or the first seat has asked for a hold as often as it may, which it
-    /// does at most once in a call. Then it may have copied some buckets.
+    /// **Errors:** there is no memory for the pairs, or the first seat has asked for a hold as often as it may, which
+    /// it does at most once in a call. Then it may have copied some buckets.
     pub fn pairs_at_rest(&self, alloc: Global, seats: &mut [Seat]) -> Result<Vec<Pair>, Uncopied>
         requires seats { AreSeatsOf self.now seats.old }
         ensures seats { AreSeatsOf self.now seats.new }

@@ -58,7 +58,8 @@ returns-in_err-ahead-clause-leaves g c =
     let s = at_ok _ _ c.in_ok-written-2.field-0 c.in_ok-written-2.was
     (at_ok _ c.work-told.result.0 c.in_ok-written.written c.in_ok-written.was
     c.work-told.ensures.beside.met.1.1.1.0)
-    c.in_ok-shared.field-0.shared c.in_ok-shared.field-0.workers.items plan c.args.means.now.portions link c.args.so_far.now.packets first left before all
+    c.in_ok-shared.field-0.shared c.in_ok-shared.field-0.workers.items plan c.args.means.now.portions link
+    c.args.so_far.now.packets first left before all
     (Standing-map c.args.means.now.portions (g.J.Job.lines plan) g.J.Job.tells link first left before
     c.args.so_far.now.untold (g.J.Job.done c.args.job.now plan) (g.J.Job.under c.open.new.self
     c.in_ok-shared.field-0.shared c.in_ok-shared.field-0.workers.items plan)
@@ -78,7 +79,8 @@ returns-in_err-close-clause-leaves g c =
     let s = at_ok _ _ c.in_ok-written-2.field-0 c.in_ok-written-2.was
     (at_ok _ c.work-told.result.0 c.in_ok-written.written c.in_ok-written.was
     c.work-told.ensures.beside.met.1.1.1.0)
-    c.in_ok-shared.field-0.shared c.in_ok-shared.field-0.workers.items plan c.args.means.now.portions link c.args.so_far.now.packets first left before all
+    c.in_ok-shared.field-0.shared c.in_ok-shared.field-0.workers.items plan c.args.means.now.portions link
+    c.args.so_far.now.packets first left before all
     (Standing-map c.args.means.now.portions (g.J.Job.lines plan) g.J.Job.tells link first left before
     c.args.so_far.now.untold (g.J.Job.done c.args.job.now plan) (g.J.Job.under c.open.new.self
     c.in_ok-shared.field-0.shared c.in_ok-shared.field-0.workers.items plan)
@@ -110,7 +112,8 @@ returns-clause-stands g c =
     let s = at_ok _ _ c.in_ok-written-2.field-0 c.in_ok-written-2.was
     (at_ok _ c.work-told.result.0 c.in_ok-written.written c.in_ok-written.was
     c.work-told.ensures.beside.met.1.1.1.0)
-    c.in_ok-shared.field-0.shared c.in_ok-shared.field-0.workers.items plan c.args.means.now.portions link c.args.so_far.now.packets first left before all
+    c.in_ok-shared.field-0.shared c.in_ok-shared.field-0.workers.items plan c.args.means.now.portions link
+    c.args.so_far.now.packets first left before all
     (Standing-map c.args.means.now.portions (g.J.Job.lines plan) g.J.Job.tells link first left before
     c.args.so_far.now.untold (g.J.Job.done c.args.job.now plan) (g.J.Job.under c.open.new.self
     c.in_ok-shared.field-0.shared c.in_ok-shared.field-0.workers.items plan)

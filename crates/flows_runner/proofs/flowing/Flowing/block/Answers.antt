@@ -38,7 +38,8 @@ returns-clause-block c = λ packets blocks served so.
       block_told c.args.self.now c.args.table.now c.args.self.now.seats.items packets blocks served so
           c.pairs_at_rest.new.seats c.in-Ok.pairs.items rested c.sort_unstable_by_key.new.self.items c.counts.result
           c.sort_unstable_by_key.ensures.permutation
-          (c.sort_unstable_by_key.ensures.sorted (λ (p : Pair). p.key) (answers_always _ _ _ (λ f a r h k. search rules)))
+          (c.sort_unstable_by_key.ensures.sorted (λ (p : Pair). p.key)
+          (answers_always _ _ _ (λ f a r h k. search rules)))
           (c.counts.ensures served.made so.calls_are so.replies),
       rested_back c.args.self.now c.args.table.now c.args.self.now.seats.items packets blocks served so
           c.pairs_at_rest.new.seats c.in-Ok.pairs.items rested _ _ c.args.self.now.seats.len

@@ -14,8 +14,8 @@ returns-clause-holds c = λ before packets holds at.
     (packets ++ c.args.packet.now ∷ [])) in
     elim c.match-call_in.branch [
       | in-Some+in_ok-deal w ↦ subst Held (sym w.self-is)
-          (holds_more c.args.self.now _ before packets c.args.packet.now c.args.number (Some w.in-Some.call) holds at few
-          w.in-Some.ensures.made w.in-Some.ensures.fits.0 refl refl w.in_ok-deal.ensures.dealt)
+          (holds_more c.args.self.now _ before packets c.args.packet.now c.args.number (Some w.in-Some.call) holds at
+          few w.in-Some.ensures.made w.in-Some.ensures.fits.0 refl refl w.in_ok-deal.ensures.dealt)
       | in_default w ↦ subst Held (sym w.self-is)
           (holds_more c.args.self.now _ before packets c.args.packet.now c.args.number None holds at few
           w.in_default.ensures.made tt refl refl
