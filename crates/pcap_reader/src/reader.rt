@@ -1,6 +1,6 @@
 //! Gives out the records of a savefile, one at a time and in place.
 
-ghost use Rattle.std.specs.Prelude.{◌≡◌, ◌≤◌, ◌<◌, ◌+◌, ◌-◌, ◌^◌, ◌⊎◌, ℕ, List, [], false, true, length, drop, Option, Some, IfSome, IfOk, IfErr, OnOk, OnErr};
+ghost use Rattle.std.specs.Prelude.{◌≡◌, ◌≤◌, ◌+◌, ◌-◌, ◌⊎◌, ℕ, List, [], false, true, length, drop, Option, Some, IfSome, IfOk, IfErr, OnOk, OnErr};
 ghost use Rattle.edge_traits.specs.Edge.{Rose, count_after};
 ghost use Rattle.byte_window.specs.Window.{Gathers, IsDrained};
 ghost use Rattle.pcap_reader.specs.Capture.{HasFileHead, IsCut, IsRemainder, ShowsFault};

@@ -8,7 +8,6 @@ use Rattle.packet_heads.specs.declared.framing.Framing.{Framing}
 use Rattle.packet_heads.specs.Heads.{plain_framing}
 use Rattle.key_texts.specs.declared.rules.CallRule.{CallRule}
 use Rattle.key_texts.specs.declared.rules.CallRule.TheVariants.{Sessions}
-use Rattle.mode_parts.specs.declared.calling.Calling.{Calling}
 use Rattle.mode_parts.specs.Callings.{calling_of, plain_calling}
 use Rattle.step_counts.specs.declared.rows.SeatRows.{SeatRows}
 use Rattle.command_line.specs.declared.plan.Mode.{Mode}
