@@ -1,5 +1,5 @@
 -- Which words are exchanged: a bucket word, or the root.
-use Rattle.std.proofs.Common.{◌≡◌, ℕ, ◌<◌, List, sym, subst, arith}
+use Rattle.std.proofs.Common.{ℕ, ◌<◌, subst, arith}
 use Rattle.std.specs.Prelude.{Option, Some, None, slice_get}
 use Rattle.step_counts.specs.declared.rows.SeatRows.{SeatRows}
 use Rattle.word_rows.specs.Shape.{Shape}

@@ -1,12 +1,13 @@
--- At the opening the words of all own bucket rows are 0: what is stored then has smaller numbers, or is a directory row.
-use Rattle.std.proofs.Common.{◌≡◌, ◌≢◌, ℕ, ◌+◌, ◌^◌, ◌<◌, ◌≤◌, List, [], ◌∷◌, ◌++◌, get_or, set, replicate, length, refl, ◌∙◌, arith, get_or-set_other}
+-- At the opening the words of all own bucket rows are 0: what is stored then has smaller numbers, or is a directory
+-- row.
+use Rattle.std.proofs.Common.{◌≡◌, ◌≢◌, ℕ, ◌+◌, ◌^◌, ◌<◌, List, [], ◌∷◌, ◌++◌, get_or, set, replicate, length, refl, ◌∙◌, arith, get_or-set_other}
 use Rattle.std.specs.Prelude.{None}
 use Rattle.std.proofs.Math.Nat.{mul-le-mul_right}
 use Rattle.std.proofs.lemmas.List.{get_or-replicate}
 use Rattle.step_counts.specs.StepCounts.{bucket_row_words}
-use Rattle.plain_map.specs.declared.full.FullKind.TheVariants.{BucketRows, BucketWords}
-use Rattle.word_rows.specs.declared.addresses.Address.TheVariants.{BucketWord, BucketRowWord, DirectoryWord}
-use Rattle.word_rows.specs.Shape.{Shape, count_of, first_number, of_kind, sizes_of}
+use Rattle.plain_map.specs.declared.full.FullKind.TheVariants.{BucketRows}
+use Rattle.word_rows.specs.declared.addresses.Address.TheVariants.{BucketWord, DirectoryWord}
+use Rattle.word_rows.specs.Shape.{Shape}
 use Rattle.word_rows.specs.Places.{place, word_count}
 use Rattle.word_rows.proofs.OpeningNumbers.{words_there}
 use Rattle.word_rows.proofs.Ranges.{range_after_opening, range_within}

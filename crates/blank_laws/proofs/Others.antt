@@ -1,5 +1,5 @@
 -- No step of another seat is a store to a word of a seat's own bucket rows.
-use Rattle.std.proofs.Common.{◌≡◌, ◌≢◌, ℕ, ◌+◌, ◌*◌, ◌<◌, ◌≤◌, Bool, true, false, cond, eqb, List, [], ◌∷◌, ◌++◌, length, get_or, set, inl, inr, refl, sym, ap, ◌∙◌, subst, arith, append_assoc, get_or-set_other, lt-ltb}
+use Rattle.std.proofs.Common.{◌≡◌, ◌≢◌, ℕ, ◌+◌, ◌*◌, ◌<◌, ◌≤◌, Bool, true, false, cond, eqb, List, [], ◌∷◌, ◌++◌, get_or, set, inl, inr, refl, sym, ap, ◌∙◌, subst, arith, append_assoc, get_or-set_other, lt-ltb}
 use Rattle.std.specs.Prelude.{Option, Some, None}
 use Rattle.std.proofs.lemmas.Bool.{cases_lt, eq-eqb}
 use Rattle.std.proofs.lemmas.List.{append-nil}
@@ -14,7 +14,7 @@ use Rattle.plain_map.specs.declared.full.FullKind.TheVariants.{BucketRows, OpRow
 use Rattle.word_rows.specs.declared.addresses.Address.{Address}
 use Rattle.word_rows.specs.declared.addresses.Address.TheVariants.{Root, Announcement, Done, BucketWord, OpWord, BucketRowWord, DirectoryWord}
 use Rattle.word_rows.specs.Shape.{Shape, IsShape, Owns, count_of, first_number, of_kind, sizes_of}
-use Rattle.word_rows.specs.Places.{IsAddress, bucket_rows_start, op_rows_start, place}
+use Rattle.word_rows.specs.Places.{IsAddress, bucket_rows_start, place}
 use Rattle.word_rows.proofs.Apart.{row_within}
 use Rattle.word_rows.proofs.Ranges.{range_within, ranges_follow}
 use Rattle.table_model.specs.declared.events.Event.{Event}
@@ -23,9 +23,9 @@ use Rattle.table_model.specs.declared.events.Ask.{Ask}
 use Rattle.table_model.specs.declared.events.Ask.TheVariants.{Exchange, Load, Nothing, Store}
 use Rattle.table_model.specs.Asks.{ask_in}
 use Rattle.table_model.specs.Phases.{Phase}
-use Rattle.table_model.specs.SeatStates.{Account, Flight, Stand, Idle, InFlight}
+use Rattle.table_model.specs.SeatStates.{Flight, Stand, Idle, InFlight}
 use Rattle.table_model.specs.Steps.{IsOnWord}
-use Rattle.table_model.specs.Worlds.{IsEvent, IsRun, World, act, begin_or_refuse, events_of, happens, opening_world, refusal_of, seat_in, word_at, words_after, world_after}
+use Rattle.table_model.specs.Worlds.{IsEvent, IsRun, World, act, begin_or_refuse, events_of, opening_world, refusal_of, seat_in, word_at, words_after, world_after}
 use Rattle.table_model.specs.Promises.{InPhase}
 use Rattle.table_model.specs.Rows.{MayStore}
 use Rattle.run_laws.proofs.TwoParts.{events_then, happen_both, run_first}
@@ -89,7 +89,8 @@ module _ (setup : Setup) (seat at : ℕ) (s : IsShape setup.shape) (h : seat < s
     pub store_elsewhere : (used : SeatRows) (a : Address) → IsAddress shape a → MayStore setup other used a →
         at ≢ place shape a
     store_elsewhere used Root inside may = absurd may
-    store_elsewhere used (Announcement p) inside may = before_rows (place shape (Announcement p)) (omega (arith, inside))
+    store_elsewhere used (Announcement p) inside may =
+        before_rows (place shape (Announcement p)) (omega (arith, inside))
     store_elsewhere used (Done p) inside may = before_rows (place shape (Done p)) (omega (arith, inside))
     store_elsewhere used (BucketWord b) inside may = before_rows (place shape (BucketWord b)) (omega (arith, inside))
     store_elsewhere used (OpWord row i) inside may =

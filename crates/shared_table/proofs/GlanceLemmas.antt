@@ -41,7 +41,7 @@ use Rattle.shared_table.specs.Readings.{Looked, after_load, lone}
 use Rattle.shared_table.specs.Calls.{Token}
 use Rattle.shared_table.specs.Glancing.{Glances, GlancingValue, HasGlanced, IsGlancing, IsPaced, Start, began_at, front_of, glance_at, glancing_value, start_of}
 use Rattle.shared_table.proofs.Loads.{looks_at}
-use Rattle.shared_table.proofs.StepLemmas.{Loads, loads_from}
+use Rattle.shared_table.proofs.Actions.{Loads, loads_from}
 use Rattle.seat_calls.proofs.RunLemmas.{goes_by-more}
 
 -- ---- one load, as the definitions have it

@@ -6,6 +6,8 @@ mod ReaderLemmas
 mod Learning
 mod ZerosLemmas
 pub mod Moves
+pub mod Actions
+mod AccessLemmas
 pub mod StepLemmas
 mod Parts
 mod Seats

@@ -29,7 +29,7 @@ use Rattle.blank_laws.specs.OwnRows.{IsOwnPlace}
 use Rattle.blank_laws.proofs.Others.{others_leave_own_rows}
 use Rattle.shared_table.specs.declared.zeros.Zeros.{Zeros}
 use Rattle.shared_table.specs.Rule.{bundles, Holds, M, alone, IsReached, Learned, asked_by, after_step, late_at, late_state, with_late, Steps, Moved}
-use Rattle.shared_table.specs.Zeros.{AreLate, AsksFor, HasZeros, IsFor, IsLate, IsZero}
+use Rattle.shared_table.specs.Zeros.{AreLate, AsksFor, HasZeros, IsFor, IsLate}
 use Rattle.shared_table.proofs.Learning.{learned_as, learned_none, learned_one, learned_then}
 use Rattle.shared_table.proofs.Lists.{at_place, elem_map, elem_set, zero_elsewhere, all_but_one, count-snoc}
 use Rattle.std.proofs.lemmas.List.{get_or_default}

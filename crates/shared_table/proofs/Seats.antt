@@ -106,7 +106,8 @@ module _ (packet : ℕ) (call : Call) (made : Record) (used : SeatRows) (key : P
   }
 
   -- and the seat stands between two calls again
-  pub stands_after : (room room_then : Room) (used_was sizes need : SeatRows) (answered : ℕ) (zeros zeros_then : Zeros) →
+  pub stands_after : (room room_then : Room) (used_was sizes need : SeatRows) (answered : ℕ)
+      (zeros zeros_then : Zeros) →
       SeatStands desk room views used_was sizes need answered zeros → HasAllRoom (settings_at desk) room_then →
       HasZeros (holding_of key me_then) zeros_then →
       SeatStands desk room_then views_then used sizes need (answered + 1) zeros_then

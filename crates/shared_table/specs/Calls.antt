@@ -6,10 +6,8 @@ use Rattle.plain_map.specs.declared.calls.Call.{Call}
 use Rattle.plain_map.specs.declared.records.Record.{Record}
 use Rattle.step_counts.specs.declared.rows.SeatRows.{SeatRows}
 use Rattle.word_rows.specs.Places.{word_count}
-use Rattle.table_model.specs.declared.events.Event.{Event}
 use Rattle.table_model.specs.SeatStates.{Idle, fresh_seat}
 use Rattle.table_model.specs.Phases.{Stuck}
-use Rattle.table_model.specs.Worlds.{events_of}
 use Rattle.table_model.specs.Shown.{Holding}
 use Rattle.table_model.specs.Steps.{flight_in, phase_in, MayStep}
 use Rattle.seat_calls.specs.Going.{Going, on}

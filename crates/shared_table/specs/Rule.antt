@@ -2,7 +2,7 @@
 use Rattle.std.specs.Prelude.{◌≡◌, ℕ, zero, suc, ◌<◌, List, [], ◌∷◌, ◌++◌, All, map, slice_index}
 use Rattle.atomic_table.specs.Table.{State, Me, Step}
 use Rattle.plain_map.specs.declared.calls.Call.{Call}
-use Rattle.word_rows.specs.Shape.{Shape, record_limit}
+use Rattle.word_rows.specs.Shape.{record_limit}
 use Rattle.table_model.specs.declared.events.Event.{Event}
 use Rattle.table_model.specs.Setup.{Setup, seats_of}
 use Rattle.table_model.specs.declared.events.Ask.{Ask}
@@ -10,7 +10,7 @@ use Rattle.table_model.specs.Worlds.{IsRun, world_after, seat_in, found_by}
 use Rattle.table_model.specs.Worlds.{events_of}
 use Rattle.table_model.specs.SeatStates.{SeatState}
 use Rattle.table_model.specs.Shown.{Holding, Bundle, Shows}
-use Rattle.table_model.specs.Steps.{MayStep, event_of, ask_of, advanced, told}
+use Rattle.table_model.specs.Steps.{event_of, ask_of, advanced, told}
 use Rattle.blank_laws.specs.OwnRows.{IsOwnPlace}
 use Rattle.shared_table.specs.declared.view.View.{View}
 use Rattle.shared_table.specs.Fronts.{IsFrontOf}
@@ -105,7 +105,8 @@ pub record Steps (asked : ℕ × Call) (late : ℕ) (h : Holding) (n : ℕ) (w :
   pub found :
       told (asked_by (with_late asked late h) asked) n
       ≡ found_by h.setup (asked_by (with_late asked late h) asked) (world_after h.setup before).words
-  pub is : w ≡ alone (after_step (with_late asked late h) asked (told (asked_by (with_late asked late h) asked) n) before)
+  pub is :
+      w ≡ alone (after_step (with_late asked late h) asked (told (asked_by (with_late asked late h) asked) n) before)
   pub reached :
       IsReached (after_step (with_late asked late h) asked (told (asked_by (with_late asked late h) asked) n) before)
 

@@ -75,8 +75,8 @@ impl<'a, B: Asked> Steps for Running<'a, B> {
         accesses::load::<Brand>(self.words, &mut self.token, late, at)
     }
 
-    // Nobody else can see what the word holds before the next access of this seat. So a store that says nothing new is
-    // taken together with that one, which sees all that it would have seen.
+    // A word of `zeros` is 0, and no other seat stores to it. So whoever loads it finds what he would find behind a store
+    // of 0, and that step may come into the run with the seat's next access.
     #[inline(always)]
     fn store(&mut self, at: u64, word: u64) {
         place_laws();
@@ -139,13 +139,15 @@ pub(crate) fn run_lookup<B: Asked>(
     requires setup { (holding_of words.now.key hand.token.me).setup ≡ plain words.now.key }
     requires zeros { HasZeros (holding_of words.now.key hand.token.me) hand.zeros }
     requires asked { B.asked ≡ (packet, Lookup key.now) }
-    requires was { B.was ≡ record { table_id = hand.token.table_id; holding = holding_of words.now.key hand.token.me } ∷ [] }
+    requires was { B.was ≡
+        record { table_id = hand.token.table_id; holding = holding_of words.now.key hand.token.me } ∷ [] }
     requires number { (going_of B.asked (holding_of words.now.key hand.token.me)).flight.number ≡ number }
     requires desk { IsOf (going_of B.asked (holding_of words.now.key hand.token.me)) desk.now }
     ensures table { result.0.token.table_id ≡ hand.token.table_id }
     ensures one { result.0.token.me ≡ alone (holding_of words.now.key result.0.token.me) }
     ensures zeros { HasZeros (holding_of words.now.key result.0.token.me) result.0.zeros }
-    ensures ended { Ended B.asked (holding_of words.now.key hand.token.me) (holding_of words.now.key result.0.token.me) result.1
+    ensures ended { Ended B.asked (holding_of words.now.key hand.token.me)
+        (holding_of words.now.key result.0.token.me) result.1
         (going_of B.asked (holding_of words.now.key hand.token.me)).account.used }
 {
     let Hand { token, zeros } = hand;
@@ -180,7 +182,8 @@ pub(crate) fn run_update<B: Asked>(
     requires zeros { HasZeros (holding_of words.now.key hand.token.me) hand.zeros }
     requires asked { B.asked ≡ (packet, call.now) }
     requires update { IsUpdate call.now }
-    requires was { B.was ≡ record { table_id = hand.token.table_id; holding = holding_of words.now.key hand.token.me } ∷ [] }
+    requires was { B.was ≡
+        record { table_id = hand.token.table_id; holding = holding_of words.now.key hand.token.me } ∷ [] }
     requires first { 1 ≤ number }
     requires number { (going_of B.asked (holding_of words.now.key hand.token.me)).flight.number ≡ number }
     requires desk { IsOf (going_of B.asked (holding_of words.now.key hand.token.me)) desk.now }
@@ -189,7 +192,8 @@ pub(crate) fn run_update<B: Asked>(
     ensures table { result.0.token.table_id ≡ hand.token.table_id }
     ensures one { result.0.token.me ≡ alone (holding_of words.now.key result.0.token.me) }
     ensures zeros { HasZeros (holding_of words.now.key result.0.token.me) result.0.zeros }
-    ensures ended { Ended B.asked (holding_of words.now.key hand.token.me) (holding_of words.now.key result.0.token.me) result.1
+    ensures ended { Ended B.asked (holding_of words.now.key hand.token.me)
+        (holding_of words.now.key result.0.token.me) result.1
         used.new }
     ensures room { HasAllRoom (settings_at desk.now) room.new }
 {

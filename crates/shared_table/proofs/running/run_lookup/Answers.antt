@@ -43,7 +43,10 @@ returns-clause-table g c =
 pub returns-clause-ended : goal.returns-clause-ended
 returns-clause-ended g c =
     let key = c.args.words.now.key in
-    let first : SeatValue = record { table_id = c.args.hand.token.table_id; holding = holding_of key c.args.hand.token.me } in
+    let first : SeatValue = record {
+      table_id = c.args.hand.token.table_id;
+      holding = holding_of key c.args.hand.token.me;
+    } in
     let answered = c.lookup-made.ensures.answered first c.requires.was in
     subst (λ (x : Holding). Ended g.B.Asked.asked first.holding x c.lookup-made.result
     (going_of g.B.Asked.asked first.holding).account.used)

@@ -1,10 +1,8 @@
 use Rattle.std.proofs.Common.{◌≡◌, ◌∙◌, ◌∷◌, [], ℕ, ap, rules, subst, sym}
 use Rattle.word_rows.specs.LayoutView.{shape_of}
 use Rattle.word_rows.specs.Shape.{Shape}
-use Rattle.table_model.specs.Setup.{Setup}
 use Rattle.table_model.specs.Shown.{Holding}
 use Rattle.blank_laws.specs.OwnRows.{own_end, own_start}
-use Rattle.shared_table.specs.declared.view.View.{View}
 use Rattle.shared_table.specs.Rule.{M}
 use Rattle.shared_table.specs.Insides.{holding_in}
 use Rattle.shared_table.specs.Zeros.{HasZeros}

@@ -17,7 +17,8 @@ pub invariant_of-self : goal.invariant_of-self
 invariant_of-self g c = exchange_runs g.B.Asked.asked g.B.Asked.was c.self.inside.words.now.key
     c.self.inside.words.now.table_id c.self.inside.token c.self.inside.late c.self.inside.zeros c.self.inside.done
     c.self.invariant _ c.self.view_is
-    c.args.at c.args.old c.args.new c.requires.asked c.exchange.new.token c.exchange.result c.exchange.ensures.moved c.exchange.ensures.table
+    c.args.at c.args.old c.args.new c.requires.asked c.exchange.new.token c.exchange.result c.exchange.ensures.moved
+    c.exchange.ensures.table
 
 pub returns-clause-goes : goal.returns-clause-goes
 returns-clause-goes g c = exchange_goes_on g.B.Asked.asked g.B.Asked.was c.self.inside.words.now.key

@@ -1,4 +1,4 @@
-use Rattle.std.proofs.Common.{◌+◌, ◌<◌, ◌^◌, ◌∙◌, ℕ, arith, sym}
+use Rattle.std.proofs.Common.{◌<◌, ◌^◌, ◌∙◌, arith, sym}
 use Rattle.shared_table.proofs.ZerosLemmas.{is_zero}
 use Rattle.shared_table.proofs.StepLemmas.{store_inside, store_allowed, store_runs, store_goes_on, store_fits, late_runs, late_goes_on, late_fits, late_few}
 use Rattle.shared_table.proofs.running.RunningSteps.store.Goals as goal

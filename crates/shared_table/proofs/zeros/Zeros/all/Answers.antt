@@ -1,11 +1,10 @@
-use Rattle.std.proofs.Common.{◌≡◌, ◌+◌, ◌*◌, ◌<◌, ◌≤◌, ◌^◌, ap, arith}
+use Rattle.std.proofs.Common.{◌+◌, ◌*◌, ◌≤◌, ap, arith}
 use Rattle.std.proofs.Math.Nat.{mul-le-mul_left}
 use Rattle.step_counts.specs.StepCounts.{bucket_row_words}
 use Rattle.step_counts.specs.declared.rows.SeatRows.{SeatRows}
 use Rattle.plain_map.specs.declared.full.FullKind.TheVariants.{BucketRows}
 use Rattle.word_rows.specs.LayoutView.{shape_of}
 use Rattle.word_rows.specs.Shape.{first_number, of_kind, sizes_of}
-use Rattle.blank_laws.specs.OwnRows.{own_end}
 use Rattle.shared_table.proofs.ZerosLemmas.{own_small, same_product}
 use Rattle.shared_table.proofs.zeros.Zeros.all.Goals as goal
 
