@@ -438,7 +438,7 @@ module _ (asked : ℕ × Call) (was : List SeatValue) (key : Plan) (table_id : T
       store_leaves : (other : ℕ) → IsZero left other → IsZero zeros other
           × Leaves (asked_by ahead asked) (place hold.setup.shape (address_of (asked_by ahead asked))) other
       store_leaves other z =
-          let f = fewer other z in
+          let f = fewer.fewer other z in
           let here : place hold.setup.shape (address_of (asked_by ahead asked)) ≡ at =
           ap (λ (a : Ask). place hold.setup.shape (address_of a)) st.ask ∙ sym st.is in
           (f.0, inl (λ same. f.1 (same ∙ here)))

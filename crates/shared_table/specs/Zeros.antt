@@ -23,9 +23,10 @@ pub record HasZeros (h : Holding) (zeros : Zeros) : Type 0 where
   pub own : (at : ℕ) → IsZero zeros at → IsOwnPlace h.setup.shape h.seat at
   pub zero : (at : ℕ) → IsZero zeros at → slice_index (world_after h.setup h.known).words at ≡ 0
 
--- these are fewer, without this word
-abbrev pub AreWithout : (at : ℕ) → (was now : Zeros) → Type 0
-AreWithout at was now = (other : ℕ) → IsZero now other → IsZero was other × (other ≢ at)
+-- these are the same without this word, if it is one of them, and those before it
+pub record AreWithout (at : ℕ) (was now : Zeros) : Type 0 where
+  pub fewer : (other : ℕ) → IsZero now other → IsZero was other × (other ≢ at)
+  pub kept : (other : ℕ) → IsZero was other → (IsZero was at → at < other) → IsZero now other
 
 -- the seat may step, and its step stores 0 to one of these words
 pub record IsLate (asked : ℕ × Call) (zeros : Zeros) (h : Holding) : Type 0 where

@@ -1,4 +1,5 @@
 //! The accesses of a seat to the table's words. Each is one load, store or exchange, and takes the late steps with it.
+//! How many these are is told by `_late`, to the proof alone.
 
 ghost use Rattle.std.specs.Prelude.{◌≡◌, ◌<◌, ◌==◌};
 ghost use Rattle.std.specs.Prelude.{Option, None};
