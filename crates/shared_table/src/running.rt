@@ -75,8 +75,8 @@ impl<'a, B: Asked> Steps for Running<'a, B> {
         accesses::load::<Brand>(self.words, &mut self.token, late, at)
     }
 
-    // A word of `zeros` is 0, and no other seat stores to it. So whoever loads it finds what stands there behind a store
-    // of 0, and that step may come into the run with the seat's next access.
+    // A word of `zeros` is 0, and no other seat stores to it. Whoever loads it finds what a store of 0 would leave. So
+    // that step may come into the run with the seat's next access.
     #[inline(always)]
     fn store(&mut self, at: u64, word: u64) {
         place_laws();
