@@ -8,7 +8,7 @@ use crate::faults::Fault;
 use crate::fields::{tell_key, Fields};
 use crate::heads::{heads_of, LOOKED_AT};
 use crate::key::Key;
-use crate::lines::{Call, End, Head, Session};
+use crate::lines::{Call, End, Session};
 use crate::report::{Entry, Reader};
 use crate::tails::Tail;
 use crate::text::put_number;
@@ -152,10 +152,6 @@ fn told_of(packets: &mut Packets, call: &Call) -> Result<Told, Fault> {
 }
 
 impl Reader for Flows {
-    fn head(&mut self, _: &Head) -> Result<(), Fault> {
-        Ok(())
-    }
-
     fn batch(&mut self, entries: &[Entry]) -> Result<(), Fault> {
         let told = self.tell_packets(entries)?;
         let mut in_order: Vec<usize> = (0..entries.len()).collect();

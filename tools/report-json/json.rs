@@ -67,6 +67,15 @@ impl<'a> Object<'a> {
         (number <= most).then(|| number)
     }
 
+    /// A number, if there is a field of this name; else there is none.
+    pub fn optional(&self, name: &str) -> Option<Option<u64>> {
+        if self.has(name) {
+            self.number(name, u64::MAX).map(Some)
+        } else {
+            Some(None)
+        }
+    }
+
     pub fn list(&self, name: &str) -> Option<&[u64]> {
         match self.get(name)? {
             Value::List(values) => Some(values),

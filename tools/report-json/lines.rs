@@ -1,4 +1,5 @@
-//! The lines of a report, each read from its text and put as the same text. docs/FORMATS.md has the grammar.
+//! The lines of a report of `serve` or `play`, each read from its text and put as the same text. docs/FORMATS.md has
+//! the grammar.
 //!
 //! What is read is put again byte for byte: numbers have no leading zeros, and each space and word is asked for.
 
@@ -48,7 +49,7 @@ impl Head {
         text.word(" share ")?;
         let share = text.one_of(&SHARES)?;
         let are_flows = text.word(" calls flows").is_some();
-        let batch = if text.word(" batch ").is_some() { Some(text.number(u64::MAX)?) } else { None };
+        let batch = text.optional(" batch ")?;
         text.end()?;
         Some(Head { mode, seats, items, depth, start, hash, seed, share, are_flows, batch })
     }
@@ -202,7 +203,7 @@ fn read_end(text: &mut Text<'_>, seats: u64) -> Option<End> {
     Some(End::Answered { reply, told, number, steps, seen: read_seen(text, seats)? })
 }
 
-fn read_seen(text: &mut Text<'_>, seats: u64) -> Option<Seen> {
+pub fn read_seen(text: &mut Text<'_>, seats: u64) -> Option<Seen> {
     let mut seen = Seen { counts: [0; 8], seats: seats as usize };
     text.word("after ")?;
     for at in 0..seen.seats {
@@ -214,7 +215,7 @@ fn read_seen(text: &mut Text<'_>, seats: u64) -> Option<Seen> {
     Some(seen)
 }
 
-fn put_seen(out: &mut Vec<u8>, seen: &Seen) {
+pub fn put_seen(out: &mut Vec<u8>, seen: &Seen) {
     for (at, count) in seen.counts[..seen.seats].iter().enumerate() {
         put_words(out, &[(if at == 0 { " after " } else { "," }, u64::from(*count))]);
     }

@@ -10,52 +10,23 @@ mod flows;
 mod heads;
 mod json;
 mod kept;
+mod kept_calls;
 mod key;
 mod lines;
+mod out;
 mod report;
 mod tails;
 mod text;
 
 use faults::Fault;
-use fields::{tell_call, tell_head, tell_session, tell_tail, Fields, Json, Row};
+use fields::{tell_call, tell_head, tell_session, tell_tail, Fields, Row};
 use flows::Flows;
-use lines::{Head, Session};
-use report::{read_report, Entry, Reader};
-use std::io::{self, BufReader, ErrorKind, Write};
+use lines::Session;
+use out::{Out, PIECE};
+use report::{open, read_calls, Entry, Reader};
+use std::io::{self, BufReader, ErrorKind};
 use std::process::ExitCode;
 use tails::Tail;
-
-/// How many bytes are read or written at once.
-const PIECE: usize = 1 << 18;
-
-/// Text on its way to standard output.
-struct Out {
-    text: Vec<u8>,
-}
-
-impl Out {
-    /// Writes what there is, if it is a piece.
-    fn pass(&mut self) -> Result<(), Fault> {
-        if self.text.len() < PIECE {
-            return Ok(());
-        }
-        self.end()
-    }
-
-    fn end(&mut self) -> Result<(), Fault> {
-        let mut sink = io::stdout();
-        sink.write_all(&self.text).and_then(|()| sink.flush()).map_err(Fault::Write)?;
-        self.text.clear();
-        Ok(())
-    }
-
-    fn object(&mut self, tell: impl FnOnce(&mut Json<'_>)) -> Result<(), Fault> {
-        let mut json = Json::new(&mut self.text);
-        tell(&mut json);
-        json.end();
-        self.pass()
-    }
-}
 
 /// `json`: each part is an object.
 struct Objects {
@@ -63,10 +34,6 @@ struct Objects {
 }
 
 impl Reader for Objects {
-    fn head(&mut self, head: &Head) -> Result<(), Fault> {
-        self.out.object(|json| tell_head(head, json))
-    }
-
     fn batch(&mut self, entries: &[Entry]) -> Result<(), Fault> {
         entries.iter().try_for_each(|it| self.out.object(|json| tell_call(&it.call, it.batch, it.place, json)))
     }
@@ -89,11 +56,6 @@ struct Rows {
 }
 
 impl Reader for Rows {
-    fn head(&mut self, _: &Head) -> Result<(), Fault> {
-        self.row.put_names(&mut self.out.text);
-        Ok(())
-    }
-
     fn batch(&mut self, entries: &[Entry]) -> Result<(), Fault> {
         for it in entries.iter().filter(|_| self.are_calls) {
             tell_call(&it.call, it.batch, it.place, &mut self.row);
@@ -119,8 +81,9 @@ impl Reader for Rows {
 /// The flows of a report, joined with the packets of a capture if there is one, as objects or as rows.
 fn put_flows(input: impl io::BufRead, path: Option<&str>, is_table: bool) -> Result<(), Fault> {
     let mut flows = Flows::new(path)?;
-    read_report(input, &mut flows)?;
-    let mut out = Out { text: Vec::new() };
+    let (head, mut lines) = open(input)?;
+    read_calls(head.seats, &mut lines, &mut flows)?;
+    let mut out = Out::default();
     let mut row = Row::new(&flows::COLUMNS);
     if is_table {
         row.put_names(&mut out.text);
@@ -140,24 +103,39 @@ fn put_flows(input: impl io::BufRead, path: Option<&str>, is_table: bool) -> Res
     out.end()
 }
 
+/// The head, and each part behind it, as an object.
+fn put_objects(input: impl io::BufRead) -> Result<(), Fault> {
+    let (head, mut lines) = open(input)?;
+    let mut objects = Objects { out: Out::default() };
+    objects.out.object(|json| tell_head(&head, json))?;
+    read_calls(head.seats, &mut lines, &mut objects)
+}
+
+fn put_rows(input: impl io::BufRead, columns: &'static [&'static str], are_calls: bool) -> Result<(), Fault> {
+    let (head, mut lines) = open(input)?;
+    let mut rows = Rows { out: Out::default(), row: Row::new(columns), are_calls };
+    rows.row.put_names(&mut rows.out.text);
+    read_calls(head.seats, &mut lines, &mut rows)
+}
+
+/// The report of these JSON lines.
+fn put_text(input: impl io::BufRead) -> Result<(), Fault> {
+    let mut out = Out::default();
+    kept::read_kept(input, &mut |text| {
+        out.text.append(text);
+        out.pass()
+    })?;
+    out.end()
+}
+
 fn run(words: &[String]) -> Result<(), Fault> {
     let input = BufReader::with_capacity(PIECE, io::stdin());
     let words: Vec<&str> = words.iter().map(String::as_str).collect();
-    let out = Out { text: Vec::new() };
     match words[..] {
-        ["json"] => read_report(input, &mut Objects { out }),
-        ["text"] => {
-            let mut out = out;
-            kept::read_kept(input, &mut |text| {
-                out.text.append(text);
-                out.pass()
-            })?;
-            out.end()
-        }
-        ["csv", "calls"] => read_report(input, &mut Rows { out, row: Row::new(&fields::CALLS), are_calls: true }),
-        ["csv", "sessions"] => {
-            read_report(input, &mut Rows { out, row: Row::new(&fields::SESSIONS), are_calls: false })
-        }
+        ["json"] => put_objects(input),
+        ["text"] => put_text(input),
+        ["csv", "calls"] => put_rows(input, &fields::CALLS, true),
+        ["csv", "sessions"] => put_rows(input, &fields::SESSIONS, false),
         ["csv", "flows"] => put_flows(input, None, true),
         ["csv", "flows", path] => put_flows(input, Some(path), true),
         ["flows"] => put_flows(input, None, false),

@@ -17,9 +17,8 @@ pub struct Entry {
     pub place: Option<u64>,
 }
 
-/// Who is told a report, part by part, in its order.
+/// Who is told what stands behind the head line of `serve` or `play`, part by part, in its order.
 pub trait Reader {
-    fn head(&mut self, head: &Head) -> Result<(), Fault>;
     /// The calls of one batch, in the order of their lines.
     fn batch(&mut self, entries: &[Entry]) -> Result<(), Fault>;
     fn session(&mut self, session: &Session) -> Result<(), Fault>;
@@ -27,10 +26,11 @@ pub trait Reader {
 }
 
 /// The lines of an input, without their line feeds.
-struct Lines<R> {
+pub struct Lines<R> {
     input: R,
     line: Vec<u8>,
-    number: u64,
+    /// Which line is the present one, from 1.
+    pub number: u64,
 }
 
 impl<R: BufRead> Lines<R> {
@@ -48,18 +48,27 @@ impl<R: BufRead> Lines<R> {
     }
 
     /// Goes on to the next line, which has to be there.
-    fn wanted(&mut self) -> Result<(), Fault> {
+    pub fn wanted(&mut self) -> Result<(), Fault> {
         if self.next()? {
             return Ok(());
         }
         Err(bad(self.number, "the report ends before its end"))
     }
 
-    fn none(&self) -> Fault {
-        bad(self.number, "no line that a report has here")
+    /// The present line, read as one of this form.
+    pub fn read<T>(&self, form: impl FnOnce(&[u8]) -> Option<T>) -> Result<T, Fault> {
+        form(&self.line).ok_or_else(|| bad(self.number, "no line that a report has here"))
     }
 
-    fn begins_with(&self, word: &[u8]) -> bool {
+    /// The present line has to be the last one.
+    pub fn end(&mut self) -> Result<(), Fault> {
+        if self.next()? {
+            return Err(bad(self.number, "a line behind the report's last one"));
+        }
+        Ok(())
+    }
+
+    pub fn begins_with(&self, word: &[u8]) -> bool {
         self.line.starts_with(word)
     }
 }
@@ -136,25 +145,29 @@ impl Batch {
     }
 }
 
-/// Reads a report, and tells it part by part. The fault of a text that is none names the line.
-pub fn read_report(input: impl BufRead, reader: &mut impl Reader) -> Result<(), Fault> {
+/// Reads the head line of a report. The fault of a text that is none names the line.
+pub fn open<R: BufRead>(input: R) -> Result<(Head, Lines<R>), Fault> {
     let mut lines = Lines { input, line: Vec::new(), number: 0 };
     lines.wanted()?;
-    let head = Head::read(&lines.line).ok_or_else(|| lines.none())?;
-    reader.head(&head)?;
+    let head = lines.read(Head::read)?;
+    Ok((head, lines))
+}
+
+/// Reads what stands behind the head line of `serve` or `play`, and tells it part by part.
+pub fn read_calls(seats: u64, lines: &mut Lines<impl BufRead>, reader: &mut impl Reader) -> Result<(), Fault> {
     let mut batch = Batch { number: 1, ..Batch::default() };
     lines.wanted()?;
     loop {
         if lines.begins_with(b"order") {
-            let packets = read_order(&lines.line).ok_or_else(|| lines.none())?;
+            let packets = lines.read(read_order)?;
             if batch.order(&packets).is_none() {
                 return Err(bad(lines.number, "an order that is not that of the calls before it"));
             }
         } else if lines.begins_with(b"call ") || lines.begins_with(b"pending ") {
-            let call = Call::read(&lines.line, head.seats).ok_or_else(|| lines.none())?;
+            let call = lines.read(|line| Call::read(line, seats))?;
             if !batch.take(call) {
                 let is_ordered = batch.is_ordered;
-                give(&mut batch, &lines, reader)?;
+                give(&mut batch, lines, reader)?;
                 if !is_ordered || !batch.take(call) {
                     return Err(bad(lines.number, "a call out of turn"));
                 }
@@ -164,16 +177,13 @@ pub fn read_report(input: impl BufRead, reader: &mut impl Reader) -> Result<(), 
         }
         lines.wanted()?;
     }
-    give(&mut batch, &lines, reader)?;
+    give(&mut batch, lines, reader)?;
     while lines.begins_with(b"session ") {
-        let session = Session::read(&lines.line).ok_or_else(|| lines.none())?;
-        reader.session(&session)?;
+        reader.session(&lines.read(Session::read)?)?;
         lines.wanted()?;
     }
-    let tail = read_tail(&mut lines)?;
-    if lines.next()? {
-        return Err(bad(lines.number, "a line behind the report's last one"));
-    }
+    let tail = read_tail(lines)?;
+    lines.end()?;
     reader.tail(&tail)
 }
 
@@ -189,12 +199,12 @@ fn give<R>(batch: &mut Batch, lines: &Lines<R>, reader: &mut impl Reader) -> Res
 }
 
 fn read_tail(lines: &mut Lines<impl BufRead>) -> Result<Tail, Fault> {
-    let leaves = read_numbers(&lines.line, &LEAVES).ok_or_else(|| lines.none())?;
+    let leaves = lines.read(|line| read_numbers(line, &LEAVES))?;
     lines.wanted()?;
-    let input = Input::read(&lines.line).ok_or_else(|| lines.none())?;
+    let input = lines.read(Input::read)?;
     lines.wanted()?;
-    let counts = read_numbers(&lines.line, &COUNTS).ok_or_else(|| lines.none())?;
+    let counts = lines.read(|line| read_numbers(line, &COUNTS))?;
     lines.wanted()?;
-    let steps = read_numbers(&lines.line, &STEPS).ok_or_else(|| lines.none())?;
+    let steps = lines.read(|line| read_numbers(line, &STEPS))?;
     Ok(Tail { leaves, input, counts, steps })
 }

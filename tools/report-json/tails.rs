@@ -1,4 +1,4 @@
-//! The last four lines of a report.
+//! The last lines of a report: how the input ended, and lines of numbers.
 
 use crate::text::{put_words, Text};
 

@@ -36,6 +36,14 @@ impl<'a> Text<'a> {
         (value <= most).then(|| value)
     }
 
+    /// Takes this word and the number behind it, if the text begins with the word; else there is none.
+    pub fn optional(&mut self, word: &str) -> Option<Option<u64>> {
+        match self.word(word) {
+            Some(()) => self.number(u64::MAX).map(Some),
+            None => Some(None),
+        }
+    }
+
     /// Takes a lower-case hexadecimal number of at most four digits, without leading zeros.
     pub fn group(&mut self) -> Option<u16> {
         let is_digit = |byte: &&u8| matches!(**byte, b'0'..=b'9' | b'a'..=b'f');
