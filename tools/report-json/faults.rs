@@ -26,7 +26,8 @@ impl Fault {
     pub fn complaint(&self) -> String {
         match self {
             Fault::Usage => {
-                "usage: report-json json | text | csv calls|sessions|flows [CAPTURE] | flows [CAPTURE]".to_string()
+                let tables = "csv calls|sessions|adds|totals | csv sessions all | csv flows [CAPTURE]";
+                format!("usage: report-json json | text | {tables} | flows [CAPTURE]")
             }
             Fault::Line(line, why) => format!("line {line}: {why}"),
             Fault::Capture(why) => format!("the capture: {why}"),

@@ -1,5 +1,7 @@
 //! What an object tells, field by field, and the two forms that this is written in: JSON lines and CSV.
 
+use crate::adds::{Add, Total, TotalsHead, TotalsTail, ADD_STEPS};
+use crate::blocks::{Block, FlowsHead, BLOCK_COUNTS};
 use crate::key::Key;
 use crate::lines::{Call, End, Head, Seen, Session, Told};
 use crate::tails::{Input, Numbers, Tail, COUNTS, LEAVES, STEPS};
@@ -159,6 +161,9 @@ pub const CALLS: [&str; 20] = [
     "lacks", "left", "need", "steps", "after", "batch", "place",
 ];
 pub const SESSIONS: [&str; 7] = ["low", "low_port", "high", "high_port", "proto", "session", "bytes"];
+pub const LEFT: [&str; 8] = ["at", "low", "low_port", "high", "high_port", "proto", "session", "bytes"];
+pub const ADDS: [&str; 9] = [FRAME, "seat", "class", "length", "count", "steps", "after", "batch", "place"];
+pub const TOTALS: [&str; 3] = ["class", "count", "bytes"];
 
 pub fn tell_head(head: &Head, to: &mut impl Fields) {
     to.text("type", b"head");
@@ -221,6 +226,10 @@ pub fn tell_call(call: &Call, batch: u64, place: Option<u64>, to: &mut impl Fiel
         End::Pending { seen } => tell_seen(seen, to),
     }
     to.number("batch", batch);
+    tell_place(place, to);
+}
+
+pub fn tell_place(place: Option<u64>, to: &mut impl Fields) {
     if let Some(place) = place {
         to.number("place", place);
     }
@@ -232,6 +241,10 @@ fn tell_seen(seen: &Seen, to: &mut impl Fields) {
 
 pub fn tell_session(session: &Session, to: &mut impl Fields) {
     to.text("type", b"session");
+    tell_pair(session, to);
+}
+
+fn tell_pair(session: &Session, to: &mut impl Fields) {
     tell_key(&session.key, to);
     to.number("session", session.session);
     to.number("bytes", session.bytes);
@@ -240,7 +253,13 @@ pub fn tell_session(session: &Session, to: &mut impl Fields) {
 pub fn tell_tail(tail: &Tail, to: &mut impl Fields) {
     to.text("type", b"end");
     tell_numbers(&LEAVES, &tail.leaves, to);
-    match &tail.input {
+    tell_input(&tail.input, to);
+    tell_numbers(&COUNTS, &tail.counts, to);
+    tell_numbers(&STEPS, &tail.steps, to);
+}
+
+fn tell_input(input: &Input, to: &mut impl Fields) {
+    match input {
         Input::Done { rest } => {
             to.text("input", b"done");
             to.number("rest", *rest);
@@ -257,12 +276,88 @@ pub fn tell_tail(tail: &Tail, to: &mut impl Fields) {
             to.text("found", found.as_bytes());
         }
     }
-    tell_numbers(&COUNTS, &tail.counts, to);
-    tell_numbers(&STEPS, &tail.steps, to);
 }
 
 fn tell_numbers(form: &Numbers, numbers: &[u64], to: &mut impl Fields) {
     for ((_, name), number) in form.iter().zip(numbers) {
         to.number(name, *number);
     }
+}
+
+pub fn tell_flows_head(head: &FlowsHead, to: &mut impl Fields) {
+    to.text("type", b"head");
+    to.text("mode", b"flows");
+    to.number("seats", head.seats);
+    to.number("items", head.items);
+    to.number("depth", head.depth);
+    to.number("seed", head.seed);
+    if head.are_sessions {
+        to.text("calls", b"sessions");
+    }
+    for (name, number) in [("every", head.every), ("batch", head.batch)] {
+        if let Some(number) = number {
+            to.number(name, number);
+        }
+    }
+}
+
+/// A block, but for its sessions.
+pub fn tell_block(block: &Block, to: &mut impl Fields) {
+    to.text("type", b"block");
+    to.number("at", block.at);
+    tell_numbers(&BLOCK_COUNTS, &block.counts, to);
+}
+
+/// A session of the block at this place.
+pub fn tell_left(at: u64, session: &Session, to: &mut impl Fields) {
+    to.text("type", b"session");
+    to.number("at", at);
+    tell_pair(session, to);
+}
+
+pub fn tell_flows_end(input: &Input, to: &mut impl Fields) {
+    to.text("type", b"end");
+    tell_input(input, to);
+}
+
+pub fn tell_totals_head(head: &TotalsHead, to: &mut impl Fields) {
+    to.text("type", b"head");
+    to.text("mode", b"totals");
+    to.number("seats", head.seats);
+    if let Some(batch) = head.batch {
+        to.number("batch", batch);
+    }
+}
+
+/// An add, and in which batch it stands.
+pub fn tell_add(add: &Add, batch: u64, to: &mut impl Fields) {
+    to.text("type", b"add");
+    to.number(FRAME, u64::from(add.packet));
+    to.number("seat", add.seat);
+    to.text("class", add.class.as_bytes());
+    to.number("length", add.length);
+    to.number("count", add.count);
+    to.number("steps", add.steps);
+    tell_seen(&add.seen, to);
+    to.number("batch", batch);
+}
+
+/// An order line, and in which batch it stands.
+pub fn tell_order(packets: &[u32], batch: u64, to: &mut impl Fields) {
+    to.text("type", b"order");
+    to.list("order", packets);
+    to.number("batch", batch);
+}
+
+pub fn tell_total(total: &Total, to: &mut impl Fields) {
+    to.text("type", b"total");
+    to.text("class", total.class.as_bytes());
+    to.number("count", total.count);
+    to.number("bytes", total.bytes);
+}
+
+pub fn tell_totals_tail(tail: &TotalsTail, to: &mut impl Fields) {
+    to.text("type", b"end");
+    tell_input(&tail.input, to);
+    tell_numbers(&ADD_STEPS, &tail.steps, to);
 }

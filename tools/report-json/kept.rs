@@ -1,7 +1,9 @@
-//! JSON lines that were kept, as the report that they were made of.
+//! JSON lines that were kept, as the report that they were made of. The first object tells the report's mode.
 
 use crate::faults::{bad, Fault};
 use crate::json::Object;
+use crate::kept_adds::KeptAdds;
+use crate::kept_blocks::KeptBlocks;
 use crate::kept_calls::KeptCalls;
 use crate::key::{address_of, Endpoint, Key};
 use crate::lines::{Seen, Session};
@@ -12,10 +14,12 @@ use std::io::BufRead;
 pub const NONE: &str = "no object of a report";
 pub const OUT_OF_TURN: &str = "an object out of turn";
 
-/// The report of the objects so far.
+/// The report of the objects so far, by its mode.
 enum Kept {
     Nothing,
     Calls(KeptCalls),
+    Blocks(KeptBlocks),
+    Adds(KeptAdds),
 }
 
 /// Reads JSON lines, and gives the report's text to `put`, piece by piece.
@@ -48,16 +52,29 @@ impl Kept {
         let kind = object.text("type").ok_or(NONE)?;
         match self {
             Kept::Nothing if kind != "head" => return Err(OUT_OF_TURN),
-            Kept::Nothing => *self = KeptCalls::begin(object, text).map(Kept::Calls).ok_or(NONE)?,
+            Kept::Nothing => *self = Kept::begin(object, text).ok_or(NONE)?,
             Kept::Calls(calls) => calls.take(kind, object, text)?,
+            Kept::Blocks(blocks) => blocks.take(kind, object, text)?,
+            Kept::Adds(adds) => adds.take(kind, object, text)?,
         }
         Ok(())
+    }
+
+    /// Takes the head, and puts its line.
+    fn begin(object: &Object<'_>, text: &mut Vec<u8>) -> Option<Self> {
+        Some(match object.text("mode")? {
+            "flows" => Kept::Blocks(KeptBlocks::begin(object, text)?),
+            "totals" => Kept::Adds(KeptAdds::begin(object, text)?),
+            _ => Kept::Calls(KeptCalls::begin(object, text)?),
+        })
     }
 
     fn is_ended(&self) -> bool {
         match self {
             Kept::Nothing => false,
             Kept::Calls(calls) => calls.is_ended(),
+            Kept::Blocks(blocks) => blocks.is_ended,
+            Kept::Adds(adds) => adds.is_ended,
         }
     }
 }

@@ -1,8 +1,11 @@
-//! A report of `flowdir serve` or `flowdir play` as JSON lines or as a table, and JSON lines back as the report.
+//! A report of `flowdir serve`, `play`, `flows` or `totals` as JSON lines or as a table, and JSON lines back as the
+//! report.
 //!
 //! Outside of the proof. What it makes needs no trust: `report-json text` gives the report back byte for byte, and
-//! `flowdir check` judges that. docs/FORMATS.md has the fields.
+//! `flowdir check` judges one of `serve` or `play`. docs/FORMATS.md has the fields.
 
+mod adds;
+mod blocks;
 mod capture;
 mod faults;
 mod fields;
@@ -10,79 +13,33 @@ mod flows;
 mod heads;
 mod json;
 mod kept;
+mod kept_adds;
+mod kept_blocks;
 mod kept_calls;
 mod key;
 mod lines;
+mod objects;
 mod out;
 mod report;
+mod rows;
 mod tails;
 mod text;
 
 use faults::Fault;
-use fields::{tell_call, tell_head, tell_session, tell_tail, Fields, Row};
+use fields::{Fields, Row};
 use flows::Flows;
-use lines::Session;
+use objects::put_objects;
 use out::{Out, PIECE};
-use report::{open, read_calls, Entry, Reader};
+use report::{open, read_calls};
+use rows::{put_rows, Table};
 use std::io::{self, BufReader, ErrorKind};
 use std::process::ExitCode;
-use tails::Tail;
-
-/// `json`: each part is an object.
-struct Objects {
-    out: Out,
-}
-
-impl Reader for Objects {
-    fn batch(&mut self, entries: &[Entry]) -> Result<(), Fault> {
-        entries.iter().try_for_each(|it| self.out.object(|json| tell_call(&it.call, it.batch, it.place, json)))
-    }
-
-    fn session(&mut self, session: &Session) -> Result<(), Fault> {
-        self.out.object(|json| tell_session(session, json))
-    }
-
-    fn tail(&mut self, tail: &Tail) -> Result<(), Fault> {
-        self.out.object(|json| tell_tail(tail, json))?;
-        self.out.end()
-    }
-}
-
-/// `csv`: the calls or the sessions are rows.
-struct Rows {
-    out: Out,
-    row: Row,
-    are_calls: bool,
-}
-
-impl Reader for Rows {
-    fn batch(&mut self, entries: &[Entry]) -> Result<(), Fault> {
-        for it in entries.iter().filter(|_| self.are_calls) {
-            tell_call(&it.call, it.batch, it.place, &mut self.row);
-            self.row.put(&mut self.out.text);
-            self.out.pass()?;
-        }
-        Ok(())
-    }
-
-    fn session(&mut self, session: &Session) -> Result<(), Fault> {
-        if !self.are_calls {
-            tell_session(session, &mut self.row);
-            self.row.put(&mut self.out.text);
-        }
-        self.out.pass()
-    }
-
-    fn tail(&mut self, _: &Tail) -> Result<(), Fault> {
-        self.out.end()
-    }
-}
 
 /// The flows of a report, joined with the packets of a capture if there is one, as objects or as rows.
 fn put_flows(input: impl io::BufRead, path: Option<&str>, is_table: bool) -> Result<(), Fault> {
     let mut flows = Flows::new(path)?;
-    let (head, mut lines) = open(input)?;
-    read_calls(head.seats, &mut lines, &mut flows)?;
+    let (heading, mut lines) = open(input)?;
+    read_calls(heading.of_calls()?.seats, &mut lines, &mut flows)?;
     let mut out = Out::default();
     let mut row = Row::new(&flows::COLUMNS);
     if is_table {
@@ -103,21 +60,6 @@ fn put_flows(input: impl io::BufRead, path: Option<&str>, is_table: bool) -> Res
     out.end()
 }
 
-/// The head, and each part behind it, as an object.
-fn put_objects(input: impl io::BufRead) -> Result<(), Fault> {
-    let (head, mut lines) = open(input)?;
-    let mut objects = Objects { out: Out::default() };
-    objects.out.object(|json| tell_head(&head, json))?;
-    read_calls(head.seats, &mut lines, &mut objects)
-}
-
-fn put_rows(input: impl io::BufRead, columns: &'static [&'static str], are_calls: bool) -> Result<(), Fault> {
-    let (head, mut lines) = open(input)?;
-    let mut rows = Rows { out: Out::default(), row: Row::new(columns), are_calls };
-    rows.row.put_names(&mut rows.out.text);
-    read_calls(head.seats, &mut lines, &mut rows)
-}
-
 /// The report of these JSON lines.
 fn put_text(input: impl io::BufRead) -> Result<(), Fault> {
     let mut out = Out::default();
@@ -134,8 +76,11 @@ fn run(words: &[String]) -> Result<(), Fault> {
     match words[..] {
         ["json"] => put_objects(input),
         ["text"] => put_text(input),
-        ["csv", "calls"] => put_rows(input, &fields::CALLS, true),
-        ["csv", "sessions"] => put_rows(input, &fields::SESSIONS, false),
+        ["csv", "calls"] => put_rows(input, Table::Calls),
+        ["csv", "sessions"] => put_rows(input, Table::Sessions),
+        ["csv", "sessions", "all"] => put_rows(input, Table::Left),
+        ["csv", "adds"] => put_rows(input, Table::Adds),
+        ["csv", "totals"] => put_rows(input, Table::Totals),
         ["csv", "flows"] => put_flows(input, None, true),
         ["csv", "flows", path] => put_flows(input, Some(path), true),
         ["flows"] => put_flows(input, None, false),

@@ -1,10 +1,12 @@
-//! A report read from its text, line by line: the head, the calls batch by batch with their places in the one order,
-//! the sessions, the end.
+//! A report read from its text, line by line. The head line says of which mode it is. One of `serve` or `play` goes on
+//! with the calls batch by batch with their places in the one order, the sessions, and the end.
 //!
 //! A batch is a run of call lines, pending lines and order lines, as a table leaves them. What is taken is only what
 //! can be put again byte for byte: call lines ascend by packet, pending lines by caller, and each order line but a
 //! batch's last one is full. `flowdir` writes no other.
 
+use crate::adds::TotalsHead;
+use crate::blocks::FlowsHead;
 use crate::faults::{bad, Fault};
 use crate::lines::{read_order, Call, End, Head, Session, A_LINE};
 use crate::tails::{read_numbers, Input, Tail, COUNTS, LEAVES, STEPS};
@@ -15,6 +17,34 @@ pub struct Entry {
     pub call: Call,
     pub batch: u64,
     pub place: Option<u64>,
+}
+
+/// The head line of a report, by its mode.
+pub enum Heading {
+    Calls(Head),
+    Blocks(FlowsHead),
+    Adds(TotalsHead),
+}
+
+impl Heading {
+    fn read(line: &[u8]) -> Option<Self> {
+        let calls = Head::read(line).map(Heading::Calls);
+        let blocks = || FlowsHead::read(line).map(Heading::Blocks);
+        calls.or_else(blocks).or_else(|| TotalsHead::read(line).map(Heading::Adds))
+    }
+
+    /// The head of a report of `serve` or `play`.
+    pub fn of_calls(self) -> Result<Head, Fault> {
+        match self {
+            Heading::Calls(head) => Ok(head),
+            Heading::Blocks(_) | Heading::Adds(_) => Err(another_mode()),
+        }
+    }
+}
+
+/// The fault of a report that has other lines than those that are asked for.
+pub fn another_mode() -> Fault {
+    bad(1, "the report is of another mode, and has no such lines")
 }
 
 /// Who is told what stands behind the head line of `serve` or `play`, part by part, in its order.
@@ -146,11 +176,11 @@ impl Batch {
 }
 
 /// Reads the head line of a report. The fault of a text that is none names the line.
-pub fn open<R: BufRead>(input: R) -> Result<(Head, Lines<R>), Fault> {
+pub fn open<R: BufRead>(input: R) -> Result<(Heading, Lines<R>), Fault> {
     let mut lines = Lines { input, line: Vec::new(), number: 0 };
     lines.wanted()?;
-    let head = lines.read(Head::read)?;
-    Ok((head, lines))
+    let heading = lines.read(Heading::read)?;
+    Ok((heading, lines))
 }
 
 /// Reads what stands behind the head line of `serve` or `play`, and tells it part by part.
