@@ -1,7 +1,8 @@
 -- What a seat was answered, and how many of it are updates.
-use Rattle.std.proofs.Common.{◌≡◌, ℕ, ◌≤◌, Bool, true, false, cond, List, [], ◌∷◌, ◌++◌, length, filter, refl, ap, subst, sym, arith}
+use Rattle.std.proofs.Common.{◌≡◌, ℕ, ◌≤◌, Bool, List, ◌++◌, length, filter, refl, ap, subst, sym, arith}
 use Rattle.std.specs.Prelude.{◌==◌}
 use Rattle.std.proofs.lemmas.Grind.{flat_map-append}
+use Rattle.std.proofs.lemmas.List.Sums.{count_by-le-length, length-filter}
 use Rattle.map_laws.specs.ByKey.{Made}
 use Rattle.plain_map.specs.Calls.{is_update}
 use Rattle.lasting_model.specs.Worlds.{Answer, Asker, BySeat, ByReader}
@@ -25,14 +26,8 @@ answers_by_seat q answers =
     ap (λ (test : Answer → Bool). filter test answers) (λ i (a : Answer). same_asker q a.by i)
 
 -- a test lets no more through than there are
-few_pass : {X : Type 0} (test : X → Bool) (xs : List X) → length (filter test xs) ≤ length xs
-few_pass test [] = omega arith
-few_pass {X} test (x ∷ xs) = go (test x) (few_pass test xs)
-  where
-    go : (b : Bool) → length (filter test xs) ≤ length xs →
-        length (cond b (x ∷ filter test xs) (filter test xs)) ≤ length (x ∷ xs)
-    go true few = omega (arith, few)
-    go false few = omega (arith, few)
+pub few_pass : {X : Type 0} (test : X → Bool) (xs : List X) → length (filter test xs) ≤ length xs
+few_pass test xs = omega (arith, length-filter test xs, count_by-le-length test xs)
 
 -- a seat was answered no more updates than calls
 pub updates_are_calls : (q : ℕ) (answers : List Answer) →

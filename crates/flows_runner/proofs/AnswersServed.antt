@@ -33,8 +33,9 @@ use Rattle.flows_runner.specs.Asked.{flow_seat}
 use Rattle.flows_runner.specs.Going.{HaveSeats, met_seat}
 use Rattle.flows_runner.specs.Piles.{calls_for}
 use Rattle.flows_runner.specs.Served.{AreServed, Served}
-use Rattle.flows_runner.proofs.DealtLists.{IsDealt, calls_in, counts_all, counts_dealt, few_pass, is_dealt, length_all, length_dealt}
+use Rattle.flows_runner.proofs.DealtLists.{IsDealt, calls_in, counts_all, counts_dealt, is_dealt, length_all, length_dealt}
 use Rattle.flows_runner.proofs.GoingLemmas.{make_both, make_few}
+use Rattle.flow_workers.proofs.AnswerLists.{few_pass}
 
 -- ---- the answers of a seat
 

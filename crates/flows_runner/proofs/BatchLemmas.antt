@@ -26,9 +26,10 @@ use Rattle.flows_runner.specs.Going.{HaveSeats, IsAway, IsFlowing, IsOpened, met
 use Rattle.flows_runner.specs.Hands.{CanTake, HaveFew, many_calls, replies_of}
 use Rattle.flows_runner.specs.Piles.{calls_for}
 use Rattle.flows_runner.specs.Served.{AreServed, Served}
-use Rattle.flows_runner.proofs.DealtLists.{calls_in, counts_all, few_pass, length_all}
+use Rattle.flows_runner.proofs.DealtLists.{calls_in, counts_all, length_all}
 use Rattle.flows_runner.proofs.GoingLemmas.{make_few}
 use Rattle.flows_runner.proofs.AnswersServed.{AreThrough, HasServed, HaveMadeCalls, all_met, are_seats, are_through, batch_served, few_made}
+use Rattle.flow_workers.proofs.AnswerLists.{few_pass}
 
 -- ---- what the workers have counted
 

@@ -194,13 +194,3 @@ length_dealt seats deals inside made =
     length_joined (λ (seat : ℕ). dealt_to deals seat made) (range_with_len 0 seats)
     ∙ sym (length_permutation (flat_map (λ (seat : ℕ). dealt_to deals seat made) (range_with_len 0 seats)) made
     (dealt_once seats deals inside made))
-
--- a test lets no more through than there are
-pub few_pass : {X : Type 0} (test : X → Bool) (xs : List X) → length (filter test xs) ≤ length xs
-few_pass test [] = omega arith
-few_pass {X} test (x ∷ xs) = go (test x) (few_pass test xs)
-  where
-    go : (b : Bool) → length (filter test xs) ≤ length xs →
-        length (cond b (x ∷ filter test xs) (filter test xs)) ≤ length (x ∷ xs)
-    go true few = omega (arith, few)
-    go false few = omega (arith, few)

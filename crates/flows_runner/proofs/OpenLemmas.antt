@@ -1,6 +1,6 @@
 -- A batch that is opened: each worker has its seat and its share, and may make its calls.
-use Rattle.std.proofs.Common.{◌≡◌, ℕ, zero, suc, ◌<◌, ◌≤◌, ◌+◌, ◌^◌, Bool, true, false, cond, List, [], ◌∷◌, length, map, Some, refl, sym, ap, ◌∙◌, subst, vec_len, Vec, Global, Option, arith}
-use Rattle.std.specs.Prelude.{◌==◌, All, filter}
+use Rattle.std.proofs.Common.{◌≡◌, ℕ, zero, suc, ◌<◌, ◌≤◌, ◌+◌, ◌^◌, List, [], ◌∷◌, length, map, Some, refl, sym, ap, ◌∙◌, subst, vec_len, Vec, Global, Option, arith}
+use Rattle.std.specs.Prelude.{◌==◌, All}
 use Rattle.std.specs.List.{range_with_len}
 use Rattle.std.proofs.lemmas.List.{length-map}
 use Rattle.std.proofs.lemmas.List.Elements.{All-cons, All-filter, All-head, All-map, All-nil, All-tail}
@@ -35,6 +35,7 @@ use Rattle.flows_runner.specs.Piles.{HoldsShares, calls_for, flow_way, shares_of
 use Rattle.flows_runner.specs.Served.{AreServed, Served}
 use Rattle.flows_runner.specs.Told.{packets_in}
 use Rattle.flows_runner.proofs.GoingLemmas.{make_few}
+use Rattle.flow_workers.proofs.AnswerLists.{few_pass}
 
 -- ---- a job that has counted the same
 
@@ -57,16 +58,6 @@ flowing_moves was now table seats packets blocks served same so = record {
 }
 
 -- ---- what a seat may ask
-
--- a test lets no more through than there are
-few_pass : {X : Type 0} (test : X → Bool) (xs : List X) → length (filter test xs) ≤ length xs
-few_pass test [] = omega arith
-few_pass {X} test (x ∷ xs) = go (test x) (few_pass test xs)
-  where
-    go : (b : Bool) → length (filter test xs) ≤ length xs →
-        length (cond b (x ∷ filter test xs) (filter test xs)) ≤ length (x ∷ xs)
-    go true few = omega (arith, few)
-    go false few = omega (arith, few)
 
 -- all calls were made by packets
 pub made_few : (asked : Asked) (packets : List (List ℕ)) (served : Served) → AreServed asked packets served →
