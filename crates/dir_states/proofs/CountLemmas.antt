@@ -297,8 +297,8 @@ pub low-fits : (rules : Rules) → InRange rules → (more prefix : ℕ) → mor
     prefix < 2 ^ (rules.depth - more) → prefix * 2 ^ more % 18446744073709551616 ≡ prefix * 2 ^ more
 low-fits rules range more prefix few small =
     let inside = prefix-inside rules.depth more prefix few small in
-    let most : 2 ^ rules.depth ≤ 2 ^ 12 = fewer_places rules.depth 12 range.depth in
-    let number : 2 ^ 12 ≡ 4096 = refl in
+    let most : 2 ^ rules.depth ≤ 2 ^ 20 = fewer_places rules.depth 20 range.depth in
+    let number : 2 ^ 20 ≡ 1048576 = refl in
     omega (arith, inside, most, number)
 
 -- and so is its width
