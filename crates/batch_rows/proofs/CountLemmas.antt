@@ -152,8 +152,8 @@ pub twice_as_many : (wide deep : ℕ) → wide ≡ suc deep → 2 ^ wide ≡ 2 *
 twice_as_many wide deep is = (let twice = pow-suc 2 deep in omega (arith, ap (λ d. 2 ^ d) is, twice))
 
 -- there are few prefixes
-pub few_places : (depth : ℕ) → depth ≤ 12 → 2 ^ depth ≤ 4096
-few_places depth small = (let most : 2 ^ depth ≤ 2 ^ 12 = pow_mono small in omega (arith, most))
+pub few_places : (depth : ℕ) → depth ≤ 20 → 2 ^ depth ≤ 1048576
+few_places depth small = (let most : 2 ^ depth ≤ 2 ^ 20 = pow_mono small in omega (arith, most))
 
 -- ---- one key more
 
@@ -225,7 +225,7 @@ no_depth above more was none is = omega (arith, is, ap one_for (le-ltb 0 above n
 module _ (rules : Rules) (keys : List Key) where
   -- one level more
   pub next_level : (level prefixes depths above more deep : ℕ) (counts sums : List ℕ) → IsDistinct same_key keys →
-      rules.depth ≤ 12 → level < rules.depth → deep ≡ rules.depth - level - 1 →
+      rules.depth ≤ 20 → level < rules.depth → deep ≡ rules.depth - level - 1 →
       AtLevel rules keys level prefixes depths counts → length sums ≡ length counts →
       ((prefix : ℕ) → prefix < 2 ^ deep → get_or sums prefix 0 ≡ both_at counts prefix) →
       above ≡ count_by (λ prefix. nat_lt rules.items (both_at counts prefix)) (range_with_len 0 (2 ^ deep)) →

@@ -79,9 +79,9 @@ fn halve(counts: &mut [u64], places: usize, most: u32) -> u64
 
 // How many prefixes of so many bits there are.
 fn places(depth: u32) -> usize
-    requires { depth ≤ 12 }
+    requires { depth ≤ 20 }
     ensures exact { result ≡ 2 ^ depth }
-    ensures small { result < 10000 }
+    ensures small { result < 2000000 }
 {
     1 << depth
 }
