@@ -8,7 +8,7 @@ int main(void) {
     struct flowdir_seat seat = {0};
     struct flowdir_key key = {1, 2, 3, 4, 5};
     struct flowdir_reply reply;
-    /* room for 100,000 updates on 14,600 keys */
+    /* room for 100,000 updates on so many keys */
     if (flowdir_rows_by(&options, 100000, 14600, &options.rows) != FLOWDIR_OK) return 1;
     if (flowdir_open(&options, NULL, 0, &table) != FLOWDIR_OK || flowdir_sit(&table, &seat) != FLOWDIR_OK) return 1;
     if (flowdir_insert(&seat, &key, 7, &reply) == FLOWDIR_OK && reply.kind == FLOWDIR_NEW) puts("new");
