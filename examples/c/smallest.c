@@ -1,21 +1,19 @@
-/* The smallest use: one thread, one key. cc -Iinclude smallest.c out/library/libflowdir.a -lpthread */
+/* The smallest use: one thread, one flow. cc -Iinclude smallest.c out/library/libflowdir.a -lpthread */
 #include "flowdir.h"
 #include <stdio.h>
 
 int main(void) {
-    struct flowdir_options options = {.seats = 1, .items = 16, .depth = 12, .start = 12};
-    struct flowdir_table table = {0};
-    struct flowdir_seat seat = {0};
+    struct flowdir_lasting_options options = {.seats = 1, .items = 16, .depth = 12};
+    struct flowdir_lasting table = {0};
+    struct flowdir_lasting_seat seat = {0}; /* one for each thread */
     struct flowdir_key key = {1, 2, 3, 4, 5};
     struct flowdir_reply reply;
-    /* room for 100,000 updates on 14,600 keys */
-    if (flowdir_rows_by(&options, 100000, 14600, &options.rows) != FLOWDIR_OK) return 1;
-    if (flowdir_open(&options, NULL, 0, &table) != FLOWDIR_OK || flowdir_sit(&table, &seat) != FLOWDIR_OK) return 1;
-    if (flowdir_insert(&seat, &key, 7, &reply) == FLOWDIR_OK && reply.kind == FLOWDIR_NEW) puts("new");
-    if (flowdir_lookup(&seat, &key, &reply) == FLOWDIR_OK && reply.kind == FLOWDIR_FOUND)
-        printf("found %llu\n", (unsigned long long)reply.value);
-    flowdir_rise(&table, &seat);                       /* a seat that is taken is given back, */
-    if (flowdir_close(&table) != FLOWDIR_OK) return 1; /* or this answers FLOWDIR_BUSY */
-    flowdir_free(&table);
+    if (flowdir_lasting_open(&options, NULL, 0, &table) != FLOWDIR_OK) return 1;
+    if (flowdir_lasting_sit(&table, &seat) != FLOWDIR_OK) return 1;
+    if (flowdir_lasting_count(&seat, &key, 7, 100, &reply) == FLOWDIR_OK && reply.kind == FLOWDIR_NEW) puts("new");
+    if (flowdir_lasting_count(&seat, &key, 7, 40, &reply) == FLOWDIR_OK && reply.kind == FLOWDIR_SUM)
+        printf("%llu bytes\n", (unsigned long long)reply.value); /* 140 */
+    flowdir_lasting_rise(&table, &seat); /* the next thread can take it */
+    flowdir_lasting_free(&table);
     return 0;
 }
