@@ -6,7 +6,6 @@ use Rattle.edge_traits.specs.Edge.{AppendsFront}
 use Rattle.report_told.specs.declared.verdict.Verdict.{Verdict}
 use Rattle.report_told.specs.declared.verdict.Verdict.TheVariants as verdict
 use Rattle.report_told.specs.Verdicts.{Deserves}
-use Rattle.report_reading.specs.declared.reading.TheConstants.{TEXT_LIMIT}
 use Rattle.check_runner.specs.declared.checking.Checked.{Checked}
 use Rattle.check_runner.specs.declared.checking.Checked.TheVariants.{Judged, TooLong}
 use Rattle.check_runner.specs.declared.reading.Reading.{Reading}
@@ -29,10 +28,14 @@ line_of TooLong = codes "check limit 4294967295\n"
 
 -- ---- what is found of a text
 
+-- how many bytes of a text are judged at most
+abbrev pub text_limit : ℕ
+text_limit = 4294967295
+
 -- it deserves this verdict, or is longer than may be judged
 abbrev pub IsChecked : List ℕ → Checked → Type 0
-IsChecked text (Judged found) = (length text ≤ TEXT_LIMIT) × Deserves text found
-IsChecked text TooLong = TEXT_LIMIT < length text
+IsChecked text (Judged found) = (length text ≤ text_limit) × Deserves text found
+IsChecked text TooLong = text_limit < length text
 
 -- ---- what is taken of a source
 
@@ -42,7 +45,7 @@ Takes before after P = (taken : List ℕ) × Consumes before after taken × P ta
 
 -- the text was taken, and is all that the source had, where it tells that
 pub record IsWhole (text : List ℕ) (before after : Option (List ℕ)) : Type 0 where
-  pub fits : length text ≤ TEXT_LIMIT
+  pub fits : length text ≤ text_limit
   pub taken : Consumes before after text
   pub all : IfSome before (λ bytes. bytes ≡ text)
 
@@ -50,7 +53,7 @@ pub record IsWhole (text : List ℕ) (before after : Option (List ℕ)) : Type 0
 abbrev pub IsRead : Reading → (before after : Option (List ℕ)) → Type 0
 IsRead (Whole text) before after = IsWhole text.items before after
 IsRead reading.TooLong before after =
-    Takes before after (λ taken. (TEXT_LIMIT < length taken) × (length taken ≤ TEXT_LIMIT + 1))
+    Takes before after (λ taken. (text_limit < length taken) × (length taken ≤ text_limit + 1))
 IsRead Failed before after = Unit {0}
 
 -- one fact where a read failed, and another where none did
@@ -63,7 +66,7 @@ IfFailed Failed failed other = failed
 pub record HasFound (found : Checked) (before after : Option (List ℕ)) : Type 0 where
   pub taken : List ℕ
   pub lost : Consumes before after taken
-  pub few : length taken ≤ TEXT_LIMIT + 1
+  pub few : length taken ≤ text_limit + 1
   pub is : IsChecked taken found
   pub all : (v : Verdict) → found ≡ Judged v → IfSome before (λ bytes. bytes ≡ taken)
 
@@ -85,7 +88,7 @@ pub record LeavesChecked (first left before after : Option (List ℕ)) (answer :
   pub told : (bytes : List ℕ) → first ≡ Some bytes → Leaves bytes before after answer
   pub taken : List ℕ
   pub lost : Consumes first left taken
-  pub few : length taken ≤ TEXT_LIMIT + 1
+  pub few : length taken ≤ text_limit + 1
   pub took : Leaves taken before after answer
   pub all : (v : Verdict) → answer ≡ Ok (Judged v) → IfSome first (λ bytes. bytes ≡ taken)
 

@@ -9,7 +9,6 @@ use Rattle.capture_loop.specs.Leaves.{LoopLeavesBy}
 use Rattle.command_line.specs.declared.plan.Plan.{Plan}
 use Rattle.packet_heads.specs.Links.{number_in}
 use Rattle.flows_runner.specs.declared.asked.Asked.{Asked}
-use Rattle.flows_runner.specs.declared.pile.TheConstants.{FLOW_LIMIT}
 use Rattle.flows_runner.specs.Told.{IsFlowsLines, IsFlowsReport}
 use Rattle.mode_parts.specs.Callings.{calling_of}
 use Rattle.mode_parts.specs.declared.status.Status.{Status}
@@ -32,9 +31,13 @@ asked_of plan = record {
   batch = plan.batch;
 }
 
+-- how many packets `flows` takes at most: a million times a million
+abbrev pub flow_limit : ℕ
+flow_limit = 1000000000000
+
 -- so its input is cut: a batch also ends where a block of the report stands
 abbrev pub portions_of : Plan → Portions
-portions_of plan = record { batch = plan.batch; every = plan.every; limit = FLOW_LIMIT }
+portions_of plan = record { batch = plan.batch; every = plan.every; limit = flow_limit }
 
 -- The run ended so, by its input or before, and what is put is the report of the packets that were served then, on one
 -- table that lasts, by as many callers as the plan says, or a part of it.

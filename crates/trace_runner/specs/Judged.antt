@@ -1,11 +1,10 @@
 -- What `check` leaves.
 use Rattle.std.specs.Prelude.{◌≡◌, ℕ, List, Option, Result, Ok, Err, length, nat_lt, if◌then◌else◌}
-use Rattle.report_reading.specs.declared.reading.TheConstants.{TEXT_LIMIT}
 use Rattle.check_runner.specs.declared.checking.Checked.{Checked}
 use Rattle.check_runner.specs.declared.checking.Checked.TheVariants.{Judged, TooLong}
 use Rattle.check_runner.specs.declared.checking.Stop.{Stop}
 use Rattle.check_runner.specs.declared.checking.Stop.TheVariants.{Memory, NotPut, ReadFault}
-use Rattle.check_runner.specs.Checked.{LeavesChecked}
+use Rattle.check_runner.specs.Checked.{LeavesChecked, text_limit}
 use Rattle.mode_parts.specs.declared.status.Status.{Status}
 use Rattle.mode_parts.specs.declared.status.Status.TheVariants as status
 
@@ -24,4 +23,4 @@ LeavesVerdict first left before after answer =
 
 -- the status that a text is answered with where nothing fails
 abbrev pub status_of_text : List ℕ → Status
-status_of_text text = if nat_lt TEXT_LIMIT (length text) then status.Limit else status.Done
+status_of_text text = if nat_lt text_limit (length text) then status.Limit else status.Done

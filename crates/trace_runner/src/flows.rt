@@ -8,8 +8,7 @@ ghost use Rattle.mode_parts.specs.Statuses.{MarksFor, ReadsFailed, WritesFailed}
 ghost use Rattle.capture_loop.specs.Input.{StopsAt};
 ghost use Rattle.packet_heads.specs.Links.{number_in};
 ghost use Rattle.flows_runner.specs.Asked.{CanBeAsked};
-ghost use Rattle.flows_runner.specs.declared.pile.TheConstants.{FLOW_LIMIT};
-ghost use Rattle.trace_runner.specs.Flowed.{LeavesFlows, asked_of, portions_of, seed_of};
+ghost use Rattle.trace_runner.specs.Flowed.{LeavesFlows, asked_of, flow_limit, portions_of, seed_of};
 
 use capture_loop::{Means, Portions, Stop};
 use command_line::Plan;
@@ -37,7 +36,7 @@ pub(crate) fn flow<R: Threads + Sync, S: Source, K: Sink, G: Gate + Sync>(
     ensures writes { WritesFailed result (K.failed sink.old) (K.failed sink.new) }
     ensures no_usage { result ≡ Status.Usage → ⊥ }
     ensures beyond { MarksFor result beyond.old beyond.new
-        (StopsAt (number_in plan.now.framing.link) FLOW_LIMIT (S.left source.old) (S.left source.new)) }
+        (StopsAt (number_in plan.now.framing.link) flow_limit (S.left source.old) (S.left source.new)) }
     ensures counted { (S.faults source.old ≤ S.faults source.new) × (K.faults sink.old ≤ K.faults sink.new) }
 {
     let asked = asked_of(plan);

@@ -17,9 +17,8 @@ ghost use Rattle.capture_loop.specs.Input.{StopsAt, in_batches, packet_limit};
 ghost use Rattle.trace_runner.specs.Beyond.{ReadsNoPackets};
 ghost use Rattle.trace_runner.specs.Judged.{LeavesVerdict, status_of_text};
 ghost use Rattle.play_mode.specs.Playing.{LeavesPlayed, play_limit};
-ghost use Rattle.flows_runner.specs.declared.pile.TheConstants.{FLOW_LIMIT};
 ghost use Rattle.trace_runner.specs.Totalled.{LeavesTotals};
-ghost use Rattle.trace_runner.specs.Flowed.{LeavesFlows};
+ghost use Rattle.trace_runner.specs.Flowed.{LeavesFlows, flow_limit};
 
 use crate::checking::check;
 use crate::flows::flow;
@@ -97,7 +96,7 @@ pub fn run<R: Threads + Sync, S: Source, K: Sink, G: Gate + Sync>(
         (StopsAt (number_in plan.framing.link) packet_limit (S.left source.old) (S.left source.new)) }
     ensures beyond_flows { (plan : APlan) → reads (map string_bytes words.now) ≡ Some plan → plan.mode ≡ Flows →
         MarksFor result beyond.old beyond.new
-        (StopsAt (number_in plan.framing.link) FLOW_LIMIT (S.left source.old) (S.left source.new)) }
+        (StopsAt (number_in plan.framing.link) flow_limit (S.left source.old) (S.left source.new)) }
     ensures beyond_none { (plan : APlan) → reads (map string_bytes words.now) ≡ Some plan →
         ReadsNoPackets plan.mode → beyond.new ≡ beyond.old }
 
@@ -136,7 +135,7 @@ pub fn run<R: Threads + Sync, S: Source, K: Sink, G: Gate + Sync>(
         S.left source.old ≡ Some bytes → Input (number_in plan.framing.link) bytes packets ending →
         NoneFailed (S.failed source.old) (S.failed source.new) →
         NoneFailed (K.failed sink.old) (K.failed sink.new) →
-        (result ≡ status_up_to FLOW_LIMIT packets ending) ⊎ (result ≡ Status.Memory) }
+        (result ≡ status_up_to flow_limit packets ending) ⊎ (result ≡ Status.Memory) }
 
     // `check`: what is put is the line of the verdict that the text deserves; so it is `check yes` exactly if the text
     // is certified.
@@ -217,7 +216,7 @@ fn run_plan<R: Threads + Sync, S: Source, K: Sink, G: Gate + Sync>(
     ensures beyond_totals { plan.now.mode ≡ Totals → MarksFor result beyond.old beyond.new
         (StopsAt (number_in plan.now.framing.link) packet_limit (S.left source.old) (S.left source.new)) }
     ensures beyond_flows { plan.now.mode ≡ Flows → MarksFor result beyond.old beyond.new
-        (StopsAt (number_in plan.now.framing.link) FLOW_LIMIT (S.left source.old) (S.left source.new)) }
+        (StopsAt (number_in plan.now.framing.link) flow_limit (S.left source.old) (S.left source.new)) }
     ensures beyond_none { ReadsNoPackets plan.now.mode → beyond.new ≡ beyond.old }
     ensures no_usage { result ≡ Status.Usage → ⊥ }
     ensures read_fault { result ≡ Status.ReadFault → Rose (S.faults source.old) (S.faults source.new) }

@@ -10,8 +10,7 @@ use Rattle.serve_modes.specs.Headline.{LeavesAll, LeavesTried}
 use Rattle.trace_runner.specs.Made.{LeavesMade}
 use Rattle.play_mode.specs.Playing.{LeavesPlayed, play_limit}
 use Rattle.trace_runner.specs.Totalled.{LeavesTotals}
-use Rattle.trace_runner.specs.Flowed.{LeavesFlows, portions_of}
-use Rattle.flows_runner.specs.declared.pile.TheConstants.{FLOW_LIMIT}
+use Rattle.trace_runner.specs.Flowed.{LeavesFlows, flow_limit, portions_of}
 use Rattle.capture_loop.specs.Leaves.{EndsBy}
 use Rattle.capture_loop.proofs.LeavesLemmas.{Keeps-same}
 use Rattle.mode_parts.proofs.ExactLemmas.{not_read, not_written}
@@ -193,7 +192,7 @@ pub returns-in-Ok-clause-beyond_flows : goal.returns-in-Ok-clause-beyond_flows
 returns-in-Ok-clause-beyond_flows g c = λ plan asked flows.
     let same : c.in-Ok.plan ≡ plan = same_plan (sym c.in-Ok.ensures.answers ∙ asked) in
     subst (λ (p : Plan). MarksFor c.run_plan.result c.args.beyond.now c.run_plan.new.beyond
-    (StopsAt (number_in p.framing.link) FLOW_LIMIT (g.S.Source.left c.args.source.now)
+    (StopsAt (number_in p.framing.link) flow_limit (g.S.Source.left c.args.source.now)
     (g.S.Source.left c.run_plan.new.source))) same
     (c.run_plan.ensures.beyond_flows (ap (λ (p : Plan). p.mode) same ∙ flows))
 
