@@ -1,0 +1,4 @@
+pub mod Orders
+pub mod OneByOne
+pub mod PeekBounds
+pub mod Fits
