@@ -1,0 +1,14 @@
+pub mod Going
+pub mod Starts
+pub mod Desks
+pub mod Items
+pub mod Quiet
+pub mod Marks
+pub mod Rows
+pub mod Hands
+pub mod Found
+pub mod Tries
+pub mod Attempts
+pub mod Announces
+pub mod OwnRowsView
+pub mod Writes
