@@ -1,19 +1,22 @@
 -- What the clauses of the reader say of a source that tells its bytes, from what its window holds.
-use Rattle.std.proofs.Common.{◌≡◌, ℕ, ◌+◌, ◌≤◌, ◌⊎◌, Bool, true, false, List, [], ◌++◌, length, drop, Option, Some, None, IfSome, Result, Ok, Err, IfOk, IfErr, refl, sym, ap, ◌∙◌, subst, inl, inr, arith, append_assoc, append-nil}
+use Rattle.std.proofs.Common.{◌≡◌, ℕ, ◌+◌, ◌*◌, take, length-take-le, take-append-drop, ◌≤◌, ◌⊎◌, Bool, true, false, List, [], ◌++◌, length, drop, Option, Some, None, IfSome, Result, Ok, Err, IfOk, IfErr, refl, sym, ap, ◌∙◌, subst, inl, inr, arith, append_assoc, append-nil}
 use Rattle.std.specs.Io.KnownBytes.{Consumes, prepend_known}
 use Rattle.std.proofs.lemmas.List.{drop-append-le, drop_all}
 use Rattle.pcap_reader.specs.declared.order.Order.{Order}
 use Rattle.capture_faults.specs.declared.fault.CaptureFault.{CaptureFault}
 use Rattle.capture_faults.specs.declared.fault.CaptureFault.TheVariants.{ReadFault, ShortHeader, Magic, Version, LinkType, RecordLength, Memory}
 use Rattle.pcap_reader.specs.declared.head.TheConstants.{FILE_HEAD}
-use Rattle.pcap_reader.specs.Capture.{HasFileHead, ShowsFault, IsCut, IsOverlong, bytes_of}
+use Rattle.pcap_reader.specs.Capture.{number, HasFileHead, ShowsFault, IsCut, IsOverlong, bytes_of}
+use Rattle.pcap_reader.specs.declared.stamp.Fraction.{Fraction}
+use Rattle.pcap_reader.specs.declared.stamp.Stamp.{Stamp}
+use Rattle.pcap_reader.specs.Stamps.{nanoseconds_of, stamp_of}
 use Rattle.pcap_reader.specs.Reading.{Reading, to_come, OfInput, OnInputFault, GivesRecord, Took, buffer_length}
 use Rattle.pcap_reader.specs.Record.{BeginsRecord, OnCut, ShowsNext, given_out}
 use Rattle.pcap_reader.specs.declared.record.Shown.{Shown}
 use Rattle.pcap_reader.specs.declared.record.Shown.TheVariants.{Whole, Cut, Overlong}
 use Rattle.byte_window.specs.Window.{Gathers, IsDrained}
 use Rattle.byte_window.proofs.WindowFacts.{gathers_more, drained}
-use Rattle.pcap_reader.proofs.CaptureFacts.{head_front, refuses_magic_front, refuses_version_front, refuses_link_front, overlong_front, first_record, first_record_saved, first_record_rest, length-first_record}
+use Rattle.pcap_reader.proofs.CaptureFacts.{number_front, number_at_front, head_front, refuses_magic_front, refuses_version_front, refuses_link_front, overlong_front, first_record, first_record_saved, first_record_rest, length-first_record}
 
 -- ---- the file head
 
@@ -171,9 +174,36 @@ on_cut (Overlong found) p = tt
 -- what a wait for a record needs
 pub ruleset awaiting = (gathers_more, drained, on_cut, cut_shows_none)
 
+-- what these numbers of a record's head tell
+abbrev told : Fraction → (seconds part wire : ℕ) → Stamp
+told fraction seconds part wire =
+    record { time = Some (seconds * 1000000000 + part * nanoseconds_of fraction); wire = wire }
+
 -- a reader whose window holds this, and has this as its packet
 abbrev pub holding : Reading → List ℕ → List ℕ → Reading
 holding reading pending packet = record reading { pending = pending; packet = packet }
+
+-- what a record's head tells stands in the first bytes of what begins with it
+pub stamp_there : (order : Order) (fraction : Fraction) (xs ys : List ℕ) → 16 ≤ length xs →
+    stamp_of order fraction (xs ++ ys) ≡ stamp_of order fraction xs
+stamp_there order fraction xs ys long =
+    let seconds : number order 4 (xs ++ ys) ≡ number order 4 xs = number_front order 4 xs ys (omega (arith, long)) in
+    let part : number order 4 (drop 4 (xs ++ ys)) ≡ number order 4 (drop 4 xs) =
+    number_at_front order 4 4 xs ys (omega (arith, long)) in
+    let wire : number order 4 (drop 12 (xs ++ ys)) ≡ number order 4 (drop 12 xs) =
+    number_at_front order 12 4 xs ys (omega (arith, long)) in
+    ap (λ (n : ℕ). told fraction n (number order 4 (drop 4 (xs ++ ys))) (number order 4 (drop 12 (xs ++ ys)))) seconds
+    ∙ ap (λ (n : ℕ). told fraction (number order 4 xs) n (number order 4 (drop 12 (xs ++ ys)))) part
+    ∙ ap (λ (n : ℕ). told fraction (number order 4 xs) (number order 4 (drop 4 xs)) n) wire
+
+-- the held bytes tell of the record that they begin with what its head tells
+stamp_front : (order : Order) (fraction : Fraction) (held : List ℕ) (captured : ℕ) → BeginsRecord order held captured →
+    stamp_of order fraction held ≡ stamp_of order fraction (first_record held captured).head
+stamp_front order fraction held captured begins =
+    let head : List ℕ = take 16 held in
+    let long : length head ≡ 16 = length-take-le 16 held (omega (arith, begins.whole)) in
+    ap (stamp_of order fraction) (sym (take-append-drop 16 held))
+    ∙ stamp_there order fraction head (drop 16 held) (omega (arith, long))
 
 -- a record that the held bytes begin with is given out
 pub gives_record : (old : Reading) (held packet : List ℕ) (captured : ℕ) (before after : Option (List ℕ))
@@ -189,6 +219,7 @@ gives_record old held packet captured before after going g begins room =
       saved = saved;
       is_saved = first_record_saved old.order held captured begins;
       packet = refl;
+      stamp = stamp_front old.order old.fraction held captured begins;
       told = given_told old.pending held (bytes_of saved) (drop captured (drop 16 held)) g.taken before after same
           g.told;
       taken = g.taken;

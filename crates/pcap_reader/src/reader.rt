@@ -5,11 +5,13 @@ ghost use Rattle.edge_traits.specs.Edge.{Rose, count_after};
 ghost use Rattle.byte_window.specs.Window.{Gathers, IsDrained};
 ghost use Rattle.pcap_reader.specs.Capture.{HasFileHead, IsCut, IsRemainder, ShowsFault};
 ghost use Rattle.pcap_reader.specs.Reading.{GivesNone, GivesRecord, IfEnding, IsAtStart, IsOpenedOn, IsRefusedOn, IsWithinRecords, MatchPacket, OfInput, OnInputFault, OnMemory, OnReadFault, TakesFewer, Took, UnlessReadFault, buffer_length, to_come};
+ghost use Rattle.pcap_reader.specs.Stamps.{IsCountedIn};
 ghost use Rattle.pcap_reader.specs.Record.{BeginsRecord, IsShown, OnCut, ShowsNext, given_out};
 
 use crate::head::file_head;
 use crate::record::{Shown, look};
-use crate::{FILE_HEAD, Order, RECORD_HEAD};
+use crate::stamp::stamp_in;
+use crate::{FILE_HEAD, Fraction, Order, RECORD_HEAD, Stamp};
 use byte_window::Window;
 use capture_faults::CaptureFault;
 use edge_traits::{Failed, Source};
@@ -35,7 +37,9 @@ pub const MOST_PACKETS: u64 = 1_000_000_000_000;
 #[derive(Drop)]
 pub struct Reader {
     order: Order,
+    fraction: Fraction,
     window: Window,
+    stamp: Stamp,
     offset: u64,
     given: u64,
     ended: bool,
@@ -51,8 +55,10 @@ impl Model for Reader {
 
     ghost view = { λ r. record {
       order = r.order;
+      fraction = r.fraction;
       pending = r.window.unread;
       packet = r.window.last;
+      stamp = r.stamp;
       offset = r.offset;
       given = r.given;
       ended = r.ended;
@@ -111,6 +117,7 @@ impl Reader {
         head: &[u8; FILE_HEAD],
     ) -> Result<Reader, CaptureFault>
         ensures head { IfOk result (λ reader. HasFileHead link reader.order head.now) }
+        ensures fraction { IfOk result (λ reader. IsCountedIn reader.order reader.fraction head.now) }
         ensures held { IfOk result (λ reader. reader.pending ≡ []) }
         ensures start { IfOk result IsAtStart }
         ensures fault { IfErr result (λ fault. (fault ≡ CaptureFault.Memory) ⊎ ShowsFault link head.now fault) }
@@ -127,15 +134,21 @@ impl Reader {
     /// Source: pcap-savefile(5), per-file header.
     pub fn over(link: u16, mut window: Window) -> Result<Reader, CaptureFault>
         ensures head { IfOk result (λ reader. HasFileHead link reader.order window.unread) }
+        ensures fraction { IfOk result (λ reader. IsCountedIn reader.order reader.fraction window.unread) }
         ensures held { IfOk result (λ reader. reader.pending ≡ drop FILE_HEAD window.unread) }
         ensures start { IfOk result IsAtStart }
         ensures fault { IfErr result (ShowsFault link window.unread) }
     {
-        let order = file_head(link, window.unread())?;
+        let magic = file_head(link, window.unread())?;
         window.skip(FILE_HEAD);
         Ok(Reader {
-            order,
+            order: magic.order,
+            fraction: magic.fraction,
             window,
+            stamp: Stamp {
+                time: None,
+                wire: 0,
+            },
             offset: FILE_HEAD as u64,
             given: 0,
             ended: false,
@@ -189,6 +202,7 @@ impl Reader {
         ensures unasked { ShowsNext self.old.order self.old.pending → source.new ≡ source.old }
 
         ensures order { self.new.order ≡ self.old.order }
+        ensures fraction { self.new.fraction ≡ self.old.fraction }
         ensures within { IsWithinRecords self.new }
     {
         match await_record(&mut self.window, self.order, source) {
@@ -232,6 +246,7 @@ impl Reader {
         ensures not_whole { result ≡ false → (captured : ℕ) → ¬ BeginsRecord self.old.order self.old.pending captured }
 
         ensures order { self.new.order ≡ self.old.order }
+        ensures fraction { self.new.fraction ≡ self.old.fraction }
     {
         if let Shown::Whole { captured } = look(self.order, self.window.unread()) {
             self.give(captured);
@@ -245,6 +260,14 @@ impl Reader {
         ensures { result.now ≡ self.now.packet }
     {
         self.window.last()
+    }
+
+    /// When the packet that was given last was captured, and how long it was. It means nothing before a record was
+    /// given, or after an ending.
+    pub fn stamp(&self) -> Stamp
+        ensures { result ≡ self.now.stamp }
+    {
+        self.stamp
     }
 
     /// Where the record that was given last starts, in bytes from the file's first. It means nothing before a record
@@ -269,6 +292,7 @@ impl Reader {
         requires few { self.old.given ≤ MOST_PACKETS }
         ensures { self.new ≡ given_out self.old captured }
     {
+        self.stamp = stamp_in(self.order, self.fraction, self.window.unread());
         self.window.skip(RECORD_HEAD);
         self.window.take(captured);
         self.offset += (RECORD_HEAD + captured) as u64;

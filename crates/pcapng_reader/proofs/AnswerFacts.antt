@@ -1,5 +1,5 @@
 -- What a reader of blocks answers where a packet, a fault or a cut block was awaited.
-use Rattle.std.proofs.Common.{◌≡◌, ◌≤◌, ℕ, ◌+◌, ◌-◌, true, false, List, [], ◌∷◌, ◌++◌, length, take, drop, Option, IfSome, Result, Ok, Err, refl, sym, ap, ◌∙◌, subst, inl, inr, arith, append_assoc, append-nil, length-append, length-drop, length-take-le, take-append-drop}
+use Rattle.std.proofs.Common.{◌⊎◌, ◌≡◌, ◌≤◌, ℕ, ◌+◌, ◌-◌, true, false, List, [], ◌∷◌, ◌++◌, length, take, drop, Option, IfSome, Result, Ok, Err, refl, sym, ap, ◌∙◌, subst, inl, inr, arith, append_assoc, append-nil, length-append, length-drop, length-take-le, take-append-drop}
 use Rattle.std.proofs.lemmas.List.{drop-append-le, take-append-le}
 use Rattle.pcap_reader.specs.declared.order.Order.{Order}
 use Rattle.capture_faults.specs.declared.fault.CaptureFault.{CaptureFault}
@@ -15,7 +15,8 @@ use Rattle.pcapng_reader.specs.Blocks.{AreBlocks, IsBlock, IsLast, Sees, SeesKin
 use Rattle.pcapng_reader.specs.Waiting.{Awaits, IsLastSeen, Passes, PassesNone, PassesTo}
 use Rattle.pcapng_reader.specs.Reading.{Answers, AreParts, Form, GivesPacket, MeetsEnding, OfBlocks, Reading}
 use Rattle.pcapng_reader.proofs.EveryInput.{first_block}
-use Rattle.pcapng_reader.proofs.NextFacts.{packet_lies, part_of_front}
+use Rattle.pcapng_reader.specs.Stamps.{block_stamp}
+use Rattle.pcapng_reader.proofs.NextFacts.{packet_lies, part_of_front, packet_starts, stamp_front}
 use Rattle.pcapng_reader.proofs.OneInput.{joined}
 use Rattle.pcapng_reader.proofs.PassFacts.{AreBlocks-append, AreBlocks-one, all_length, held_behind, joined-append}
 
@@ -94,8 +95,10 @@ abbrev pub behind_awaited : Reading → State → (place : ℕ) → (held : List
 behind_awaited old last place held size at count dropped =
     record {
       form = OfBlocks last;
+      fraction = old.fraction;
       pending = drop (size - dropped) held;
       packet = take count (drop at held);
+      stamp = block_stamp last at held;
       offset = place + size;
       start = place;
       given = old.given + 1;
@@ -107,6 +110,7 @@ pub record AwaitedLies (held : List ℕ) (size at count dropped : ℕ) : Type 0 
   pub less : dropped ≤ size
   pub there : size - dropped ≤ length held
   pub part : at + count ≤ size - dropped
+  pub place : (at ≡ 28) ⊎ (at ≡ 12)
   pub limit : size ≤ 16777216
 
 -- a packet that is awaited lies so
@@ -119,6 +123,7 @@ awaited_lies state offset old held taken size at count dropped h =
       less = omega (arith, h.lies.1);
       there = omega (arith, lies.there, all_length h.front h.gone h.behind, h.size, ap length h.held);
       part = omega (arith, h.lies.0, h.lies.1);
+      place = packet_starts state offset (h.front ++ (h.gone ++ h.behind)) size at count h.shows;
       limit = lies.limit;
     }
 
@@ -140,6 +145,13 @@ gives_awaited old state last held place size at count dropped taken form going r
     ap (λ (l : List ℕ). take count (drop at l)) h.held ∙ part_before h.front h.behind at count within
     ∙ sym (part_before h.front (h.gone ++ h.behind) at count within)
     ∙ sym (part_of_front whole size at count lies.part lies.there) in
+    let place_of = packet_starts last place whole size at count h.shows in
+    let front : at ≤ length h.front = omega (arith, within) in
+    let stamp : block_stamp last at held ≡ block_stamp last at block =
+    ap (block_stamp last at) h.held ∙ stamp_front last at h.front h.behind place_of front
+    ∙ sym (stamp_front last at h.front (h.gone ++ h.behind) place_of front)
+    ∙ ap (block_stamp last at) (sym (take-append-drop size whole))
+    ∙ stamp_front last at block (drop size whole) place_of (omega (arith, long, lies.part)) in
     let given : List ℕ = take count (drop at held) in
     let one : AreBlocks last place (block ∷ []) (given ∷ []) last =
     subst (λ (l : List ℕ). AreBlocks last place (block ∷ []) (l ∷ []) last) (sym packet)
@@ -173,6 +185,8 @@ gives_awaited old state last held place size at count dropped taken form going r
         is = p.place_is;
         next = (size, at, count, is.shows);
       };
+      stamp = (size, at, count, is.shows, stamp);
+      fraction = refl;
       given = refl;
       goes_on = going;
     }

@@ -16,6 +16,7 @@ use Rattle.pcap_reader.specs.Record.{BeginsRecord}
 use Rattle.capture_faults.specs.declared.any_fault.AnyFault.{AnyFault}
 use Rattle.capture_faults.specs.declared.any_fault.AnyFault.TheVariants as fault
 use Rattle.pcap_reader.proofs.OneCapture.{saved_begins}
+use Rattle.pcap_reader.proofs.ReaderFacts.{stamp_there}
 use Rattle.pcapng_reader.specs.Input.{any_ending}
 use Rattle.pcapng_reader.specs.Inner.{of_savefile}
 use Rattle.pcapng_reader.specs.Reading.{Answers, AreParts, Form, GivesPacket, HoldsPacket, MeetsEnding, OfRecords, Reading}
@@ -58,10 +59,10 @@ no_record : (order : Order) (offset : ℕ) → AreParts (OfRecords order) offset
 no_record order offset = ([], grind (arith, common_steps), refl, refl, refl)
 
 -- a record that is given is a packet
-of_record : (old new : OneFile) (taken : List ℕ) → new.order ≡ old.order →
+of_record : (old new : OneFile) (taken : List ℕ) → new.order ≡ old.order → new.fraction ≡ old.fraction →
     GivesRecord old new (to_come old (Some taken)) (to_come new (Some [])) →
     GivesPacket (of_savefile old) (of_savefile new) taken
-of_record old new taken order g =
+of_record old new taken order fraction g =
     record {
       passed = bytes_of g.saved;
       parts = one_record old.order old.offset g.saved new.packet (OfRecords new.order) g.is_saved g.packet
@@ -88,6 +89,9 @@ of_record old new taken order g =
               (saved_begins old.order g.saved [] g.is_saved),
         );
       };
+      stamp = g.stamp ∙ sym (stamp_there old.order old.fraction g.saved.head g.saved.packet
+          (omega (arith, g.is_saved.head_length)));
+      fraction = fraction;
       given = g.given;
       goes_on = g.goes_on;
     }
@@ -147,6 +151,7 @@ all_taken old new (Some xs) (Some ys) taken left told g all held =
 
 -- an item that is answered
 pub answers_item : (old new : OneFile) (before after : Option (List ℕ)) (item : Item) → new.order ≡ old.order →
+    new.fraction ≡ old.fraction →
     MatchPacket (Ok item)
     (Took before after (λ taken. GivesRecord old new (to_come old (Some taken)) (to_come new (Some []))))
     (Took before after (λ taken. GivesNone old new (to_come old (Some taken)) (to_come new (Some [])))) →
@@ -154,9 +159,9 @@ pub answers_item : (old new : OneFile) (before after : Option (List ℕ)) (item 
     (λ bytes. IsRemainder old.order old.offset bytes ending)) →
     IfEnding (Ok item) (IsRemainder old.order old.offset new.pending) →
     Answers (of_savefile old) (of_savefile new) before after (Ok item)
-answers_item old new before after Packet order took all held =
-    (took.0, took.1, of_record old new took.0 order took.2)
-answers_item old new before after End order took all held = (
+answers_item old new before after Packet order fraction took all held =
+    (took.0, took.1, of_record old new took.0 order fraction took.2)
+answers_item old new before after End order fraction took all held = (
   took.0,
   took.1,
   (
@@ -164,7 +169,7 @@ answers_item old new before after End order took all held = (
     all_taken old new before after took.0 0 took.1 took.2 all held,
   ),
 )
-answers_item old new before after (Rest left) order took all held = (
+answers_item old new before after (Rest left) order fraction took all held = (
   held.0,
   (
     took.0,
@@ -198,10 +203,10 @@ answers_refused old new before after capture.Memory took held cut = absurd held
 -- ---- a packet that is held
 
 -- a record that is held and given is a packet
-pub gives_held : (old new : OneFile) → new.order ≡ old.order →
+pub gives_held : (old new : OneFile) → new.order ≡ old.order → new.fraction ≡ old.fraction →
     ((left : Option (List ℕ)) → GivesRecord old new (to_come old left) (to_come new left)) →
     GivesPacket (of_savefile old) (of_savefile new) []
-gives_held old new order gives = of_record old new [] order (gives (Some []))
+gives_held old new order fraction gives = of_record old new [] order fraction (gives (Some []))
 
 -- no record is whole in what is held
 pub none_held : (now : Reading) (one : OneFile) → of_savefile one ≡ now →

@@ -1,8 +1,9 @@
 -- What the bytes of a front show, all of the bytes show; and what they show of a whole block, the block alone shows.
-use Rattle.std.proofs.Common.{◌≡◌, ◌≤◌, ◌<◌, ℕ, ◌-◌, List, ◌++◌, length, take, drop, sym, ap, ◌∙◌, subst, inl, inr, arith, length-append, length-drop}
+use Rattle.std.proofs.Common.{◌≡◌, ◌≤◌, ◌<◌, ℕ, ◌-◌, List, ◌++◌, length, max, take, drop, sym, ap, ◌∙◌, subst, inl, inr, arith, length-append, length-drop}
 use Rattle.std.proofs.lemmas.Bool.{cases_lt}
 use Rattle.std.proofs.lemmas.List.{drop-append-le, take-append-le}
 use Rattle.pcap_reader.specs.declared.order.Order.{Order}
+use Rattle.pcap_reader.specs.Capture.{number}
 use Rattle.pcap_reader.proofs.CaptureFacts.{number_front, number_at_front}
 use Rattle.pcapng_reader.specs.declared.block.Kind.{Kind}
 use Rattle.pcapng_reader.specs.declared.block.Kind.TheVariants.{Section, Interface, Enhanced, Simple, Other}
@@ -11,6 +12,9 @@ use Rattle.pcapng_reader.specs.declared.block.Seen.TheVariants as seen
 use Rattle.capture_faults.specs.declared.any_fault.AnyFault.TheVariants as fault
 use Rattle.pcapng_reader.specs.Section.{State}
 use Rattle.pcapng_reader.specs.Blocks.{HasKind, HasNoOrder, IsBlock, IsBlockLength, IsMagicIn, IsReadIn, IsSection, IsShort, IsWhole, Sees, SeesEnhanced, SeesHead, SeesInterface, SeesKind, SeesSection, SeesSimple, SeesSize, block_type, least_length, second_length, total_length}
+use Rattle.pcapng_reader.specs.declared.clock.Clock.{Clock}
+use Rattle.pcapng_reader.specs.Clocks.{clock_of, looked_size}
+use Rattle.pcapng_reader.proofs.ClockFacts.{clock_front}
 use Rattle.pcapng_reader.proofs.Decisions.{where_map}
 
 -- ---- numbers and magics of a front
@@ -116,32 +120,36 @@ second_front order size xs ys least whole = number_at_front order (size - 4) 4 x
 two : (P : ℕ → ℕ → Type 0) (a b c d : ℕ) → a ≡ c → b ≡ d → P a b → P c d
 two P a b c d p q h = subst (λ n. P n d) p (subst (P a) q h)
 
--- so many first bytes of a block are looked at, besides its packet
-abbrev pub looked_at : Kind → ℕ
-looked_at Section = 16
-looked_at Interface = 16
-looked_at Enhanced = 24
-looked_at Simple = 12
-looked_at Other = 0
+-- so many first bytes of a block of that size are looked at, besides its packet
+abbrev pub looked_at : Kind → (size : ℕ) → ℕ
+looked_at Section size = 16
+looked_at Interface size = max 16 (looked_size size)
+looked_at Enhanced size = 24
+looked_at Simple size = 12
+looked_at Other size = 0
 
 -- every kind has those bytes
-looked_least : (kind : Kind) → looked_at kind ≤ least_length kind
-looked_least Section = omega arith
-looked_least Interface = omega arith
-looked_least Enhanced = omega arith
-looked_least Simple = omega arith
-looked_least Other = omega arith
+looked_least : (kind : Kind) (size : ℕ) → least_length kind ≤ size → looked_at kind size ≤ size
+looked_least Section size least = omega (arith, least)
+looked_least Interface size least = omega (arith, least)
+looked_least Enhanced size least = omega (arith, least)
+looked_least Simple size least = omega (arith, least)
+looked_least Other size least = omega (arith, least)
 
 -- what a block of that kind shows by its first bytes
 pub inside_there : (state : State) (offset : ℕ) (order : Order) (kind : Kind) (size : ℕ) (xs ys : List ℕ) (x : Seen) →
-    looked_at kind ≤ length xs → SeesKind state offset order kind size xs x →
+    looked_at kind size ≤ length xs → SeesKind state offset order kind size xs x →
     SeesKind state offset order kind size (xs ++ ys) x
 inside_there state offset order Section size xs ys x long h =
     two (λ a b. SeesSection state offset order a b size x) _ _ _ _
     (sym (number_at_front order 12 2 xs ys (omega arith))) (sym (number_at_front order 14 2 xs ys (omega arith))) h
 inside_there state offset order Interface size xs ys x long h =
-    two (λ a b. SeesInterface state offset a b size x) _ _ _ _
-    (sym (number_at_front order 8 2 xs ys (omega arith))) (sym (number_at_front order 12 4 xs ys (omega arith))) h
+    subst (λ (k : Clock). SeesInterface state offset (number order 2 (drop 8 (xs ++ ys)))
+    (number order 4 (drop 12 (xs ++ ys))) k size x)
+    (sym (clock_front order size xs ys (omega (arith, long))))
+    (two (λ a b. SeesInterface state offset a b (clock_of order size xs) size x) _ _ _ _
+    (sym (number_at_front order 8 2 xs ys (omega (arith, long))))
+    (sym (number_at_front order 12 4 xs ys (omega (arith, long)))) h)
 inside_there state offset order Enhanced size xs ys x long h =
     two (λ a b. SeesEnhanced state offset a b size x) _ _ _ _
     (sym (number_at_front order 8 4 xs ys (omega arith))) (sym (number_at_front order 20 4 xs ys (omega arith))) h
@@ -151,14 +159,18 @@ inside_there state offset order Other size xs ys x long h = h
 
 -- and the other way round
 pub inside_back : (state : State) (offset : ℕ) (order : Order) (kind : Kind) (size : ℕ) (xs ys : List ℕ) (x : Seen) →
-    looked_at kind ≤ length xs → SeesKind state offset order kind size (xs ++ ys) x →
+    looked_at kind size ≤ length xs → SeesKind state offset order kind size (xs ++ ys) x →
     SeesKind state offset order kind size xs x
 inside_back state offset order Section size xs ys x long h =
     two (λ a b. SeesSection state offset order a b size x) _ _ _ _
     (number_at_front order 12 2 xs ys (omega arith)) (number_at_front order 14 2 xs ys (omega arith)) h
 inside_back state offset order Interface size xs ys x long h =
-    two (λ a b. SeesInterface state offset a b size x) _ _ _ _
-    (number_at_front order 8 2 xs ys (omega arith)) (number_at_front order 12 4 xs ys (omega arith)) h
+    subst (λ (k : Clock). SeesInterface state offset (number order 2 (drop 8 xs)) (number order 4 (drop 12 xs)) k size
+    x)
+    (clock_front order size xs ys (omega (arith, long)))
+    (two (λ a b. SeesInterface state offset a b (clock_of order size (xs ++ ys)) size x) _ _ _ _
+    (number_at_front order 8 2 xs ys (omega (arith, long)))
+    (number_at_front order 12 4 xs ys (omega (arith, long))) h)
 inside_back state offset order Enhanced size xs ys x long h =
     two (λ a b. SeesEnhanced state offset a b size x) _ _ _ _
     (number_at_front order 8 4 xs ys (omega arith)) (number_at_front order 20 4 xs ys (omega arith)) h
@@ -198,7 +210,7 @@ size_there state offset order kind size xs ys x shows (inl (right, inr (whole, h
         (λ few. omega (arith, few, there, length-append xs ys)),
         where_map (λ e. second ∙ e) (λ e. sym second ∙ e)
             (λ e k. inside_there state offset order kind size xs ys x
-            (omega (arith, looked_least kind, right.2, there)) k)
+            (omega (arith, looked_least kind size right.2, there)) k)
             (λ n e. e ∙ ap (λ l. seen.Fault (fault.Trailer offset l)) (sym second)) h,
       ),
     )
@@ -366,7 +378,7 @@ block_back state offset block more x whole sees =
       total = sym (total_front h.order block more head.long) ∙ h.total;
       there = omega arith;
       second = sym (second_front h.order n block more (omega (arith, least)) (omega arith)) ∙ h.second;
-      inside = inside_back state offset h.order h.kind n block more x (omega (arith, looked_least h.kind, h.right.2))
+      inside = inside_back state offset h.order h.kind n block more x (omega (arith, looked_least h.kind n h.right.2))
           h.inside;
     } in
     record { shows = parts_whole state offset block x n alone; whole = whole }

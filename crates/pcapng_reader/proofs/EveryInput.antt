@@ -14,6 +14,7 @@ use Rattle.pcapng_reader.specs.declared.block.Kind.TheVariants.{Section, Interfa
 use Rattle.pcapng_reader.specs.declared.block.Seen.{Seen}
 use Rattle.pcapng_reader.specs.declared.block.Seen.TheVariants as seen
 use Rattle.pcapng_reader.specs.Section.{State, opening}
+use Rattle.pcapng_reader.specs.Clocks.{clock_of}
 use Rattle.pcapng_reader.specs.Blocks.{interface_of, HasKind, HasNoOrder, HoldsBlocks, IsBlock, IsBlockLength, IsLast, IsMagicIn, IsReadIn, IsSection, IsShort, IsWhole, Sees, SeesCaptured, SeesHead, SeesKind, SeesOther, SeesSize, Where, after, block_type, byte_order_magic, given_length, interface_at, least_length, longest_block, longest_packet, most_interfaces, most_others, packets_of, padded, second_length, section_type, simple_length, total_length}
 use Rattle.pcapng_reader.specs.Input.{Input, any_ending, packets_in}
 use Rattle.pcapng_reader.proofs.Decisions.{where_some}
@@ -134,7 +135,7 @@ sees_kind state offset order Section size bytes =
     (λ n. (seen.Fault (fault.SectionVersion offset major minor), refl))
 sees_kind state offset order Interface size bytes =
     let interface : AnInterface =
-    interface_of state (number order 2 (drop 8 bytes)) (number order 4 (drop 12 bytes)) in
+    interface_of state (number order 2 (drop 8 bytes)) (number order 4 (drop 12 bytes)) (clock_of order size bytes) in
     where_some (λ x. x ≡ seen.Fault (fault.Interfaces offset))
     (λ x. SeesOther state offset (seen.Interface size interface) x) (at_most most_interfaces (length state.interfaces))
     (seen.Fault (fault.Interfaces offset), refl) (λ n. sees_other state offset (seen.Interface size interface))

@@ -18,7 +18,9 @@ use Rattle.pcapng_reader.specs.Section.{State, opening}
 use Rattle.pcapng_reader.specs.Blocks.{AreBlocks, IsLast, section_type}
 use Rattle.pcapng_reader.specs.Input.{Input, IsPcapng, any_ending, packets_in}
 use Rattle.pcapng_reader.specs.Laws.{HasOneInput, Reaches}
-use Rattle.pcapng_reader.specs.Reading.{AreParts, Form, IsEnd, IsOpened, OfBlocks, OfRecords, head_length}
+use Rattle.pcap_reader.specs.declared.stamp.Fraction.{Fraction}
+use Rattle.pcap_reader.specs.declared.stamp.Fraction.TheVariants.{Microseconds, Nanoseconds}
+use Rattle.pcapng_reader.specs.Reading.{AreParts, Form, IsCounted, IsEnd, IsOpened, OfBlocks, OfRecords, head_length}
 use Rattle.pcapng_reader.proofs.BlockFacts.{sees_there}
 use Rattle.pcapng_reader.proofs.EveryInput.{cutting}
 use Rattle.pcapng_reader.proofs.OneInput.{joined}
@@ -96,6 +98,13 @@ pcapng_front xs ys h =
 pub opened_front : (link : ℕ) (form : Form) (xs ys : List ℕ) → IsOpened link form xs → IsOpened link form (xs ++ ys)
 opened_front link (OfRecords order) xs ys h = head_front link order xs ys h
 opened_front link (OfBlocks state) xs ys h = (pcapng_front xs ys h.0, h.1)
+
+-- and tells what its fractions are counted in, as it did
+pub counted_front : (form : Form) (fraction : Fraction) (xs ys : List ℕ) → file_head_length ≤ length xs →
+    IsCounted form fraction xs → IsCounted form fraction (xs ++ ys)
+counted_front (OfRecords order) Microseconds xs ys long h = take-append-le 4 xs ys (omega (arith, long)) ∙ h
+counted_front (OfRecords order) Nanoseconds xs ys long h = take-append-le 4 xs ys (omega (arith, long)) ∙ h
+counted_front (OfBlocks state) fraction xs ys long h = tt
 
 -- an input that is opened has a head
 pub opened_long : (link : ℕ) (form : Form) (bytes : List ℕ) → IsOpened link form bytes → file_head_length ≤ length bytes

@@ -1,6 +1,7 @@
 pub mod AnswerFacts
 pub mod AnyFacts
 pub mod BlockFacts
+pub mod ClockFacts
 pub mod Decisions
 pub mod EveryInput
 pub mod InputFacts
@@ -8,6 +9,7 @@ pub mod LongFacts
 pub mod LookFacts
 pub mod NextFacts
 pub mod OneInput
+pub mod OneStamp
 pub mod PassFacts
 pub mod ReadFacts
 pub mod WaitFacts

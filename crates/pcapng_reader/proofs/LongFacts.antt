@@ -42,7 +42,7 @@ head_there state long xs h = record { long = omega (arith, h.front); section = �
 covers_there : (state : State) (order : Order) (kind : Kind) (kept : ℕ) (xs ys : List ℕ) → 28 ≤ length xs →
     CoversPacket state order kind xs kept → CoversPacket state order kind (xs ++ ys) kept
 covers_there state order Section kept xs ys front h = tt
-covers_there state order Interface kept xs ys front h = tt
+covers_there state order Interface kept xs ys front h = h
 covers_there state order Enhanced kept xs ys front h =
     subst (λ (n : ℕ). n ≤ longest_packet → 28 + n ≤ kept) (sym (number_at_front order 20 4 xs ys (omega arith))) h
 covers_there state order Simple kept xs ys front h =
@@ -101,13 +101,14 @@ pub long_cut : (state : State) (offset : ℕ) (long : Long) (bytes : List ℕ) �
     length bytes < long.size → Sees state offset bytes seen.Cut
 long_cut state offset long bytes h few = long_sees state offset long bytes seen.Cut h (inl (h.right, inl (few, refl)))
 
--- no kind has more bytes that are looked at than are kept at least
-looked_few : (kind : Kind) → looked_at kind ≤ 28
-looked_few Section = omega arith
-looked_few Interface = omega arith
-looked_few Enhanced = omega arith
-looked_few Simple = omega arith
-looked_few Other = omega arith
+-- no kind has more bytes that are looked at than are kept
+looked_kept : (state : State) (order : Order) (kind : Kind) (size : ℕ) (bytes : List ℕ) (kept : ℕ) → 28 ≤ kept →
+    CoversPacket state order kind bytes kept → looked_at kind size ≤ kept
+looked_kept state order Section size bytes kept least covers = omega (arith, least)
+looked_kept state order Interface size bytes kept least covers = omega (arith, least, covers)
+looked_kept state order Enhanced size bytes kept least covers = omega (arith, least)
+looked_kept state order Simple size bytes kept least covers = omega (arith, least)
+looked_kept state order Other size bytes kept least covers = omega (arith, least)
 
 -- its second length stands behind the bytes that are kept and those that were dropped
 second_is : (long : Long) (front gone behind : List ℕ) → length front ≡ long.kept →
@@ -127,6 +128,7 @@ size_seen : (state : State) (offset : ℕ) (long : Long) (front gone behind : Li
     long.kept + length gone + 4 ≡ long.size → 4 ≤ length behind → SeesLong state offset long (front ++ behind) x →
     SeesSize state offset long.order long.kind long.size (front ++ (gone ++ behind)) x
 size_seen state offset long front gone behind x h size all second (inl p) =
+    let looked = looked_kept state long.order long.kind long.size _ long.kept h.least h.covers in
     let same = second_is long front gone behind size all in
     inl (
       h.right,
@@ -135,9 +137,9 @@ size_seen state offset long front gone behind x h size all second (inl p) =
         inl (
           same ∙ p.0,
           inside_there state offset long.order long.kind long.size front (gone ++ behind) x
-              (omega (arith, looked_few long.kind, size, h.least))
+              (omega (arith, looked, size))
               (inside_back state offset long.order long.kind long.size front behind x
-              (omega (arith, looked_few long.kind, size, h.least)) p.1),
+              (omega (arith, looked, size)) p.1),
         ),
       ),
     )

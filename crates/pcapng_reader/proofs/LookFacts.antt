@@ -1,5 +1,5 @@
 -- What bytes show, by what was found of them.
-use Rattle.std.proofs.Common.{◌≡◌, ◌≤◌, ◌<◌, ℕ, ◌-◌, List, length, take, drop, sym, ap, ◌∙◌, subst, inl, inr, refl, arith, length-take-le, take-append-drop}
+use Rattle.std.proofs.Common.{◌≡◌, ◌≤◌, ◌<◌, ℕ, List, length, take, drop, sym, ap, ◌∙◌, subst, inl, inr, refl, arith, length-take-le, take-append-drop}
 use Rattle.pcap_reader.specs.declared.order.Order.{Order}
 use Rattle.pcap_reader.specs.declared.order.Order.TheVariants.{Little, Big}
 use Rattle.pcap_reader.specs.Capture.{number}
@@ -8,7 +8,6 @@ use Rattle.pcapng_reader.specs.declared.block.Kind.{Kind}
 use Rattle.pcapng_reader.specs.declared.block.Kind.TheVariants.{Section, Interface, Enhanced, Simple, Other}
 use Rattle.pcapng_reader.specs.declared.block.Seen.{Seen}
 use Rattle.pcapng_reader.specs.declared.block.Seen.TheVariants as seen
-use Rattle.capture_faults.specs.declared.any_fault.AnyFault.TheVariants as fault
 use Rattle.pcapng_reader.specs.Section.{State}
 use Rattle.pcapng_reader.specs.Blocks.{HasKind, IsBlockLength, IsMagicIn, IsReadIn, IsSection, IsShort, Sees, SeesKind, SeesSize, block_type, section_type, total_length}
 use Rattle.pcapng_reader.proofs.BlockFacts.{Shows}

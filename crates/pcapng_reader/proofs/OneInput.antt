@@ -11,6 +11,7 @@ use Rattle.pcapng_reader.specs.declared.block.Kind.{Kind}
 use Rattle.pcapng_reader.specs.declared.block.Kind.TheVariants.{Section, Interface, Enhanced, Simple, Other}
 use Rattle.pcapng_reader.specs.declared.block.Seen.{Seen}
 use Rattle.pcapng_reader.specs.declared.block.Seen.TheVariants as seen
+use Rattle.pcapng_reader.specs.declared.clock.Clock.{Clock}
 use Rattle.pcapng_reader.specs.Section.{State, opening}
 use Rattle.pcapng_reader.specs.Blocks.{AreBlocks, HasKind, HoldsBlocks, IsBlock, IsLast, IsMagicIn, IsReadIn, IsWhole, Sees, SeesCaptured, SeesEnhanced, SeesHead, SeesInterface, SeesKind, SeesOther, SeesSection, SeesSimple, SeesSize, after, block_type, interface_at, interface_of, packets_of, simple_length, total_length}
 use Rattle.pcapng_reader.specs.Input.{HoldsSavefile, Input, any_ending, packets_in}
@@ -54,17 +55,18 @@ same_section state offset order major minor size x y p q =
     where_once (λ a b. same_other state offset (seen.Section size order) x y a b) same p q
 
 -- an interface shows one thing
-same_interface : (state : State) (offset link snapshot size : ℕ) (x y : Seen) →
-    SeesInterface state offset link snapshot size x → SeesInterface state offset link snapshot size y → x ≡ y
-same_interface state offset link snapshot size x y p q =
+same_interface : (state : State) (offset link snapshot : ℕ) (clock : Clock) (size : ℕ) (x y : Seen) →
+    SeesInterface state offset link snapshot clock size x → SeesInterface state offset link snapshot clock size y →
+    x ≡ y
+same_interface state offset link snapshot clock size x y p q =
     where_once same
-    (λ a b. same_other state offset (seen.Interface size (interface_of state link snapshot)) x y a b) p q
+    (λ a b. same_other state offset (seen.Interface size (interface_of state link snapshot clock)) x y a b) p q
 
 -- a whole block shows one thing by its kind
 same_inside : (state : State) (offset : ℕ) (order : Order) (kind : Kind) (size : ℕ) (bytes : List ℕ) (x y : Seen) →
     SeesKind state offset order kind size bytes x → SeesKind state offset order kind size bytes y → x ≡ y
 same_inside state offset order Section size bytes x y p q = same_section state offset order _ _ size x y p q
-same_inside state offset order Interface size bytes x y p q = same_interface state offset _ _ size x y p q
+same_inside state offset order Interface size bytes x y p q = same_interface state offset _ _ _ size x y p q
 same_inside state offset order Enhanced size bytes x y p q = same_enhanced state offset _ _ size x y p q
 same_inside state offset order Simple size bytes x y p q = same_simple state offset _ size x y p q
 same_inside state offset order Other size bytes x y p q = same_other state offset (seen.Other size) x y p q
@@ -154,7 +156,7 @@ same_sees state offset bytes x y p q =
 -- ---- blocks
 
 -- a block whose size is known
-same_length : (x : Seen) (n m : ℕ) → IsWhole x n → IsWhole x m → n ≡ m
+pub same_length : (x : Seen) (n m : ℕ) → IsWhole x n → IsWhole x m → n ≡ m
 same_length (seen.Packet size at count) n m p q = sym p ∙ q
 same_length (seen.Section size order) n m p q = sym p ∙ q
 same_length (seen.Interface size interface) n m p q = sym p ∙ q

@@ -5,9 +5,10 @@ use Rattle.pcap_reader.specs.declared.order.Order.{Order}
 use Rattle.pcap_reader.specs.Reading.{Took, buffer_length}
 use Rattle.capture_faults.specs.declared.any_fault.AnyFault.{AnyFault}
 use Rattle.pcapng_reader.specs.Input.{Input}
-use Rattle.pcapng_reader.specs.Laws.{Reaches, StartsAt}
-use Rattle.pcapng_reader.specs.Reading.{AreParts, Form, GivesAll, GivesPacket, HasRead, HaveRoom, IsAtStart, IsEnd, IsOpenedOn, MeetsEnding, OfBlocks, OfRecords, Reading, beyond, head_length}
-use Rattle.pcapng_reader.proofs.InputFacts.{behind_head, end_front, head_least, input_of, opened_front, opened_long, parts_append, parts_none}
+use Rattle.pcap_reader.specs.declared.stamp.Fraction.{Fraction}
+use Rattle.pcapng_reader.specs.Laws.{IsStamped, Reaches, StartsAt}
+use Rattle.pcapng_reader.specs.Reading.{AreParts, Form, GivesAll, GivesPacket, HasRead, HaveRoom, IsAtStart, IsCounted, IsEnd, IsOpenedOn, MeetsEnding, OfBlocks, OfRecords, Reading, beyond, head_length}
+use Rattle.pcapng_reader.proofs.InputFacts.{behind_head, counted_front, end_front, head_least, input_of, opened_front, opened_long, parts_append, parts_none}
 
 -- ---- the start
 
@@ -18,6 +19,7 @@ read_start link reading taken opened start =
     record {
       form = reading.form;
       opened = opened.0;
+      counted = opened.3;
       passed = [];
       parts = parts_none reading.form (head_length reading.form);
       more = drop (head_length reading.form) taken;
@@ -30,7 +32,7 @@ read_start link reading taken opened start =
 -- ---- more bytes
 
 -- what is told is one list
-some_inj : {x y : List ℕ} → Some x ≡ Some y → y ≡ x
+pub some_inj : {x y : List ℕ} → Some x ≡ Some y → y ≡ x
 some_inj is = cc
 
 -- what was read of some bytes, where more were taken that the source still had
@@ -40,6 +42,7 @@ read_longer link front left more reading packets r =
     record {
       form = r.form;
       opened = opened_front link r.form front more r.opened;
+      counted = counted_front r.form reading.fraction front more (opened_long link r.form front r.opened) r.counted;
       passed = r.passed;
       parts = r.parts;
       more = reading.pending ++ (left ++ more);
@@ -70,6 +73,7 @@ read_next link bytes old new taken left packets r g =
     record {
       form = r.form;
       opened = r.opened;
+      counted = subst (λ (f : Fraction). IsCounted r.form f bytes) (sym g.fraction) r.counted;
       passed = r.passed ++ g.passed;
       parts = parts_append r.form (head_length r.form) r.passed packets old.form g.passed (new.packet ∷ []) new.form
           r.parts (subst (λ (n : ℕ). AreParts old.form n g.passed (new.packet ∷ []) new.form) r.offset g.parts);
@@ -82,7 +86,8 @@ read_next link bytes old new taken left packets r g =
     }
 
 -- and it starts behind parts without a packet
-pub read_starts : (link : ℕ) (bytes : List ℕ) (old new : Reading) (taken left : List ℕ) (packets : List (List ℕ)) →
+abbrev pub read_starts : (link : ℕ) (bytes : List ℕ) (old new : Reading) (taken left : List ℕ)
+    (packets : List (List ℕ)) →
     HasRead link bytes old (Some (taken ++ left)) packets → GivesPacket old new taken →
     StartsAt link bytes packets new.start
 read_starts link bytes old new taken left packets r g =
@@ -112,6 +117,19 @@ read_starts link bytes old new taken left packets r g =
       others = others;
       behind = refl;
       next = s.next;
+    }
+
+-- and its stamp is what the reader tells of it
+pub read_stamp : (link : ℕ) (bytes : List ℕ) (old new : Reading) (taken left : List ℕ) (packets : List (List ℕ)) →
+    HasRead link bytes old (Some (taken ++ left)) packets → GivesPacket old new taken →
+    IsStamped link bytes packets new.stamp
+read_stamp link bytes old new taken left packets r g =
+    record {
+      place = new.start;
+      starts = read_starts link bytes old new taken left packets r g;
+      fraction = old.fraction;
+      counted = r.counted;
+      is = g.stamp;
     }
 
 -- by what a source told before and after

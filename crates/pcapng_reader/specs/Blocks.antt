@@ -2,8 +2,8 @@
 -- Source: draft-ietf-opsawg-pcapng, 3.1 (general block structure), 4.1 (section header), 4.2 (interface description),
 -- 4.3 (enhanced packet) and 4.4 (simple packet). The limits are this project's own, but for libpcap's MAXIMUM_SNAPLEN.
 -- Places count bytes from 0, and lengths are in bytes. The reader goes piece by piece; this cuts a whole list.
--- Not looked at: options, times, a section's length, original lengths of enhanced packets, blocks of other types, the
--- obsolete packet block of type 2 among them.
+-- Not looked at: options but those of `Clocks`, a section's length, blocks of other types, the obsolete packet block
+-- of type 2 among them. Times and original lengths are what `Stamps` has.
 use Rattle.std.specs.Prelude.{◌≡◌, ◌≤◌, ◌<◌, ℕ, ◌+◌, ◌-◌, ◌*◌, ◌/◌, ◌%◌, ◌⊎◌, ◌++◌, nat_eq, nat_lt, if◌then◌else◌, List, [], ◌∷◌, length, take, drop, get_or, Result, Ok, Err}
 use Rattle.std.specs.List.{flat_map}
 use Rattle.pcap_reader.specs.declared.order.Order.{Order}
@@ -15,6 +15,8 @@ use Rattle.pcapng_reader.specs.declared.block.Kind.{Kind}
 use Rattle.pcapng_reader.specs.declared.block.Kind.TheVariants.{Section, Interface, Enhanced, Simple, Other}
 use Rattle.pcapng_reader.specs.declared.block.Seen.{Seen}
 use Rattle.pcapng_reader.specs.declared.block.Seen.TheVariants as seen
+use Rattle.pcapng_reader.specs.declared.clock.Clock.{Clock}
+use Rattle.pcapng_reader.specs.Clocks.{clock_of}
 use Rattle.pcapng_reader.specs.Section.{State, no_interface}
 
 -- ---- the numbers of the format
@@ -159,22 +161,24 @@ SeesSection state offset order major minor size sees =
     Unless (major ≡ 1) (sees ≡ seen.Fault (fault.SectionVersion offset major minor))
     (SeesOther state offset (seen.Section size order) sees)
 
--- the interface of that link type and snapshot length
-abbrev pub interface_of : State → (link snapshot : ℕ) → AnInterface
-interface_of state link snapshot = record { is_asked = nat_eq link state.link; snapshot = snapshot }
+-- the interface of that link type, snapshot length and clock
+abbrev pub interface_of : State → (link snapshot : ℕ) → Clock → AnInterface
+interface_of state link snapshot clock =
+    record { is_asked = nat_eq link state.link; snapshot = snapshot; clock = clock }
 
 -- a block that describes it
-abbrev pub SeesInterface : State → ℕ → (link snapshot : ℕ) → ℕ → Seen → Type 0
-SeesInterface state offset link snapshot size sees =
+abbrev pub SeesInterface : State → ℕ → (link snapshot : ℕ) → Clock → ℕ → Seen → Type 0
+SeesInterface state offset link snapshot clock size sees =
     Where (most_interfaces ≤ length state.interfaces) (sees ≡ seen.Fault (fault.Interfaces offset))
-    (SeesOther state offset (seen.Interface size (interface_of state link snapshot)) sees)
+    (SeesOther state offset (seen.Interface size (interface_of state link snapshot clock)) sees)
 
 -- what a whole block of that kind and size shows
 abbrev pub SeesKind : State → ℕ → Order → Kind → ℕ → List ℕ → Seen → Type 0
 SeesKind state offset order Section size bytes sees =
     SeesSection state offset order (number order 2 (drop 12 bytes)) (number order 2 (drop 14 bytes)) size sees
 SeesKind state offset order Interface size bytes sees =
-    SeesInterface state offset (number order 2 (drop 8 bytes)) (number order 4 (drop 12 bytes)) size sees
+    SeesInterface state offset (number order 2 (drop 8 bytes)) (number order 4 (drop 12 bytes))
+    (clock_of order size bytes) size sees
 SeesKind state offset order Enhanced size bytes sees =
     SeesEnhanced state offset (number order 4 (drop 8 bytes)) (number order 4 (drop 20 bytes)) size sees
 SeesKind state offset order Simple size bytes sees =

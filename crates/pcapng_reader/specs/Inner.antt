@@ -10,8 +10,10 @@ abbrev pub of_savefile : OneFile → Reading
 of_savefile saved =
     record {
       form = OfRecords saved.order;
+      fraction = saved.fraction;
       pending = saved.pending;
       packet = saved.packet;
+      stamp = saved.stamp;
       offset = saved.offset;
       start = saved.offset - (16 + length saved.packet);
       given = saved.given;

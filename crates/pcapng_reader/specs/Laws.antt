@@ -1,8 +1,10 @@
 -- What holds of all inputs.
-use Rattle.std.specs.Prelude.{◌≡◌, ℕ, ◌+◌, List, ◌++◌, length, drop, Result}
+use Rattle.std.specs.Prelude.{◌≡◌, ℕ, ◌+◌, List, ◌++◌, length, drop, Result, Some}
 use Rattle.capture_faults.specs.declared.any_fault.AnyFault.{AnyFault}
 use Rattle.pcapng_reader.specs.Input.{Input}
-use Rattle.pcapng_reader.specs.Reading.{AreParts, Form, GivesAll, HoldsPacket, IsAtStart, IsOpened, IsOpenedOn, MeetsEnding, Reading, head_length}
+use Rattle.pcap_reader.specs.declared.stamp.Fraction.{Fraction}
+use Rattle.pcap_reader.specs.declared.stamp.Stamp.{Stamp}
+use Rattle.pcapng_reader.specs.Reading.{AreParts, Form, GivesAll, GivesPacket, HasRead, HasStamp, HoldsPacket, IsAtStart, IsCounted, IsOpened, IsOpenedOn, MeetsEnding, Reading, head_length}
 
 -- a list of bytes has at most one input
 abbrev pub HasOneInput : ℕ → List ℕ → Type 0
@@ -33,6 +35,28 @@ pub record StartsAt (link : ℕ) (bytes : List ℕ) (packets : List (List ℕ)) 
   pub others : List ℕ
   pub behind : reaches.more ≡ part ++ others
   pub next : HoldsPacket reaches.last place part
+
+-- the packet behind these in an input with these bytes has that stamp
+pub record IsStamped (link : ℕ) (bytes : List ℕ) (packets : List (List ℕ)) (stamp : Stamp) : Type 0 where
+  pub place : ℕ
+  pub starts : StartsAt link bytes packets place
+  pub fraction : Fraction
+  pub counted : IsCounted starts.form fraction bytes
+  pub is : HasStamp fraction starts.reaches.last place starts.part stamp
+
+-- it has one stamp, whatever follows it
+abbrev pub HasOneStamp : ℕ → List ℕ → Type 0
+HasOneStamp link bytes =
+    (packets : List (List ℕ)) (one other : Stamp) → IsStamped link bytes packets one →
+    IsStamped link bytes packets other → one ≡ other
+
+-- what a reader tells of a packet that it gives is the stamp of that packet in the input, of which these were given
+-- before
+abbrev pub ReadsStamps : Type 0
+ReadsStamps =
+    (link : ℕ) (bytes : List ℕ) (old new : Reading) (taken left : List ℕ) (packets : List (List ℕ)) →
+    HasRead link bytes old (Some (taken ++ left)) packets → GivesPacket old new taken →
+    IsStamped link bytes packets new.stamp
 
 -- the packets of the parts that a list of bytes begins with are the first of its input
 abbrev pub HoldsFront : ℕ → List ℕ → Type 0

@@ -3,5 +3,7 @@ pub mod Inner
 pub mod Input
 pub mod Laws
 pub mod Reading
+pub mod Clocks
 pub mod Section
+pub mod Stamps
 pub mod Waiting

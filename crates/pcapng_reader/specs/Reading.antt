@@ -1,8 +1,11 @@
 -- A reader of an input as its clauses see it, and what its calls do to it.
-use Rattle.std.specs.Prelude.{◌≡◌, ◌≤◌, ◌<◌, ℕ, ◌+◌, ◌++◌, Bool, true, false, List, [], ◌∷◌, length, drop, All, Option, Some, IfSome, Result, Ok, Err}
+use Rattle.std.specs.Prelude.{◌≡◌, ◌≤◌, ◌<◌, ℕ, ◌+◌, ◌++◌, Bool, true, false, List, [], ◌∷◌, length, drop, All, Option, Some, None, IfSome, Result, Ok, Err}
 use Rattle.std.specs.List.{flat_map}
 use Rattle.std.specs.Io.KnownBytes.{prepend_known}
 use Rattle.pcap_reader.specs.declared.order.Order.{Order}
+use Rattle.pcap_reader.specs.declared.stamp.Fraction.{Fraction}
+use Rattle.pcap_reader.specs.declared.stamp.Stamp.{Stamp}
+use Rattle.pcap_reader.specs.Stamps.{IsCountedIn, stamp_of}
 use Rattle.capture_faults.specs.declared.fault.CaptureFault.{CaptureFault}
 use Rattle.capture_faults.specs.declared.fault.CaptureFault.TheVariants as capture
 use Rattle.pcap_reader.specs.declared.reader.Item.{Item}
@@ -15,6 +18,7 @@ use Rattle.pcapng_reader.specs.Section.{State, opening}
 use Rattle.pcap_reader.specs.Record.{BeginsRecord}
 use Rattle.pcapng_reader.specs.declared.block.Seen.TheVariants as seen
 use Rattle.pcapng_reader.specs.Blocks.{AreBlocks, IsLast, Sees}
+use Rattle.pcapng_reader.specs.Stamps.{block_stamp}
 use Rattle.pcapng_reader.specs.Input.{IsPcapng, any_ending, packets_in}
 
 -- ---- how an input is cut
@@ -57,16 +61,37 @@ HoldsPacket (OfRecords order) offset bytes = (captured : ℕ) × BeginsRecord or
 HoldsPacket (OfBlocks state) offset bytes =
     (size : ℕ) × (at : ℕ) × (count : ℕ) × Sees state offset bytes (seen.Packet size at count)
 
+-- the head of a savefile tells that fractions are counted so; that of a pcapng input tells nothing
+abbrev pub IsCounted : Form → Fraction → List ℕ → Type 0
+IsCounted (OfRecords order) fraction bytes = IsCountedIn order fraction bytes
+IsCounted (OfBlocks state) fraction bytes = Unit {0}
+
+-- what a block of that form tells whose packet starts at that place
+abbrev pub stamp_at : Form → ℕ → List ℕ → Stamp
+stamp_at (OfRecords order) at bytes = record { time = None; wire = 0 }
+stamp_at (OfBlocks state) at bytes = block_stamp state at bytes
+
+-- this is the stamp of the packet of the whole record or block that the bytes begin with
+abbrev pub HasStamp : Fraction → Form → ℕ → List ℕ → Stamp → Type 0
+HasStamp fraction (OfRecords order) offset bytes stamp = stamp ≡ stamp_of order fraction bytes
+HasStamp fraction (OfBlocks state) offset bytes stamp =
+    (size : ℕ) × (at : ℕ) × (count : ℕ) × Sees state offset bytes (seen.Packet size at count)
+    × (stamp ≡ block_stamp state at bytes)
+
 -- ---- a reader
 
 -- what is known of a reader between two calls
 pub record Reading : Type 0 where
   -- how the bytes still to come are cut
   pub form : Form
+  -- what fractions of a second are counted in, if it is a savefile
+  pub fraction : Fraction
   -- the bytes that were taken from the source, and not yet passed
   pub pending : List ℕ
   -- the bytes of the packet that was given last
   pub packet : List ℕ
+  -- when that one was captured, and how long it was
+  pub stamp : Stamp
   -- where the next record or block starts, in bytes from the input's first
   pub offset : ℕ
   -- where the record or block of the packet that was given last starts
@@ -86,7 +111,7 @@ beyond (OfBlocks state) = 20971520
 abbrev pub IsOpenedOn : ℕ → Reading → List ℕ → Type 0
 IsOpenedOn link reading taken =
     IsOpened link reading.form taken × (reading.pending ≡ drop (head_length reading.form) taken)
-    × (length taken ≤ buffer_length)
+    × (length taken ≤ buffer_length) × IsCounted reading.form reading.fraction taken
 
 -- the reader stands before the first record or block, and has given nothing
 pub record IsAtStart (reading : Reading) : Type 0 where
@@ -120,6 +145,8 @@ pub record GivesPacket (old new : Reading) (taken : List ℕ) : Type 0 where
   pub room : HaveRoom new.form passed new.pending
   pub offset : new.offset ≡ old.offset + length passed
   pub starts : PacketStarts old.form old.offset passed new.start
+  pub stamp : HasStamp old.fraction starts.last new.start starts.rest new.stamp
+  pub fraction : new.fraction ≡ old.fraction
   pub given : new.given ≡ old.given + 1
   pub goes_on : new.ended ≡ false
 
@@ -142,6 +169,7 @@ pub record HasRead (link : ℕ) (bytes : List ℕ) (reading : Reading) (left : O
     Type 0 where
   pub form : Form
   pub opened : IsOpened link form bytes
+  pub counted : IsCounted form reading.fraction bytes
   pub passed : List ℕ
   pub parts : AreParts form (head_length form) passed packets reading.form
   pub more : List ℕ

@@ -126,10 +126,11 @@ HasRoom state (seen.Packet size at count) = Unit {0}
 HasRoom state seen.Cut = Unit {0}
 HasRoom state (seen.Fault found) = Unit {0}
 
--- the first so many bytes of such a block have its packet, where that is within the limit
+-- the first so many bytes of such a block have its packet, where that is within the limit, and what is looked at of
+-- options
 abbrev pub CoversPacket : State → Order → Kind → List ℕ → (kept : ℕ) → Type 0
 CoversPacket state order Section bytes kept = Unit {0}
-CoversPacket state order Interface bytes kept = Unit {0}
+CoversPacket state order Interface bytes kept = 4096 ≤ kept
 CoversPacket state order Enhanced bytes kept =
     number order 4 (drop 20 bytes) ≤ longest_packet → 28 + number order 4 (drop 20 bytes) ≤ kept
 CoversPacket state order Simple bytes kept =

@@ -9,7 +9,7 @@ ghost use Rattle.pcap_reader.specs.Capture.{ShowsFault};
 ghost use Rattle.pcapng_reader.specs.Section.{opening};
 ghost use Rattle.pcapng_reader.specs.Input.{IsPcapng};
 ghost use Rattle.pcapng_reader.specs.Inner.{reading_of};
-ghost use Rattle.pcapng_reader.specs.Reading.{Answers, GivesPacket, HoldsPacket, IsAtStart, IsOpened, IsOpenedOn, OnRefused, UnlessReadFault, head_length};
+ghost use Rattle.pcapng_reader.specs.Reading.{Answers, GivesPacket, HoldsPacket, IsAtStart, IsCounted, IsOpened, IsOpenedOn, OnRefused, UnlessReadFault, head_length};
 
 use crate::Section;
 use crate::block::begins_section;
@@ -17,7 +17,7 @@ use crate::blocks::BlockReader;
 use byte_window::Window;
 use capture_faults::{AnyFault, CaptureFault};
 use edge_traits::Source;
-use pcap_reader::{FILE_HEAD, Item, MOST_PACKETS, Reader};
+use pcap_reader::{FILE_HEAD, Item, MOST_PACKETS, Reader, Stamp};
 use std::alloc::Global;
 use std::marker::Model;
 
@@ -143,6 +143,19 @@ impl AnyReader {
         }
     }
 
+    /// When the packet that was given last was captured, in nanoseconds since 1970, and how long it was. It means
+    /// nothing before a packet was given, or after an ending.
+    ///
+    /// Source: pcap-savefile(5), per-packet header; draft-ietf-opsawg-pcapng, 4.2 (if_tsresol, if_tsoffset), 4.3, 4.4.
+    pub fn stamp(&self) -> Stamp
+        ensures { result ≡ self.now.stamp }
+    {
+        match &self.inner {
+            Inner::Savefile(reader) => reader.stamp(),
+            Inner::Blocks(reader) => reader.stamp(),
+        }
+    }
+
     /// Where the record or block of the packet that was given last starts, in bytes from the input's first. It means
     /// nothing before a packet was given, or after an ending.
     pub fn start(&self) -> u64
@@ -170,6 +183,8 @@ fn inner_of(link: u16, window: Window, section: Section) -> Result<Inner, Captur
     requires whole { FILE_HEAD ≤ length window.unread }
     requires opening { section ≡ opening link }
     ensures form { IfOk result (λ inner. IsOpened link (reading_of inner).form window.unread) }
+    ensures counted { IfOk result (λ inner.
+        IsCounted (reading_of inner).form (reading_of inner).fraction window.unread) }
     ensures held { IfOk result (λ inner.
         (reading_of inner).pending ≡ drop (head_length (reading_of inner).form) window.unread) }
     ensures start { IfOk result (λ inner. IsAtStart (reading_of inner)) }

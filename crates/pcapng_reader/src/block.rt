@@ -2,11 +2,13 @@
 //!
 //! Source: draft-ietf-opsawg-pcapng, 3.1 and 4.1 to 4.4.
 
-ghost use Rattle.std.specs.Prelude.{◌≡◌, ◌≤◌, true, false, length, take, IfSome, IfNone};
+ghost use Rattle.std.specs.Prelude.{◌≡◌, ◌≤◌, true, false, length, take, drop, IfSome, IfNone};
 ghost use Rattle.pcap_reader.specs.declared.order.Order.{Order as AnOrder};
 ghost use Rattle.pcap_reader.specs.Capture.{spelling};
+ghost use Rattle.pcapng_reader.specs.Clocks.{looked_size};
 ghost use Rattle.pcapng_reader.specs.Blocks.{HasKind, IsBlockLength, IsSection, IsTooLong, Sees, SeesCaptured, SeesEnhanced, SeesInterface, SeesKind, SeesOther, SeesSection, SeesSimple, SeesSize, byte_order_magic, given_length, least_length, simple_length, total_length};
 
+use crate::clock::{Clock, FRONT_LOOKED_AT, clock_in};
 use crate::{Interface, Section};
 use capture_faults::{AnyFault, MOST_INTERFACES, MOST_OTHERS};
 use pcap_reader::{MAXIMUM_CAPTURED, Order};
@@ -223,7 +225,8 @@ pub fn look_inside(
         Kind::Interface => {
             let link = order.read_u16(&bytes[8..]);
             let snapshot = order.read_u32(&bytes[12..]);
-            see_interface(section, offset, link, snapshot, size)
+            let clock = clock_in(order, options_in(size, bytes));
+            see_interface(section, offset, link, snapshot, clock, size)
         }
         Kind::Enhanced => {
             let place = order.read_u32(&bytes[8..]);
@@ -259,9 +262,26 @@ fn see_section(
     see_other(section, offset, Seen::Section { size, order })
 }
 
+/// The options of an interface's block of that size, as far as they are looked at.
+fn options_in(size: usize, bytes: &[u8]) -> &[u8]
+    requires { 20 ≤ length bytes.now }
+    ensures { result.now ≡ drop 16 (take (looked_size size) bytes.now) }
+{
+    let end = FRONT_LOOKED_AT.min(size.saturating_sub(4)).min(bytes.len());
+    let front = &bytes[..end];
+    &front[end.min(16)..]
+}
+
 /// What an interface shows.
-fn see_interface(section: &Section, offset: u64, link: u16, snapshot: u32, size: usize) -> Seen
-    ensures { SeesInterface section.now offset link snapshot size result }
+fn see_interface(
+    section: &Section,
+    offset: u64,
+    link: u16,
+    snapshot: u32,
+    clock: Clock,
+    size: usize,
+) -> Seen
+    ensures { SeesInterface section.now offset link snapshot clock size result }
 {
     if section.interfaces() >= MOST_INTERFACES {
         return Seen::Fault(AnyFault::Interfaces { offset });
@@ -269,6 +289,7 @@ fn see_interface(section: &Section, offset: u64, link: u16, snapshot: u32, size:
     let interface = Interface {
         is_asked: link == section.link(),
         snapshot,
+        clock,
     };
     see_other(section, offset, Seen::Interface { size, interface })
 }

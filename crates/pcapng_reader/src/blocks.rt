@@ -1,19 +1,22 @@
 //! Gives out the packets of a pcapng input, one at a time and in place.
 
-ghost use Rattle.std.specs.Prelude.{◌≡◌, ◌≤◌, ◌+◌, ℕ, [], false, true, length, take, drop, Err};
+ghost use Rattle.std.specs.Prelude.{◌≡◌, ◌≤◌, ◌+◌, ◌⊎◌, None, ℕ, [], false, true, length, take, drop, Err};
 ghost use Rattle.edge_traits.specs.Edge.{Rose, count_after};
 ghost use Rattle.capture_faults.specs.declared.fault.CaptureFault.TheVariants.{ReadFault};
 ghost use Rattle.capture_faults.specs.declared.any_fault.AnyFault.TheVariants.{Capture};
-ghost use Rattle.pcapng_reader.specs.Reading.{Answers, GivesPacket, HoldsPacket, OfBlocks, UnlessReadFault};
+ghost use Rattle.pcap_reader.specs.declared.stamp.Fraction.TheVariants as Fraction;
+ghost use Rattle.pcapng_reader.specs.Reading.{Answers, GivesPacket, HoldsPacket, OfBlocks, UnlessReadFault, stamp_at};
 
 use crate::Section;
 use crate::block::{Seen, look};
+use crate::clock::Clock;
 use crate::long::Awaited;
+use crate::told::{Told, told_in};
 use crate::waiting::await_packet;
 use byte_window::Window;
 use capture_faults::{AnyFault, CaptureFault};
 use edge_traits::Source;
-use pcap_reader::{Item, MOST_PACKETS};
+use pcap_reader::{Item, MOST_PACKETS, Stamp};
 use std::marker::Model;
 
 /// A reader of one pcapng input.
@@ -21,6 +24,7 @@ use std::marker::Model;
 pub struct BlockReader {
     section: Section,
     window: Window,
+    told: Told,
     offset: u64,
     start: u64,
     given: u64,
@@ -30,13 +34,17 @@ pub struct BlockReader {
 impl Model for BlockReader {
     ghost use Rattle.std.specs.Prelude.{◌≤◌, ◌+◌, ◌*◌};
     ghost use Rattle.pcapng_reader.specs.Reading.{OfBlocks, Reading};
+    ghost use Rattle.pcapng_reader.specs.Stamps.{stamp_told};
+    ghost use Rattle.pcap_reader.specs.declared.stamp.Fraction.TheVariants as Fraction;
 
     ghost Value = { Reading };
 
     ghost view = { λ r. record {
       form = OfBlocks r.section;
+      fraction = Fraction.Microseconds;
       pending = r.window.unread;
       packet = r.window.last;
+      stamp = stamp_told r.told;
       offset = r.offset;
       start = r.start;
       given = r.given;
@@ -52,8 +60,10 @@ impl BlockReader {
         requires { section.others ≤ 4000000 }
         ensures { result ≡ record {
           form = OfBlocks section;
+          fraction = Fraction.Microseconds;
           pending = window.unread;
           packet = [];
+          stamp = record { time = None; wire = 0 };
           offset = 0;
           start = 0;
           given = 0;
@@ -65,6 +75,11 @@ impl BlockReader {
         BlockReader {
             section,
             window,
+            told: Told {
+                ticks: None,
+                clock: Clock::usual(),
+                wire: 0,
+            },
             offset: 0,
             start: 0,
             given: 0,
@@ -153,6 +168,13 @@ impl BlockReader {
         self.window.last()
     }
 
+    /// When the packet that was given last was captured, and how long it was.
+    pub fn stamp(&self) -> Stamp
+        ensures { result ≡ self.now.stamp }
+    {
+        self.told.stamp()
+    }
+
     /// Where the block of the packet that was given last starts, in bytes from the input's first.
     pub fn start(&self) -> u64
         ensures { result ≡ self.now.start }
@@ -171,16 +193,19 @@ impl BlockReader {
     fn give(&mut self, at: usize, count: usize, size: usize, held: usize)
         requires held { held ≤ length self.old.pending }
         requires part { at + count ≤ held }
+        requires place { (at ≡ 28) ⊎ (at ≡ 12) }
         requires block { size ≤ 16777216 }
         requires few { self.old.given ≤ MOST_PACKETS }
         ensures { self.new ≡ record self.old {
           pending = drop held self.old.pending;
           packet = take count (drop at self.old.pending);
+          stamp = stamp_at self.old.form at self.old.pending;
           offset = self.old.offset + size;
           start = self.old.offset;
           given = self.old.given + 1;
         } }
     {
+        self.told = told_in(&self.section, at, self.window.unread());
         self.window.take_part(at, count, held);
         self.start = self.offset;
         self.offset += size as u64;

@@ -1,7 +1,7 @@
 //! What holds of all inputs.
 
 ghost use Rattle.std.specs.Prelude.{ℕ, List};
-ghost use Rattle.pcapng_reader.specs.Laws.{HasInput, HasOneInput, HoldsFront, ReadsInput};
+ghost use Rattle.pcapng_reader.specs.Laws.{HasInput, HasOneInput, HasOneStamp, HoldsFront, ReadsInput, ReadsStamps};
 
 use pcap_reader::{capture_front, every_capture, one_capture};
 
@@ -31,4 +31,14 @@ pub fn input_front()
 /// source, however the reads were cut.
 pub fn reads_input()
     ensures { ReadsInput }
+{}
+
+/// What a reader tells of a packet that it gives is that packet's stamp in the input.
+pub fn reads_stamps()
+    ensures { ReadsStamps }
+{}
+
+/// A packet of an input has at most one stamp.
+pub fn one_stamp()
+    ensures { (link : ℕ) (bytes : List ℕ) → HasOneStamp link bytes }
 {}

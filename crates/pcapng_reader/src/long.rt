@@ -12,6 +12,7 @@ use crate::block::{
     BLOCK_FRONT, Kind, Seen, begins_section, is_block_length, kind_of, look_inside, order_of,
     simple_captured,
 };
+use crate::clock::FRONT_LOOKED_AT;
 use crate::dropping::drop_behind;
 use byte_window::{MOST_HELD, Window};
 use capture_faults::AnyFault;
@@ -80,7 +81,7 @@ fn long_by(section: &Section, order: Order, bytes: &[u8]) -> Option<Long>
     })
 }
 
-/// How many first bytes of a block are kept, its packet among them.
+/// How many first bytes of a block are kept, its packet among them, and what is looked at of options.
 fn kept_of(section: &Section, order: Order, kind: Kind, bytes: &[u8]) -> usize
     requires { BLOCK_FRONT ≤ length bytes.now }
     ensures few { result ≤ 262172 }
@@ -96,7 +97,8 @@ fn kept_of(section: &Section, order: Order, kind: Kind, bytes: &[u8]) -> usize
             let captured = simple_captured(section.interface(0), order.read_u32(&bytes[8..]));
             (12 + captured.min(MAXIMUM_CAPTURED) as usize).max(BLOCK_FRONT)
         }
-        Kind::Section | Kind::Interface | Kind::Other => BLOCK_FRONT,
+        Kind::Interface => FRONT_LOOKED_AT,
+        Kind::Section | Kind::Other => BLOCK_FRONT,
     }
 }
 

@@ -3,6 +3,7 @@
 ghost use Rattle.std.specs.Prelude.{◌≡◌, ◌<◌, ◌+◌, [], ◌∷◌, ◌++◌, length, get_or, IfOk};
 ghost use Rattle.pcapng_reader.specs.Section.{State, no_interface, opening};
 
+use crate::clock::Clock;
 use capture_faults::MOST_INTERFACES;
 use pcap_reader::Order;
 use std::alloc::{AllocError, Global};
@@ -15,6 +16,8 @@ pub struct Interface {
     pub is_asked: bool,
     /// The most bytes of a packet that are captured; 0 is no limit.
     pub snapshot: u32,
+    /// How it counts times.
+    pub clock: Clock,
 }
 
 /// What the blocks before have set.
@@ -82,6 +85,17 @@ impl Section {
         ensures { result ≡ get_or self.now.interfaces number no_interface }
     {
         self.interfaces[number]
+    }
+
+    /// The clock of an interface, by its number. One that is not there has the usual clock.
+    pub fn clock(&self, number: usize) -> Clock
+        ensures { result ≡ (get_or self.now.interfaces number no_interface).clock }
+    {
+        if number < self.interfaces.len() {
+            self.interfaces[number].clock
+        } else {
+            Clock::usual()
+        }
     }
 
     /// How many blocks gave no packet.

@@ -19,7 +19,8 @@ returns-clause-answers g c =
           (ap (λ i. reading_of i.inner) (sym w.self-inside-is)) (ap g.S.Source.left (sym w.source-is))
           (sym w.result-is)
           (answers_item w.in-Savefile.reader w.next.new.self before (g.S.Source.left w.next.new.source) w.in-Ok.item
-          w.in-Ok.ensures.order w.in-Ok.ensures.took w.in-Ok.ensures.ending w.in-Ok.ensures.held)
+          w.in-Ok.ensures.order w.in-Ok.ensures.fraction w.in-Ok.ensures.took w.in-Ok.ensures.ending
+          w.in-Ok.ensures.held)
       | in-Savefile+in-Err w ↦
           answers_same old (of_savefile w.in-Savefile.reader) new (of_savefile w.next.new.self) before after
           (g.S.Source.left w.next.new.source) c.match-self.result (Err (Capture w.in-Err.fault))

@@ -11,7 +11,7 @@ returns-clause-packet c = λ held. elim c.match-self.branch [
       gives_same c.args.self.now (of_savefile w.in-Savefile.reader) (reading_of c.match-self.self-inside.inner)
       (of_savefile w.next_held.new.self) [] (ap reading_of (sym w.in-Savefile.is) ∙ c.self.view_is)
       (ap (λ i. reading_of i.inner) (sym w.self-inside-is))
-      (gives_held w.in-Savefile.reader w.next_held.new.self w.next_held.ensures.order
+      (gives_held w.in-Savefile.reader w.next_held.new.self w.next_held.ensures.order w.next_held.ensures.fraction
       (w.next_held.ensures.packet (sym w.result-is ∙ held)))
   | in-Blocks w ↦
       gives_same c.args.self.now w.in-Blocks.reader (reading_of c.match-self.self-inside.inner)

@@ -3,6 +3,8 @@ use Rattle.pcap_reader.specs.Reading.{Took}
 use Rattle.pcapng_reader.specs.declared.block.Seen.{Seen}
 use Rattle.pcapng_reader.specs.declared.block.Seen.TheVariants as seen
 use Rattle.pcapng_reader.specs.Waiting.{PassesTo}
+use Rattle.pcapng_reader.specs.Stamps.{stamp_told}
+use Rattle.pcap_reader.specs.declared.stamp.Fraction.TheVariants.{Microseconds}
 use Rattle.pcapng_reader.specs.Reading.{Answers, GivesPacket, MeetsEnding, OfBlocks, Reading}
 use Rattle.pcapng_reader.proofs.AnswerFacts.{HasEnded, awaited_lies, behind_awaited, took_failed, took_fault, took_packet, took_rest}
 use Rattle.pcapng_reader.proofs.NextFacts.{held_by}
@@ -24,6 +26,22 @@ give-requires-clause-held g c =
     passes.2.0.awaits in
     lies.there
 
+pub give-requires-clause-place : goal.give-requires-clause-place
+give-requires-clause-place g c =
+    let before = g.S.Source.left c.args.source.now in
+    let after = g.S.Source.left c.await_packet.new.source in
+    let w = c.self.inside in
+    let held = c.await_packet.new.window.unread in
+    let last = c.await_packet.new.section in
+    let block = c.in-Ok.field-0 in
+    let passes : Took before after (PassesTo w.section w.offset w.window.unread last held block.offset
+    (seen.Packet c.in-Packet.size c.in-Packet.at c.in-Packet.count) block.dropped before) =
+    subst (λ (x : Seen). Took before after (PassesTo w.section w.offset w.window.unread last held block.offset x
+    block.dropped before)) c.in-Packet.is c.in-Ok.ensures.passes in
+    let lies = awaited_lies last block.offset _ held _ c.in-Packet.size c.in-Packet.at c.in-Packet.count block.dropped
+    passes.2.0.awaits in
+    lies.place
+
 pub returns-in-Packet-clause-answers : goal.returns-in-Packet-clause-answers
 returns-in-Packet-clause-answers g c =
     let before = g.S.Source.left c.args.source.now in
@@ -31,8 +49,10 @@ returns-in-Packet-clause-answers g c =
     let w = c.self.inside in
     let old : Reading = record {
       form = OfBlocks w.section;
+      fraction = Microseconds;
       pending = w.window.unread;
       packet = w.window.last;
+      stamp = stamp_told w.told;
       offset = w.offset;
       start = w.start;
       given = w.given;
@@ -63,8 +83,10 @@ returns-in-Fault-clause-answers g c =
     let w = c.self.inside in
     let old : Reading = record {
       form = OfBlocks w.section;
+      fraction = Microseconds;
       pending = w.window.unread;
       packet = w.window.last;
+      stamp = stamp_told w.told;
       offset = w.offset;
       start = w.start;
       given = w.given;
@@ -93,8 +115,10 @@ returns-then-rest-eq0-clause-answers g c =
     let w = c.self.inside in
     let old : Reading = record {
       form = OfBlocks w.section;
+      fraction = Microseconds;
       pending = w.window.unread;
       packet = w.window.last;
+      stamp = stamp_told w.told;
       offset = w.offset;
       start = w.start;
       given = w.given;
@@ -125,8 +149,10 @@ returns-else-rest-eq0-clause-answers g c =
     let w = c.self.inside in
     let old : Reading = record {
       form = OfBlocks w.section;
+      fraction = Microseconds;
       pending = w.window.unread;
       packet = w.window.last;
+      stamp = stamp_told w.told;
       offset = w.offset;
       start = w.start;
       given = w.given;
@@ -158,8 +184,10 @@ returns-in-Err-clause-answers g c =
     let w = c.self.inside in
     let old : Reading = record {
       form = OfBlocks w.section;
+      fraction = Microseconds;
       pending = w.window.unread;
       packet = w.window.last;
+      stamp = stamp_told w.told;
       offset = w.offset;
       start = w.start;
       given = w.given;

@@ -2,8 +2,11 @@ use Rattle.std.proofs.Common.{◌≡◌, ◌≤◌, List, ℕ, [], length, sym, 
 use Rattle.pcap_reader.specs.Reading.{buffer_length}
 use Rattle.pcapng_reader.specs.declared.block.Seen.TheVariants as seen
 use Rattle.pcapng_reader.specs.Blocks.{Sees}
+use Rattle.pcapng_reader.specs.Stamps.{stamp_told}
+use Rattle.pcap_reader.specs.declared.stamp.Fraction.TheVariants.{Microseconds}
 use Rattle.pcapng_reader.specs.Reading.{GivesPacket, OfBlocks, Reading}
-use Rattle.pcapng_reader.proofs.NextFacts.{behind_packet, gives_packet, packet_lies}
+use Rattle.pcapng_reader.proofs.NextFacts.{behind_packet, gives_packet, held_by, packet_lies, packet_starts}
+use Rattle.pcapng_reader.proofs.OneInput.{same_sees}
 use Rattle.pcapng_reader.proofs.blocks.BlockReader.next_held.Goals as goal
 
 pub returns-in-Packet-clause-packet : goal.returns-in-Packet-clause-packet
@@ -15,8 +18,10 @@ returns-in-Packet-clause-packet c = λ _.
     let bytes = w.window.unread in
     let old : Reading = record {
       form = OfBlocks w.section;
+      fraction = Microseconds;
       pending = bytes;
       packet = w.window.last;
+      stamp = stamp_told w.told;
       offset = w.offset;
       start = w.start;
       given = w.given;
@@ -42,6 +47,25 @@ give-requires c =
     record {
       held = omega (arith, lies.there, here, seen);
       part = lies.part;
+      place = packet_starts c.self.inside.section c.self.inside.offset c.unread.result.now c.in-Packet.size
+          c.in-Packet.at c.in-Packet.count c.in-Packet.ensures;
       block = lies.limit;
       few = c.requires.few;
+    }
+
+pub returns : goal.returns
+returns c =
+    let w = c.self.inside in
+    record {
+      packet = λ given. absurd (cc);
+      none = λ _. refl;
+      not_whole = λ _ holds.
+          let here = held_by _ c.args.self.now c.self.view_is holds in
+          let shows : Sees w.section w.offset c.unread.result.now (seen.Packet here.0 here.1 here.2) =
+          subst (λ (l : List ℕ). Sees w.section w.offset l (seen.Packet here.0 here.1 here.2))
+          (sym c.unread.ensures.bytes)
+          here.3 in
+          c.in_default.not-Packet here.0 here.1 here.2
+          (same_sees w.section w.offset c.unread.result.now c.look.result (seen.Packet here.0 here.1 here.2)
+          c.look.ensures shows);
     }
