@@ -1,0 +1,14 @@
+mod Cuts
+mod Passes
+mod Ends
+mod Sums
+mod Tests
+mod Meters
+mod Steps
+mod Sweeps
+mod Parts
+mod KeyParts
+mod AllSums
+mod Orders
+mod Fronts
+mod Filters
