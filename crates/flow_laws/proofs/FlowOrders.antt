@@ -42,17 +42,17 @@ use Rattle.flow_laws.specs.FlowOrders.{AreAnswered, FlowsHaveOneOrder, HasFlowOr
 use Rattle.flow_laws.proofs.CallLists.{IsToldAt, about_dealt, about_made, asked_there, held_by_updates, in_own, told_at, told_of, updates_of_answers, updates_of_seat}
 
 -- a front of a run is a run
-front_follows : (plan : Plan) (front back : List Event) (x : Lasting) → AreEvents plan x (front ++ back) →
+pub front_follows : (plan : Plan) (front back : List Event) (x : Lasting) → AreEvents plan x (front ++ back) →
     AreEvents plan x front
 front_follows plan [] back x f = tt
 front_follows plan (e ∷ front) back x f = (f.0, front_follows plan front back (happens plan x e) f.1)
 
-front_runs : (plan : Plan) (front back : List Event) → IsRun plan (front ++ back) → IsRun plan front
+pub front_runs : (plan : Plan) (front back : List Event) → IsRun plan (front ++ back) → IsRun plan front
 front_runs plan front back run =
     record { opened = run.opened; follow = front_follows plan front back (opening_world plan) run.follow }
 
 -- nothing is under way where no update is
-none_under_way : (stand : Stand) (more : List Made) → HasNoUpdate stand → IsUnderWay stand more → more ≡ []
+pub none_under_way : (stand : Stand) (more : List Made) → HasNoUpdate stand → IsUnderWay stand more → more ≡ []
 none_under_way stand [] none k = refl
 none_under_way S.Idle (made ∷ more) none k = absurd k
 none_under_way (S.Goes u step) (made ∷ more) none k = absurd none
@@ -82,7 +82,7 @@ reply_told other (Pairs pairs) = other
 reply_told other Again = other
 reply_told other Refused = other
 
-idle_calm : (stand : Stand) → stand ≡ S.Idle → HasNoUpdate stand
+pub idle_calm : (stand : Stand) → stand ≡ S.Idle → HasNoUpdate stand
 idle_calm stand e = subst HasNoUpdate (sym e) tt
 
 module _ (plan : Plan) (events : List Event) (deals : Key → ℕ) (asked : List Made) (run : IsRun plan events)
@@ -94,10 +94,10 @@ module _ (plan : Plan) (events : List Event) (deals : Key → ℕ) (asked : List
   -- ---- at each moment each update is of its key's seat
 
   module _ (front back : List Event) (cut : events ≡ front ++ back) where
-    whole : IsRun plan (front ++ back)
+    pub whole : IsRun plan (front ++ back)
     whole = subst (IsRun plan) cut run
 
-    front_run : IsRun plan front
+    pub front_run : IsRun plan front
     front_run = front_runs plan front back whole
 
     calls_grow : (seat : ℕ) (later : List Answer) →
@@ -149,10 +149,10 @@ module _ (plan : Plan) (events : List Event) (deals : Key → ℕ) (asked : List
         (subst (In (k.u.call, f.reply)) (sym (calls_grow seat f.later f.answers))
         (in_right (k.u.call, f.reply) (calls_by seat (answers_then front)) (calls_by seat f.later) among))
 
-    abbrev then : HasOrder plan (world_after plan front)
+    abbrev pub then : HasOrder plan (world_after plan front)
     then = updates_have_one_order plan front front_run
 
-    right : (one : MadeBySeat) → In one then.made → deals (key_in one.1.0) ≡ one.0
+    pub right : (one : MadeBySeat) → In one then.made → deals (key_in one.1.0) ≡ one.0
     right one i =
         let inside = in_all (λ (o : MadeBySeat). o.0 < plan.settings.seats) then.made one then.seats i in
         let k = then.asked one.0 inside in
@@ -176,7 +176,7 @@ module _ (plan : Plan) (events : List Event) (deals : Key → ℕ) (asked : List
 
   -- ---- in the end
 
-  abbrev in_end : HasOrder plan (world_after plan events)
+  abbrev pub in_end : HasOrder plan (world_after plan events)
   in_end = then events [] (sym (append-nil events))
 
   updates_agree : (key : Key) → updates_in (about key asked) ≡ about key (all_made in_end.made)
@@ -258,7 +258,7 @@ module _ (plan : Plan) (events : List Event) (deals : Key → ℕ) (asked : List
           just_made = updates_of_seat seat (answers_then moment.front)
               ∙ sym (updates_of_answers (answers_by seat (answers_then moment.front))) ∙ just.made
 
-      tells : reply ≡ option_map_or found_in (held_by (get (first_in plan) key) (about key front)) Absent
+      pub tells : reply ≡ option_map_or found_in (held_by (get (first_in plan) key) (about key front)) Absent
       unfolding reply_in
       tells =
           let o = then moment.front moment.back moment.cut in

@@ -1,3 +1,4 @@
 pub mod Asked
 pub mod FlowOrders
 pub mod Parts
+pub mod ClassOrders

@@ -1,6 +1,7 @@
 //! What holds of calls that are dealt by their keys, and of the pairs that they leave.
 
 ghost use Rattle.flow_laws.specs.Asked.{PairsAreAsked};
+ghost use Rattle.flow_laws.specs.ClassOrders.{ClassesHaveTurns};
 ghost use Rattle.flow_laws.specs.FlowOrders.{FlowsHaveOneOrder};
 ghost use Rattle.flow_laws.specs.Parts.{PartsAreSessions};
 
@@ -15,4 +16,11 @@ pub fn flow_order_laws()
 pub fn part_laws()
     ensures sessions { PartsAreSessions }
     ensures asked { PairsAreAsked }
+{}
+
+/// In every run of a lasting table whose calls are dealt by their classes: once all are answered each has the plain
+/// map's reply, asked them as they stand, and each bucket has what the plain map has then. Full classes make no
+/// difference.
+pub fn class_order_laws()
+    ensures { ClassesHaveTurns }
 {}
