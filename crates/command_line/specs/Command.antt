@@ -101,6 +101,21 @@ batch = number (codes "batch") 2048 65536 2048
 abbrev pub every : Number
 every = number (codes "every") 1 (2 ^ 52 - 1) 1
 
+-- the same option with another number where the words have none
+abbrev pub with_default : Number → ℕ → Number
+with_default n default = record n { default = default }
+
+-- the one table of `flows` has to last: where the words have none it has one caller, and the most room
+
+abbrev pub flows_seats : ℕ
+flows_seats = 1
+
+abbrev pub flows_items : ℕ
+flows_items = 16
+
+abbrev pub flows_depth : ℕ
+flows_depth = 12
+
 abbrev pub numbers : List Number
 numbers = seats ∷ items ∷ depth ∷ start ∷ seed ∷ capture_number ∷ packets ∷ tags ∷ extensions ∷ batch ∷ every ∷ []
 

@@ -55,7 +55,15 @@ default_plan = record {
 
 -- the plan of `flows` alone
 abbrev pub flows_plan : Plan
-flows_plan = record default_plan { mode = Flows; share = Flow; calls = rule.Flows }
+flows_plan = record default_plan {
+  mode = Flows;
+  seats = 1;
+  items = 16;
+  depth = 12;
+  share = Flow;
+  stops = None ∷ [];
+  calls = rule.Flows;
+}
 
 -- what the command finds wrong in the words
 abbrev pub faults : List Text → Kinds

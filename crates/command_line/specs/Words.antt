@@ -23,8 +23,8 @@ use Rattle.key_texts.specs.declared.rules.CallRule.{CallRule}
 use Rattle.key_texts.specs.declared.rules.CallRule.TheVariants.{Sessions, Flows}
 use Rattle.packet_heads.specs.declared.framing.Link.{Link}
 use Rattle.packet_heads.specs.declared.framing.Link.TheVariants as link
-use Rattle.command_line.specs.Command.{Number, batch, capture_number, depth, extensions, flowdir_app, items, packets}
-use Rattle.command_line.specs.Command.{seats, seed, start}
+use Rattle.command_line.specs.Command.{Number, batch, capture_number, depth, extensions, flowdir_app, flows_depth}
+use Rattle.command_line.specs.Command.{flows_items, flows_seats, items, packets, seats, seed, start, with_default}
 use Rattle.command_line.specs.Plays.{schedule_of, stops_of}
 use Rattle.command_line.specs.Texts.{AreRowsInRange, at_most, rows_of}
 use Rattle.line_fields.specs.Reading.{◌>>=◌}
@@ -115,6 +115,26 @@ reads_capture mode.Flows = true
 -- the number of an option that may be used, or its default
 abbrev pub number_if : Bool → Values → Number → ℕ
 number_if uses given n = if uses then number_in given n else n.default
+
+-- what holds where the words have no number: the mode `flows` has a number of its own
+abbrev pub default_for : Mode → (flows other : ℕ) → ℕ
+default_for mode.Serve flows other = other
+default_for mode.Play flows other = other
+default_for mode.Make flows other = other
+default_for mode.Trial flows other = other
+default_for mode.Totals flows other = other
+default_for mode.Check flows other = other
+default_for mode.Flows flows other = flows
+
+-- the number of an option that may be used, or the mode's own default
+abbrev pub number_for : Mode → (flows : ℕ) → Bool → Values → Number → ℕ
+number_for mode flows uses given n = number_if uses given (with_default n (default_for mode flows n.default))
+
+abbrev pub items_in : Mode → Values → ℕ
+items_in mode given = number_for mode flows_items (has_table mode) given items
+
+abbrev pub depth_in : Mode → Values → ℕ
+depth_in mode given = number_for mode flows_depth (has_table mode) given depth
 
 abbrev pub start_below : ℕ → ℕ → Option ℕ
 start_below depth start = if at_most depth start then Some start else None
@@ -234,7 +254,7 @@ rows_for mode.Check given = Some None
 rows_for mode.Flows given = Some None
 
 abbrev pub seats_in : Mode → Values → ℕ
-seats_in mode given = number_if (has_seats mode) given seats
+seats_in mode given = number_for mode flows_seats (has_seats mode) given seats
 
 -- the schedule of a text, empty where there is no text
 abbrev pub asked_schedule : (seats : ℕ) → Option Text → Option (List Segment)
@@ -275,8 +295,8 @@ plan_with mode rows schedule stops given = do
   Some (record {
     mode = mode;
     seats = seats_in mode given;
-    items = number_if (has_table mode) given items;
-    depth = number_if (has_table mode) given depth;
+    items = items_in mode given;
+    depth = depth_in mode given;
     start = start;
     hashing = hashing;
     share = share;

@@ -4,7 +4,9 @@
 mod plan;
 mod plays;
 mod words;
+mod wrong;
 
 pub use plan::{Mode, Plan};
 pub use plays::{Schedule, Segment, Stops};
-pub use words::{WordsFault, command_line_laws, read_words};
+pub use words::{WordsFault, command_line_laws, read_words, wrong_word};
+pub use wrong::{Choice, WrongWord};

@@ -23,8 +23,10 @@ mod options;
 mod plays;
 mod texts;
 mod values;
+mod wrong;
 
 pub use laws::command_line_laws;
+pub use wrong::wrong_word;
 
 /// Why the words gave no plan.
 #[derive(Clone, Copy, Debug, PartialEq, Eq, thiserror::Error)]

@@ -1,36 +1,46 @@
 //! `flowdir MODE [options]`: reads a packet capture on standard input, and reports on standard output.
 #![tactic(auto)]
 
-use crate::complaints::complain;
+use crate::complaints::{Ended, complain, say_status};
+use crate::tail_sink::TailSink;
 use edge_traits::{OpenGate, StdSink, StdSource};
 use std::process::ExitCode;
 use std::{env, io};
 use trace_runner::{Status, run};
 
 mod complaints;
+mod tail_sink;
 #[cfg(test)]
 mod tests;
 
 fn main(rt: HostRuntime) -> ExitCode {
-    let mut beyond = None;
-    let status = match words_of(&rt) {
-        Ok(words) => {
-            let mut source = StdSource::new(rt.stdin());
-            let mut sink = StdSink::new(rt.stdout());
-            run(
-                &rt,
-                rt.alloc(),
-                &words,
-                &mut source,
-                &mut sink,
-                &OpenGate,
-                &mut beyond,
-            )
+    // What cannot be said on standard error is not.
+    let words = match words_of(&rt) {
+        Ok(words) => words,
+        Err(status) => {
+            let _ = say_status(&rt, status);
+            return ExitCode::from(status.code());
         }
-        Err(status) => status,
     };
-    // What cannot be said there is not.
-    let _ = complain(&rt, status, beyond);
+    let mut beyond = None;
+    let mut source = StdSource::new(rt.stdin());
+    let mut sink = TailSink::new(StdSink::new(rt.stdout()));
+    let status = run(
+        &rt,
+        rt.alloc(),
+        &words,
+        &mut source,
+        &mut sink,
+        &OpenGate,
+        &mut beyond,
+    );
+    let ended = Ended {
+        status,
+        words: &words,
+        beyond,
+        no_room: sink.no_room(),
+    };
+    let _ = complain(&rt, &ended);
     ExitCode::from(status.code())
 }
 

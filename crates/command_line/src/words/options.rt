@@ -97,6 +97,15 @@ pub const EVERY: NumberOption<'static> = NumberOption {
     default: 1,
 };
 
+/// How many callers the mode `flows` has if no word says it.
+pub const FLOWS_SEATS: u64 = 1;
+
+/// The room of a bucket in the mode `flows`, whose one table has to last, if no word says it.
+pub const FLOWS_ITEMS: u64 = MOST_ITEMS as u64;
+
+/// The greatest depth in the mode `flows` if no word says it.
+pub const FLOWS_DEPTH: u64 = MOST_DEPTH as u64;
+
 /// The options with a number.
 pub static NUMBERS: [NumberOption<'static>; 11] = [
     SEATS, ITEMS, DEPTH, START, SEED, NUMBER, PACKETS, TAGS, EXTENSIONS, BATCH, EVERY,

@@ -7,10 +7,10 @@ ghost use Rattle.std.specs.List.{AllByRecursion};
 ghost use Rattle.std.specs.Option.{option_map};
 ghost use Rattle.clap.specs.Words.{first_value, found_of};
 ghost use Rattle.step_counts.specs.Ranges.{IsWithin};
-ghost use Rattle.command_line.specs.Command.{depth, number_of, numbers, start, Passes};
+ghost use Rattle.command_line.specs.Command.{depth, number_of, numbers, start, with_default, Passes};
 ghost use Rattle.command_line.specs.Texts.{AreRowsInRange};
 ghost use Rattle.command_line.specs.Words.{asked_rows, asked_schedule, asked_stops, has_batches, has_seats, has_table};
-ghost use Rattle.command_line.specs.Words.{every_in, start_below};
+ghost use Rattle.command_line.specs.Words.{default_for, depth_in, every_in, items_in, number_for, start_below};
 ghost use Rattle.command_line.specs.Words.{hashing_in};
 ghost use Rattle.command_line.specs.Words.{hashing_of, makes_capture, mode_of, number_if, number_in};
 ghost use Rattle.command_line.specs.Words.{plan_of, plan_with, rows_for, schedule_for, seats_in, share_in};
@@ -20,7 +20,8 @@ ghost use Rattle.command_line.specs.Words.{calls_in, calls_of, framing_in, link_
 use crate::plan::{Mode, Plan};
 use crate::plays::{Schedule, Stops};
 use crate::words::options::{
-    BATCH, DEPTH, EVERY, EXTENSIONS, ITEMS, NUMBER, NumberOption, PACKETS, SEATS, SEED, START, TAGS,
+    BATCH, DEPTH, EVERY, EXTENSIONS, FLOWS_DEPTH, FLOWS_ITEMS, FLOWS_SEATS, ITEMS, NUMBER,
+    NumberOption, PACKETS, SEATS, SEED, START, TAGS,
 };
 use crate::words::plays::{schedule_of, stops_of};
 use crate::words::texts::rows_of;
@@ -32,8 +33,22 @@ use std::alloc::{AllocError, Global};
 use step_counts::SeatRows;
 use trace_share::Share;
 
-/// The number of an option, or its default.
+/// The number of an option, or this default.
 #[tactic(auto, unfolding(crate::specs::Command::Passes))]
+fn number_or(matches: &ArgMatches<'_>, option: &NumberOption<'_>, default: u64) -> u64
+    requires passes { Passes (found_of matches.now) (number_of option.now) }
+    requires fits { (option.now.least ≤ default) × (default ≤ option.now.most) }
+    ensures value { result
+        ≡ number_in (first_value (found_of matches.now)) (with_default (number_of option.now) default) }
+    ensures within { (option.now.least ≤ result) × (result ≤ option.now.most) }
+{
+    match matches.get_str(option.name) {
+        Some(text) => text.parse().unwrap_or(default),
+        None => default,
+    }
+}
+
+/// The number of an option, or its default.
 fn number(matches: &ArgMatches<'_>, option: &NumberOption<'_>) -> u64
     requires passes { Passes (found_of matches.now) (number_of option.now) }
     requires fits { (option.now.least ≤ option.now.default)
@@ -42,10 +57,7 @@ fn number(matches: &ArgMatches<'_>, option: &NumberOption<'_>) -> u64
         ≡ number_in (first_value (found_of matches.now)) (number_of option.now) }
     ensures within { (option.now.least ≤ result) × (result ≤ option.now.most) }
 {
-    match matches.get_str(option.name) {
-        Some(text) => text.parse().unwrap_or(option.default),
-        None => option.default,
-    }
+    number_or(matches, option, option.default)
 }
 
 /// The text of a name, or its default.
@@ -59,7 +71,8 @@ fn text<'a>(matches: &ArgMatches<'a>, name: &str, default: &'a str) -> &'a str
     }
 }
 
-fn mode_of(text: &str) -> Option<Mode>
+/// The mode of a word.
+pub(crate) fn mode_of(text: &str) -> Option<Mode>
     ensures { result ≡ mode_of text.now }
 {
     if text == "serve" {
@@ -147,6 +160,34 @@ fn number_if(uses: bool, matches: &ArgMatches<'_>, option: &NumberOption<'_>) ->
     }
 }
 
+/// The number of an option that may be used, or its default, which is another one in the mode `flows`.
+fn number_for(
+    mode: Mode,
+    flows: u64,
+    uses: bool,
+    matches: &ArgMatches<'_>,
+    option: &NumberOption<'_>,
+) -> u64
+    requires passes { Passes (found_of matches.now) (number_of option.now) }
+    requires fits { (option.now.least ≤ option.now.default)
+        × (option.now.default ≤ option.now.most) }
+    requires fits_flows { (option.now.least ≤ flows) × (flows ≤ option.now.most) }
+    ensures value { result
+        ≡ number_for mode flows uses (first_value (found_of matches.now)) (number_of option.now) }
+    ensures within { (option.now.least ≤ result) × (result ≤ option.now.most) }
+{
+    let default = match mode {
+        Mode::Flows => flows,
+        Mode::Serve | Mode::Play | Mode::Make | Mode::Trial | Mode::Totals | Mode::Check =>
+            option.default,
+    };
+    if uses {
+        number_or(matches, option, default)
+    } else {
+        default
+    }
+}
+
 /// The starting depth that the words give, where it is at most the greatest that they give.
 fn start_below(matches: &ArgMatches<'_>) -> Option<u32>
     requires { AllByRecursion (Passes (found_of matches.now)) numbers }
@@ -168,7 +209,7 @@ fn start_in(mode: Mode, matches: &ArgMatches<'_>) -> Option<u32>
     requires { AllByRecursion (Passes (found_of matches.now)) numbers }
     ensures start { result ≡ start_in mode (first_value (found_of matches.now)) }
     ensures fits { IfSome result (λ start.
-        start ≤ number_if (has_table mode) (first_value (found_of matches.now)) depth) }
+        start ≤ depth_in mode (first_value (found_of matches.now))) }
 {
     match mode {
         Mode::Serve | Mode::Play | Mode::Trial => start_below(matches),
@@ -176,7 +217,8 @@ fn start_in(mode: Mode, matches: &ArgMatches<'_>) -> Option<u32>
     }
 }
 
-fn hashing_of(text: &str, seed: u64) -> Option<Hashing>
+/// The hash of a word, with this number.
+pub(crate) fn hashing_of(text: &str, seed: u64) -> Option<Hashing>
     ensures { result ≡ hashing_of text.now seed }
 {
     if text == "mix" {
@@ -202,7 +244,8 @@ fn hashing_in(mode: Mode, matches: &ArgMatches<'_>) -> Option<Hashing>
     }
 }
 
-fn share_of(text: &str) -> Option<Share>
+/// The share of a word.
+pub(crate) fn share_of(text: &str) -> Option<Share>
     ensures { result ≡ share_of text.now }
 {
     if text == "round" {
@@ -227,7 +270,7 @@ fn share_in(mode: Mode, matches: &ArgMatches<'_>) -> Option<Share>
 }
 
 /// The link type of a number, as it stands.
-fn link_of(text: &str) -> Option<Link>
+pub(crate) fn link_of(text: &str) -> Option<Link>
     ensures { result ≡ link_of text.now }
 {
     if text == "0" {
@@ -295,7 +338,8 @@ fn framing_in(mode: Mode, matches: &ArgMatches<'_>) -> Option<Framing>
     })
 }
 
-fn calls_of(text: &str) -> Option<CallRule>
+/// The rule of a word.
+pub(crate) fn calls_of(text: &str) -> Option<CallRule>
     ensures { result ≡ calls_of text.now }
 {
     if text == "sessions" {
@@ -366,7 +410,23 @@ fn seats_in(mode: Mode, matches: &ArgMatches<'_>) -> u32
     ensures seats { result ≡ seats_in mode (first_value (found_of matches.now)) }
     ensures within { IsWithin 1 8 result }
 {
-    number_if(has_seats(mode), matches, &SEATS) as u32
+    number_for(mode, FLOWS_SEATS, has_seats(mode), matches, &SEATS) as u32
+}
+
+fn items_in(mode: Mode, matches: &ArgMatches<'_>) -> u32
+    requires { AllByRecursion (Passes (found_of matches.now)) numbers }
+    ensures items { result ≡ items_in mode (first_value (found_of matches.now)) }
+    ensures within { IsWithin 1 16 result }
+{
+    number_for(mode, FLOWS_ITEMS, has_table(mode), matches, &ITEMS) as u32
+}
+
+fn depth_in(mode: Mode, matches: &ArgMatches<'_>) -> u32
+    requires { AllByRecursion (Passes (found_of matches.now)) numbers }
+    ensures depth { result ≡ depth_in mode (first_value (found_of matches.now)) }
+    ensures within { IsWithin 0 12 result }
+{
+    number_for(mode, FLOWS_DEPTH, has_table(mode), matches, &DEPTH) as u32
 }
 
 /// The schedule of a text, empty where there is no text.
@@ -467,13 +527,12 @@ fn plan_with(
     let share = share_in(mode, matches)?;
     let framing = framing_in(mode, matches)?;
     let calls = calls_in(mode, matches)?;
-    let table = has_table(mode);
     let makes = makes_capture(mode);
     Some(Plan {
         mode,
         seats: seats_in(mode, matches),
-        items: number_if(table, matches, &ITEMS) as u32,
-        depth: number_if(table, matches, &DEPTH) as u32,
+        items: items_in(mode, matches),
+        depth: depth_in(mode, matches),
         start,
         hashing,
         share,
