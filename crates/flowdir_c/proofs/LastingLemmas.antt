@@ -9,12 +9,12 @@ use Rattle.hash_bits.specs.declared.hashing.Hashing.TheVariants.{Mix}
 use Rattle.step_counts.specs.declared.settings.Settings.{Settings}
 use Rattle.step_counts.specs.declared.settings.TheConstants.{MOST_DEPTH, MOST_ITEMS, MOST_SEATS}
 use Rattle.step_counts.specs.Ranges.{IsWithin}
-use Rattle.batch_rows.proofs.CountLemmas.{few_places}
 use Rattle.lasting_model.specs.Plans.{MOST_UPDATES, least_rows}
 use Rattle.lasting_model.specs.Words.{most_words, word_count}
 use Rattle.lasting_table.specs.Tables.{new_seats}
 use Rattle.lasting_table.specs.Values.{Answers, IsPartyOf, IsSame, TableValue, answered_updates, asked_times, new_seat}
 use Rattle.lasting_table.proofs.Seated.{most_is}
+use Rattle.std.proofs.Math.Pow.{pow_mono}
 use Rattle.std.proofs.Math.Seq.{split_at}
 use Rattle.plain_map.specs.Keys.{no_pair}
 use Rattle.plain_map.specs.declared.keys.Key.{Key}
@@ -35,6 +35,10 @@ use Rattle.flowdir_c.specs.declared.shelf.NotTaken.{NotTaken}
 use Rattle.flowdir_c.specs.declared.shelf.NotTaken.TheVariants.{Busy, Memory}
 use Rattle.flowdir_c.specs.Told.{pair_of}
 use Rattle.flowdir_c.proofs.FitLemmas.{map_more}
+
+-- there are few buckets
+pub few_places : (depth : ℕ) → depth ≤ 12 → 2 ^ depth ≤ 4096
+few_places depth small = (let most : 2 ^ depth ≤ 2 ^ 12 = pow_mono small in omega (arith, most))
 
 -- the rows of a seat are few
 pub few_rows : (s : Settings) → least_rows s ≤ 16384

@@ -1,5 +1,5 @@
 use Rattle.std.proofs.Common.{arith}
-use Rattle.batch_rows.proofs.CountLemmas.{few_places}
+use Rattle.flowdir_c.proofs.LastingLemmas.{few_places}
 use Rattle.flowdir_c.proofs.fewer.prefixes.Goals as goal
 
 pub returns-clause-few : goal.returns-clause-few
