@@ -5,8 +5,8 @@
 //! none.
 //! **Keeps:** each step is the one that the definitions of `lasting_model` ask for, and leads to the state that they
 //! give. A call ends with what its own steps tell, and what a seat keeps for itself is what they give it.
-//! **Steps:** those of the run, at most `look_bound` or `update_bound` for a seat, and `peek_bound` of its tries for a
-//! reader.
+//! **Steps:** those of the run, at most `look_bound` or `update_bound` for a seat. A reader's are those of its tries,
+//! which no law counts.
 //! **Why it ends:** a seat has two tries, and the row that it holds then is written by nobody. A piece of a sweep looks
 //! at three own rows, and at each other seat once. A reader has its tries.
 #![tactic(auto)]

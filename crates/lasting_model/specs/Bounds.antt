@@ -41,7 +41,3 @@ glance_steps count = 1 + ITEM_WORDS * count
 -- row, and a held one
 abbrev pub look_bound : Settings → ℕ
 look_bound s = 2 * (1 + glance_steps s.items + 1) + (4 + glance_steps s.items)
-
--- the same by a reader, which gives up after so many glances
-abbrev pub peek_bound : Settings → (tries : ℕ) → ℕ
-peek_bound s tries = tries * (1 + glance_steps s.items + 1)

@@ -2,7 +2,7 @@
 //!
 //! **Words**: it loads those of its table, and stores none.
 //! **Keeps**: `OneRun`, the rule that there is a run of the lasting table.
-//! **Steps**: at most `peek_bound` of its tries.
+//! **Steps**: in each try two loads, and those of the bucket's count and keys. No clause counts them.
 //! **Why it ends**: it has so many tries, and waits for nobody.
 
 ghost use Rattle.std.specs.Prelude.{◌≡◌, ◌<◌, ◌≤◌, IfSome, length, false};
