@@ -3,6 +3,8 @@
 
 mod checking;
 mod lines;
+mod mode;
 mod reading;
 
 pub use checking::{Checked, Stop, check_input};
+pub use mode::check;

@@ -29,7 +29,7 @@ use Rattle.flow_workers.specs.Counts.{counts_after, counts_of, no_counts}
 use Rattle.flow_workers.specs.Work.{HasMade, HasWorked, told_in}
 use Rattle.flow_workers.proofs.AnswerLists.{answers_by_seat, told-append}
 use Rattle.flows_runner.specs.declared.asked.Asked.{Asked}
-use Rattle.flows_runner.specs.Asked.{flow_seat}
+use Rattle.flows_runner.specs.Asked.{flow_seat, rules_of}
 use Rattle.flows_runner.specs.Going.{HaveSeats, met_seat}
 use Rattle.flows_runner.specs.Piles.{calls_for}
 use Rattle.flows_runner.specs.Served.{AreServed, Served}
@@ -109,7 +109,8 @@ module _ (asked : Asked) (packets : List (List ℕ)) (served : Served) (are : Ar
       MakeCalls asked.calling (length packets + 1) more calls →
       calls_in later ≡ map (λ (call : ℕ × Call). call.1) calls →
       ((seat : ℕ) → seat < served.plan.settings.seats →
-      calls_by seat answers_now ≡ calls_by seat answers_then ++ dealt_to (flow_seat asked.seats) seat later) →
+      calls_by seat answers_now
+      ≡ calls_by seat answers_then ++ dealt_to (flow_seat (rules_of asked) asked.seats) seat later) →
       AreServed asked (packets ++ more) (record { plan = served.plan; events = known; made = served.made ++ later })
   served_more more calls later make later_are dealt = record {
     opened = are.opened;
@@ -125,9 +126,10 @@ module _ (asked : Asked) (packets : List (List ℕ)) (served : Served) (are : Ar
     answered = record {
       inside = are.answered.inside;
       answered = λ seat less. dealt seat less
-          ∙ ap (λ (l : List Made). l ++ dealt_to (flow_seat asked.seats) seat later)
+          ∙ ap (λ (l : List Made). l ++ dealt_to (flow_seat (rules_of asked) asked.seats) seat later)
           (are.answered.answered seat less)
-          ∙ sym (filter-append (λ (one : Made). flow_seat asked.seats (key_in one.0) == seat) served.made later);
+          ∙ sym (filter-append
+          (λ (one : Made). flow_seat (rules_of asked) asked.seats (key_in one.0) == seat) served.made later);
     };
     bounded = steps_are_bounded served.plan known run;
   }
@@ -241,7 +243,7 @@ pub record HaveMadeCalls (t : TableValue) (asked : Asked) (events : List Event) 
   pub calls : List (ℕ × Call)
   pub make : MakeCalls asked.calling (before + 1) more calls
   pub have : HaveMade t events
-      (λ (seat : ℕ). calls_for asked.seats seat (map (λ (call : ℕ × Call). call.1) calls)) 0 nows mades
+      (λ (seat : ℕ). calls_for (rules_of asked) asked.seats seat (map (λ (call : ℕ × Call). call.1) calls)) 0 nows mades
   pub many : length nows ≡ t.plan.settings.seats
 
 -- they are served with the packets before them. The seats have counted each call once
@@ -251,7 +253,7 @@ pub record HasServed (t : TableValue) (asked : Asked) (packets more : List (List
   pub are : AreServed asked (packets ++ more)
       (record { plan = t.plan; events = known; made = served.made ++ later })
   pub dealt : mades
-      ≡ map (λ (seat : ℕ). dealt_to (flow_seat asked.seats) seat later) (range_with_len 0 asked.seats)
+      ≡ map (λ (seat : ℕ). dealt_to (flow_seat (rules_of asked) asked.seats) seat later) (range_with_len 0 asked.seats)
   pub counts : counts_all mades ≡ counts_of later
   pub many : length_all mades ≡ length later
   pub askings : (seat : ℕ) → seat < t.plan.settings.seats →
@@ -277,7 +279,7 @@ module _ (t : TableValue) (asked : Asked) (packets more : List (List ℕ)) (serv
   calls = map (λ (call : ℕ × Call). call.1) made.calls
 
   abbrev shares : ℕ → List Call
-  shares seat = calls_for asked.seats seat calls
+  shares seat = calls_for (rules_of asked) asked.seats seat calls
 
   abbrev nobody : PartyValue
   nobody = met_seat t [] 0
@@ -285,8 +287,10 @@ module _ (t : TableValue) (asked : Asked) (packets more : List (List ℕ)) (serv
   seats_are : t.plan.settings.seats ≡ asked.seats
   seats_are = ap (λ (p : Plan). p.settings.seats) plan ∙ are.opened.settings.seats_are
 
-  inside : (key : Key) → flow_seat asked.seats key < asked.seats
-  inside key = subst (λ (n : ℕ). flow_seat asked.seats key < n) are.opened.settings.seats_are (are.answered.inside key)
+  inside : (key : Key) → flow_seat (rules_of asked) asked.seats key < asked.seats
+  inside key =
+      subst (λ (n : ℕ). flow_seat (rules_of asked) asked.seats key < n) are.opened.settings.seats_are
+      (are.answered.inside key)
 
   in_list : (seat : ℕ) → seat < asked.seats → seat < length nows
   in_list seat less = (let e = seats_are in let many = made.many in omega (arith, less, e, many))
@@ -299,15 +303,16 @@ module _ (t : TableValue) (asked : Asked) (packets more : List (List ℕ)) (serv
   comes seat less = met.each seat nobody (in_list seat less)
 
   -- the calls that the seats have made are those of the packets
-  is_one : IsDealt asked.seats (flow_seat asked.seats) calls (λ (seat : ℕ). get_or mades seat [])
+  is_one : IsDealt asked.seats (flow_seat (rules_of asked) asked.seats) calls (λ (seat : ℕ). get_or mades seat [])
   is_one =
-      is_dealt asked.seats (flow_seat asked.seats) inside calls (λ (seat : ℕ). get_or mades seat [])
+      is_dealt asked.seats (flow_seat (rules_of asked) asked.seats) inside calls (λ (seat : ℕ). get_or mades seat [])
       (λ seat less. (here seat less).asked)
 
   dealt_are : mades
-      ≡ map (λ (seat : ℕ). dealt_to (flow_seat asked.seats) seat is_one.later) (range_with_len 0 asked.seats)
+      ≡ map (λ (seat : ℕ). dealt_to (flow_seat (rules_of asked) asked.seats) seat is_one.later)
+      (range_with_len 0 asked.seats)
   dealt_are =
-      let deal : ℕ → List Made = λ (seat : ℕ). dealt_to (flow_seat asked.seats) seat is_one.later in
+      let deal : ℕ → List Made = λ (seat : ℕ). dealt_to (flow_seat (rules_of asked) asked.seats) seat is_one.later in
       let many : length mades ≡ asked.seats =
       as_many t served.events shares 0 nows mades made.have ∙ made.many ∙ seats_are in
       list_is deal 0 mades
@@ -317,7 +322,8 @@ module _ (t : TableValue) (asked : Asked) (packets more : List (List ℕ)) (serv
   -- a seat was answered what it is dealt
   answered_now : (seat : ℕ) → seat < t.plan.settings.seats →
       calls_by seat (world_after t.plan met.known).answers
-      ≡ calls_by seat (world_after t.plan served.events).answers ++ dealt_to (flow_seat asked.seats) seat is_one.later
+      ≡ calls_by seat (world_after t.plan served.events).answers
+      ++ dealt_to (flow_seat (rules_of asked) asked.seats) seat is_one.later
   answered_now seat less =
       let within : seat < asked.seats = (let e = seats_are in omega (arith, less, e)) in
       calls_met t served.events met.known seat (get_or nows seat nobody) (shares seat) (get_or mades seat [])
@@ -335,7 +341,7 @@ module _ (t : TableValue) (asked : Asked) (packets more : List (List ℕ)) (serv
       many_met t served.events met.known seat (get_or nows seat nobody) (shares seat) (get_or mades seat [])
       (here seat within) (comes seat within) in
       let own = ap length (is_one.each seat within) in
-      let few = few_pass (λ (one : Made). flow_seat asked.seats (key_in one.0) == seat) is_one.later in
+      let few = few_pass (λ (one : Made). flow_seat (rules_of asked) asked.seats (key_in one.0) == seat) is_one.later in
       let all = sym (length-map is_one.later (λ (one : Made). one.0)) ∙ ap length is_one.are
       ∙ length-map made.calls (λ (call : ℕ × Call). call.1) in
       let packets_few = make_few asked.calling (length packets + 1) more made.calls made.make in
@@ -350,9 +356,9 @@ module _ (t : TableValue) (asked : Asked) (packets more : List (List ℕ)) (serv
         is_one.are answered_now;
     dealt = dealt_are;
     counts = ap counts_all dealt_are
-        ∙ counts_dealt asked.seats (flow_seat asked.seats) inside is_one.later;
+        ∙ counts_dealt asked.seats (flow_seat (rules_of asked) asked.seats) inside is_one.later;
     many = ap length_all dealt_are
-        ∙ length_dealt asked.seats (flow_seat asked.seats) inside is_one.later;
+        ∙ length_dealt asked.seats (flow_seat (rules_of asked) asked.seats) inside is_one.later;
     askings = λ seat less.
         subst (λ (p : Plan). length (orders.answers_by seat (world_after t.plan met.known).answers)
         ≤ length (orders.answers_by seat (world_after p served.events).answers) + length more) plan

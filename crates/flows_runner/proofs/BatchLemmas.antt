@@ -21,7 +21,7 @@ use Rattle.flow_workers.specs.Work.{HasWorked}
 use Rattle.flow_workers.proofs.CountLists.{below_after, below_more, counts_both}
 use Rattle.flows_runner.specs.declared.flowing.Flowing.{Flowing}
 use Rattle.flows_runner.specs.declared.pile.TheConstants.{FLOW_LIMIT}
-use Rattle.flows_runner.specs.Asked.{flow_seat}
+use Rattle.flows_runner.specs.Asked.{flow_seat, rules_of}
 use Rattle.flows_runner.specs.Going.{HaveSeats, IsAway, IsFlowing, IsOpened, met_seat, met_seats}
 use Rattle.flows_runner.specs.Hands.{CanTake, HaveFew, many_calls, replies_of}
 use Rattle.flows_runner.specs.Piles.{calls_for}
@@ -126,7 +126,7 @@ module _ (job : Flowing) (t : TableValue) (started workers : List FlowWorker) (k
     (seats : List PartyValue) (packets : List (List ℕ)) (blocks : ℕ) (served : Served)
     (have : HaveSeats started seats) (so : IsFlowing job (Some t) seats packets blocks served) where
   abbrev shares : ℕ → List Call
-  shares seat = calls_for job.asked.seats seat (map (λ (call : ℕ × Call). call.1) opened.calls)
+  shares seat = calls_for (rules_of job.asked) job.asked.seats seat (map (λ (call : ℕ × Call). call.1) opened.calls)
 
   same_table : t ≡ so.t
   same_table = some_same so.table_is
@@ -177,7 +177,8 @@ module _ (job : Flowing) (t : TableValue) (started workers : List FlowWorker) (k
   short : (seat : ℕ) → length (shares seat) ≤ length more
   short seat =
       let calls : List Call = map (λ (call : ℕ × Call). call.1) opened.calls in
-      let share = few_pass (λ (call : Call). flow_seat job.asked.seats (key_in call) == seat) calls in
+      let share =
+      few_pass (λ (call : Call). flow_seat (rules_of job.asked) job.asked.seats (key_in call) == seat) calls in
       let all = length-map opened.calls (λ (call : ℕ × Call). call.1) in
       let few = make_few job.asked.calling (before + 1) more opened.calls opened.make in
       omega (arith, share, all, few)

@@ -5,7 +5,6 @@ use Rattle.std.specs.FinMap.{empty}
 use Rattle.std.specs.List.{range_with_len}
 use Rattle.std.specs.List.Sorted.{IsSortedByKey}
 use Rattle.std.proofs.lemmas.List.Elements.{All-append, All-cons, All-contains, All-map, All-nil}
-use Rattle.std.proofs.lemmas.List.Sorted.{All-permutation}
 use Rattle.plain_map.specs.declared.calls.Call.{Call}
 use Rattle.plain_map.specs.declared.keys.Pair.{Pair}
 use Rattle.plain_map.specs.Calls.{key_in}
@@ -20,13 +19,13 @@ use Rattle.map_laws.specs.ByKey.{Made, after_made}
 use Rattle.lasting_model.specs.Plans.{ample, buckets_of}
 use Rattle.lasting_model.specs.Worlds.{Lasting, world_after}
 use Rattle.lasting_model.specs.Laws.{pairs_in}
-use Rattle.flow_laws.specs.FlowOrders.{HasFlowOrder, first_in, rules_in}
+use Rattle.flow_laws.specs.FlowOrders.{first_in, rules_in}
 use Rattle.flow_laws.proofs.AskedKeys.{pairs_are_asked}
 use Rattle.flow_laws.proofs.Parts.{parts_are_sessions}
 use Rattle.flows_runner.specs.declared.asked.Asked.{Asked}
 use Rattle.flows_runner.specs.Asked.{rules_of}
 use Rattle.flows_runner.specs.Blocks.{block_counts}
-use Rattle.flows_runner.specs.BlockLaws.{block_by, flow_order, first_is, is_ordered, rules_are}
+use Rattle.flows_runner.specs.BlockLaws.{block_by, first_is, is_legal, rules_are, turns}
 use Rattle.flows_runner.specs.Going.{TellsServed}
 use Rattle.flows_runner.specs.Served.{AreServed, Served}
 
@@ -57,41 +56,36 @@ module _ (asked : Asked) (packets : List (List ℕ)) (served : Served) (are : Ar
   abbrev world : Lasting
   world = world_after served.plan served.events
 
-  -- one order of its calls
-  abbrev ordered : HasFlowOrder served.plan world served.made
-  ordered = flow_order asked packets served are
-
   -- the pairs of all buckets, sorted by key, are the sessions that they leave
   pairs_are : (pairs sorted : List Pair) →
       pairs ≡ flat_map (λ (bucket : ℕ). pairs_in served.plan world bucket)
       (range_with_len 0 (buckets_of served.plan.settings)) →
       IsPermutation pairs sorted → IsSortedByKey (λ (pair : Pair). pair.key) key_cmp sorted →
-      sorted ≡ pairs_of (after_made (rules_of asked) empty ordered.order)
+      sorted ≡ pairs_of (after_made (rules_of asked) empty served.made)
   unfolding ample
   pairs_are pairs sorted is moved in_order =
       parts_are_sessions (rules_in served.plan)
-      (after_made (rules_in served.plan) (first_in served.plan) ordered.order)
-      (λ (bucket : ℕ). pairs_in served.plan world bucket) sorted ordered.held
+      (after_made (rules_in served.plan) (first_in served.plan) served.made)
+      (λ (bucket : ℕ). pairs_in served.plan world bucket) sorted (turns asked packets served are).held
       (subst (λ (l : List Pair). IsPermutation l sorted) is moved) in_order
       ∙ (λ i. pairs_of (after_made (rules_are asked served.plan are.opened i)
-      (first_is asked served.plan are.opened i) ordered.order))
+      (first_is asked served.plan are.opened i) served.made))
 
   -- the keys of all calls have texts
-  keys_have_texts : All HasText (map (λ (one : Made). key_in one.0) ordered.order)
+  keys_have_texts : All HasText (map (λ (one : Made). key_in one.0) served.made)
   keys_have_texts =
-      All-map HasText (λ (one : Made). key_in one.0) ordered.order
-      (All-permutation (λ (one : Made). HasText (key_in one.0)) served.made ordered.order ordered.permuted
+      All-map HasText (λ (one : Made). key_in one.0) served.made
       (All-unmap (λ (call : Call). HasText (key_in call)) (λ (one : Made). one.0) served.made
       (subst (All (λ (call : Call). HasText (key_in call))) (sym are.made_are)
       (All-map (λ (call : Call). HasText (key_in call)) (λ (call : ℕ × Call). call.1) are.calls
-      (calls_have_texts asked.calling 1 packets are.calls are.make)))))
+      (calls_have_texts asked.calling 1 packets are.calls are.make))))
 
   -- so have those of the sessions
   pairs_have_texts :
-      All (λ (pair : Pair). HasText pair.key) (pairs_of (after_made (rules_of asked) empty ordered.order))
+      All (λ (pair : Pair). HasText pair.key) (pairs_of (after_made (rules_of asked) empty served.made))
   pairs_have_texts = λ k d within.
-      All-contains HasText (map (λ (one : Made). key_in one.0) ordered.order) _ keys_have_texts
-      (pairs_are_asked (rules_of asked) ordered.order k d within)
+      All-contains HasText (map (λ (one : Made). key_in one.0) served.made) _ keys_have_texts
+      (pairs_are_asked (rules_of asked) served.made k d within)
 
   -- the block with the pairs of all buckets, sorted by key
   pub block_of : (pairs sorted : List Pair) →
@@ -106,7 +100,6 @@ module _ (asked : Asked) (packets : List (List ℕ)) (served : Served) (are : Ar
   block_of pairs sorted is moved in_order =
       let left = pairs_are pairs sorted is moved in_order in
       record {
-        is = block_by asked (length packets) served.made ordered.order sorted (is_ordered asked packets served are)
-            left;
+        is = block_by asked (length packets) served.made sorted (is_legal asked packets served are) left;
         texts = subst (All (λ (pair : Pair). HasText pair.key)) (sym left) pairs_have_texts;
       }

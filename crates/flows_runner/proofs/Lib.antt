@@ -12,3 +12,5 @@ pub mod JobAtRest
 pub mod CloseLemmas
 pub mod EndLemmas
 mod ShareLemmas
+pub mod DoesLemmas
+mod WayLemmas

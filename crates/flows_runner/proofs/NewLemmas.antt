@@ -10,8 +10,8 @@ use Rattle.step_counts.specs.declared.settings.Settings.{Settings}
 use Rattle.step_counts.specs.Made.{IsMadeOf}
 use Rattle.plain_map.specs.declared.calls.Call.{Call}
 use Rattle.plain_map.specs.declared.keys.Key.{Key}
+use Rattle.plain_map.specs.PlainObject.{class_of}
 use Rattle.report_text.specs.Flows.{flows_head}
-use Rattle.trace_share.specs.Deal.{flow_hash}
 use Rattle.lasting_model.specs.Plans.{IsPlan, Plan, least_rows}
 use Rattle.lasting_model.specs.Steps.{SeatNow}
 use Rattle.lasting_model.specs.Laws.{IsWithin}
@@ -23,7 +23,7 @@ use Rattle.lasting_table.proofs.Planned.{is_plan}
 use Rattle.flow_workers.specs.Counts.{no_counts}
 use Rattle.flows_runner.specs.declared.asked.Asked.{Asked}
 use Rattle.flows_runner.specs.declared.flowing.Flowing.{Flowing}
-use Rattle.flows_runner.specs.Asked.{CanBeAsked, IsPlanOf, flow_seat, head_of}
+use Rattle.flows_runner.specs.Asked.{CanBeAsked, IsPlanOf, flow_seat, head_of, rules_of}
 use Rattle.flows_runner.specs.Going.{IsDone, IsFlowing, IsGoing, met_seat, met_seats}
 use Rattle.flows_runner.specs.Served.{AreServed, Served}
 
@@ -65,10 +65,10 @@ module _ (asked : Asked) (can : CanBeAsked asked) (t : TableValue) (s : Settings
   some_seats : 0 < asked.seats
   some_seats = (let some = can.some_seats in omega (arith, some))
 
-  inside : (key : Key) → flow_seat asked.seats key < t.plan.settings.seats
+  inside : (key : Key) → flow_seat (rules_of asked) asked.seats key < t.plan.settings.seats
   inside key =
-      subst (λ (n : ℕ). flow_seat asked.seats key < n) (sym opened.settings.seats_are)
-      (mod-lt (flow_hash key) some_seats)
+      subst (λ (n : ℕ). flow_seat (rules_of asked) asked.seats key < n) (sym opened.settings.seats_are)
+      (mod-lt (class_of (rules_of asked) key) some_seats)
 
   pub none_served : AreServed asked [] served
   none_served = record {

@@ -10,9 +10,7 @@ use Rattle.plain_map.specs.declared.calls.Call.{Call}
 use Rattle.plain_map.specs.Calls.{key_in}
 use Rattle.plain_map.specs.Serving.{IsAskable}
 use Rattle.mode_parts.specs.declared.calling.Calling.{Calling}
-use Rattle.mode_parts.specs.Callings.{calling_way}
 use Rattle.mode_parts.specs.PacketCalls.{MakeCalls}
-use Rattle.mode_parts.proofs.CallingLemmas.{same_calling}
 use Rattle.map_laws.specs.ByKey.{Made}
 use Rattle.lasting_model.specs.Plans.{Plan}
 use Rattle.lasting_model.specs.Steps.{Idle}
@@ -25,16 +23,18 @@ use Rattle.flow_workers.specs.Counts.{AreBelow, no_counts}
 use Rattle.flow_workers.specs.declared.workers.FlowWorker.{FlowWorker}
 use Rattle.flow_workers.specs.Work.{CanMake, MayWork, told_in}
 use Rattle.flow_workers.proofs.AnswerLists.{answers_by_seat}
+use Rattle.flows_runner.specs.Told.{packets_in}
 use Rattle.flows_runner.specs.declared.asked.Asked.{Asked}
 use Rattle.flows_runner.specs.declared.flowing.Flowing.{Flowing}
 use Rattle.flows_runner.specs.declared.pile.FlowPile.{FlowPile}
-use Rattle.flows_runner.specs.Asked.{flow_seat}
+use Rattle.plain_map.specs.declared.rules.Rules.{Rules}
+use Rattle.flows_runner.specs.Asked.{flow_seat, rules_of}
 use Rattle.flows_runner.specs.Going.{HaveSeats, IsDone, IsDoneWith, IsFlowing, IsGoing, IsOpened, job_way, met_seat, met_seats}
 use Rattle.flows_runner.specs.Hands.{AreWorkersOf, IsAsFar}
 use Rattle.flows_runner.specs.Piles.{HoldsShares, calls_for, flow_way, shares_of}
 use Rattle.flows_runner.specs.Served.{AreServed, Served}
-use Rattle.flows_runner.specs.Told.{packets_in}
 use Rattle.flows_runner.proofs.GoingLemmas.{make_few}
+use Rattle.flows_runner.proofs.WayLemmas.{same_dealing}
 use Rattle.flow_workers.proofs.AnswerLists.{few_pass}
 
 -- ---- a job that has counted the same
@@ -83,12 +83,14 @@ module _ (job : Flowing) (t : TableValue) (packets : List (List ℕ)) (blocks : 
       let answers : List Answer = (world_after t.plan served.events).answers in
       let within : seat < served.plan.settings.seats =
       subst (λ (p : Plan). seat < p.settings.seats) plan inside in
-      let mine : told_in (answers_by (BySeat seat) answers) ≡ dealt_to (flow_seat job.asked.seats) seat served.made =
+      let mine : told_in (answers_by (BySeat seat) answers)
+      ≡ dealt_to (flow_seat (rules_of job.asked) job.asked.seats) seat served.made =
       ap told_in (answers_by_seat seat answers)
       ∙ ap (λ (p : Plan). told_in (orders.answers_by seat (world_after p served.events).answers)) plan
       ∙ so.served_so.answered.answered seat within in
       let told = ap (λ (l : List Made). length l) mine in
-      let dealt = few_pass (λ (made : Made). flow_seat job.asked.seats (key_in made.0) == seat) served.made in
+      let dealt =
+      few_pass (λ (made : Made). flow_seat (rules_of job.asked) job.asked.seats (key_in made.0) == seat) served.made in
       let asked = ap (λ (l : List Answer). length l) (answers_by_seat seat answers)
       ∙ ap (λ (p : Plan). length (orders.answers_by seat (world_after p served.events).answers)) plan in
       let askings =
@@ -122,21 +124,21 @@ below_none = record {
 }
 
 -- seats that may make so many calls, each with its share of these
-module _ (t : TableValue) (events : List Event) (seats : ℕ) (calls : List Call)
+module _ (t : TableValue) (events : List Event) (rules : Rules) (seats : ℕ) (calls : List Call)
     (can : (seat many : ℕ) → seat < t.plan.settings.seats → many ≤ 65536 → CanMake t (met_seat t events seat) many)
     (few : length calls ≤ 65536) (askable : All IsAskable calls) where
   may_work_one : (seat : ℕ) (w : FlowWorker) → seat < t.plan.settings.seats → w.seat ≡ Some (met_seat t events seat) →
-      w.calls.items ≡ calls_for seats seat calls → w.replies ≡ no_counts → MayWork t w
+      w.calls.items ≡ calls_for rules seats seat calls → w.replies ≡ no_counts → MayWork t w
   may_work_one seat w inside has share none =
-      let those : length (calls_for seats seat calls) ≤ length calls =
-      few_pass (λ (call : Call). flow_seat seats (key_in call) == seat) calls in
+      let those : length (calls_for rules seats seat calls) ≤ length calls =
+      few_pass (λ (call : Call). flow_seat rules seats (key_in call) == seat) calls in
       let as_many = ap (λ (l : List Call). length l) share in
       record {
         seat = met_seat t events seat;
         has = has;
         can = can seat (length w.calls.items) inside (omega (arith, those, few, as_many));
         askable = subst (All IsAskable) (sym share)
-            (All-filter (λ (call : Call). flow_seat seats (key_in call) == seat) IsAskable calls askable);
+            (All-filter (λ (call : Call). flow_seat rules seats (key_in call) == seat) IsAskable calls askable);
         few = omega (arith, those, few, as_many);
         counts = subst (AreBelow (2 ^ 62)) (sym none) below_none;
       }
@@ -144,7 +146,7 @@ module _ (t : TableValue) (events : List Event) (seats : ℕ) (calls : List Call
   pub may_work : (seat many : ℕ) (workers : List FlowWorker) → seat + many ≤ t.plan.settings.seats →
       HaveSeats workers (map (met_seat t events) (range_with_len seat many)) →
       map (λ (w : FlowWorker). w.calls.items) workers
-      ≡ map (λ (k : ℕ). calls_for seats k calls) (range_with_len seat many) →
+      ≡ map (λ (k : ℕ). calls_for rules seats k calls) (range_with_len seat many) →
       All (λ (w : FlowWorker). w.replies ≡ no_counts) workers → All (MayWork t) workers
   may_work seat many [] inside have given none = All-nil (MayWork t)
   may_work seat zero (w ∷ workers) inside have given none =
@@ -152,9 +154,9 @@ module _ (t : TableValue) (events : List Event) (seats : ℕ) (calls : List Call
   may_work seat (suc many) (w ∷ workers) inside have given none =
       let own = cons_same w.seat (Some (met_seat t events seat)) (map (λ (v : FlowWorker). v.seat) workers)
       (map (λ (p : PartyValue). Some p) (map (met_seat t events) (range_with_len (seat + 1) many))) have in
-      let share = cons_same w.calls.items (calls_for seats seat calls)
+      let share = cons_same w.calls.items (calls_for rules seats seat calls)
       (map (λ (v : FlowWorker). v.calls.items) workers)
-      (map (λ (k : ℕ). calls_for seats k calls) (range_with_len (seat + 1) many)) given in
+      (map (λ (k : ℕ). calls_for rules seats k calls) (range_with_len (seat + 1) many)) given in
       All-cons (MayWork t) w workers
       (may_work_one seat w (omega (arith, inside)) own.0 share.0
       (All-head (λ (v : FlowWorker). v.replies ≡ no_counts) w workers none))
@@ -178,21 +180,18 @@ calls_of_lists (w ∷ workers) (list ∷ lists) same =
 module _ (job new : Flowing) (pile : FlowPile) (t : TableValue) (workers : List FlowWorker)
     (has : job.table ≡ Some t) (way : flow_way pile ≡ job_way job)
     (handed : AreWorkersOf job.seats.items pile.shares.items workers) where
-  many_shares : vec_len pile.shares ≡ job.asked.seats
-  many_shares = (cons_same (vec_len pile.shares) job.asked.seats (calling_way pile.calling)
-      (calling_way job.asked.calling) way).0
-
-  same_way : pile.calling ≡ job.asked.calling
-  same_way = same_calling pile.calling job.asked.calling (cons_same (vec_len pile.shares) job.asked.seats
-      (calling_way pile.calling) (calling_way job.asked.calling) way).1
+  abbrev same_ways : (vec_len pile.shares ≡ job.asked.seats) × (pile.classes.rules ≡ rules_of job.asked)
+      × (pile.calling ≡ job.asked.calling)
+  same_ways = same_dealing (vec_len pile.shares) job.asked.seats pile.classes.rules (rules_of job.asked) pile.calling
+      job.asked.calling way
 
   module _ (before : ℕ) (packets : List (List ℕ)) (holds : HoldsShares pile before packets) where
     abbrev calls : List Call
     calls = map (λ (call : ℕ × Call). call.1) holds.calls
 
-    given : map (λ (w : FlowWorker). w.calls.items) workers ≡ shares_of job.asked.seats calls
+    given : map (λ (w : FlowWorker). w.calls.items) workers ≡ shares_of (rules_of job.asked) job.asked.seats calls
     given = calls_of_lists workers pile.shares.items handed.calls ∙ holds.shares_are
-        ∙ ap (λ (n : ℕ). shares_of n calls) many_shares
+        ∙ (λ i. shares_of (same_ways.1 i) (same_ways.0 i) calls)
 
     module _ (going : IsGoing job before) where
       on_table : IsFlowing job (Some t) job.seats.items going.packets going.blocks going.served
@@ -219,9 +218,9 @@ module _ (job new : Flowing) (pile : FlowPile) (t : TableValue) (workers : List 
         kept_is = holds.count;
         calls = holds.calls;
         make = subst (λ (c : Calling). MakeCalls c (before + 1) packets holds.calls)
-            (same_way ∙ ap (λ (a : Asked). a.calling) (sym same.asked)) holds.make;
+            (same_ways.2 ∙ ap (λ (a : Asked). a.calling) (sym same.asked)) holds.make;
         askable = holds.askable;
-        shares = given ∙ ap (λ (a : Asked). shares_of a.seats calls) (sym same.asked);
+        shares = given ∙ ap (λ (a : Asked). shares_of (rules_of a) a.seats calls) (sym same.asked);
         no_replies = handed.no_replies;
       }
 
@@ -229,7 +228,7 @@ module _ (job new : Flowing) (pile : FlowPile) (t : TableValue) (workers : List 
       all_may_work =
           let all = make_few pile.calling (before + 1) packets holds.calls holds.make in
           let many = length-map holds.calls (λ (call : ℕ × Call). call.1) in
-          may_work t going.served.events job.asked.seats calls
+          may_work t going.served.events (rules_of job.asked) job.asked.seats calls
           (can_make job t going.packets going.blocks going.served
           (subst (λ (l : List PartyValue). IsFlowing job (Some t) l going.packets going.blocks going.served) met
           on_table))
@@ -237,7 +236,8 @@ module _ (job new : Flowing) (pile : FlowPile) (t : TableValue) (workers : List 
           (All-map IsAskable (λ (call : ℕ × Call). call.1) holds.calls holds.askable) 0 t.plan.settings.seats workers
           (omega arith) (subst (HaveSeats workers) met handed.have)
           (given
-          ∙ ap (λ (n : ℕ). map (λ (k : ℕ). calls_for job.asked.seats k calls) (range_with_len 0 n)) (sym as_many))
+          ∙ ap (λ (n : ℕ). map (λ (k : ℕ). calls_for (rules_of job.asked) job.asked.seats k calls)
+          (range_with_len 0 n)) (sym as_many))
           handed.no_replies
 
   -- what was served before stays

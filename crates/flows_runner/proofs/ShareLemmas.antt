@@ -11,59 +11,61 @@ use Rattle.plain_map.specs.Serving.{IsAskable}
 use Rattle.mode_parts.specs.declared.calling.Calling.{Calling}
 use Rattle.mode_parts.specs.PacketCalls.{MakeCalls, MakesCall, numbered}
 use Rattle.mode_parts.proofs.CallLemmas.{MakeCalls-more}
+use Rattle.plain_map.specs.declared.rules.Rules.{Rules}
 use Rattle.flows_runner.specs.declared.pile.FlowPile.{FlowPile}
 use Rattle.flows_runner.specs.Asked.{flow_seat}
 use Rattle.flows_runner.specs.Piles.{HoldsShares, calls_for, shares_of}
 
 -- a call more is one of its seat's, and of no other's
-calls_for_more : (seats seat : ℕ) (calls : List Call) (call : Call) →
-    calls_for seats seat (calls ++ call ∷ [])
-    ≡ calls_for seats seat calls ++ cond (flow_seat seats (key_in call) == seat) (call ∷ []) []
-calls_for_more seats seat calls call =
-    filter-append (λ (c : Call). flow_seat seats (key_in c) == seat) calls (call ∷ [])
+calls_for_more : (rules : Rules) (seats seat : ℕ) (calls : List Call) (call : Call) →
+    calls_for rules seats seat (calls ++ call ∷ [])
+    ≡ calls_for rules seats seat calls ++ cond (flow_seat rules seats (key_in call) == seat) (call ∷ []) []
+calls_for_more rules seats seat calls call =
+    filter-append (λ (c : Call). flow_seat rules seats (key_in c) == seat) calls (call ∷ [])
 
-shares_more : (seats : ℕ) (calls : List Call) (call : Call) (seat : ℕ) → seat ≡ flow_seat seats (key_in call) →
-    seat < seats →
-    set (shares_of seats calls) seat (get_or (shares_of seats calls) seat [] ++ call ∷ [])
-    ≡ shares_of seats (calls ++ call ∷ [])
-shares_more seats calls call seat is less =
-    fill_by_all (λ (s : ℕ). calls_for seats s (calls ++ call ∷ []))
-    (set (shares_of seats calls) seat (get_or (shares_of seats calls) seat [] ++ call ∷ [])) seats []
-    (length-set (shares_of seats calls) seat (get_or (shares_of seats calls) seat [] ++ call ∷ []) ∙ long) each
+shares_more : (rules : Rules) (seats : ℕ) (calls : List Call) (call : Call) (seat : ℕ) →
+    seat ≡ flow_seat rules seats (key_in call) → seat < seats →
+    set (shares_of rules seats calls) seat (get_or (shares_of rules seats calls) seat [] ++ call ∷ [])
+    ≡ shares_of rules seats (calls ++ call ∷ [])
+shares_more rules seats calls call seat is less =
+    fill_by_all (λ (s : ℕ). calls_for rules seats s (calls ++ call ∷ []))
+    (set (shares_of rules seats calls) seat (get_or (shares_of rules seats calls) seat [] ++ call ∷ [])) seats []
+    (length-set (shares_of rules seats calls) seat (get_or (shares_of rules seats calls) seat [] ++ call ∷ [])
+    ∙ long) each
   where
-    long : length (shares_of seats calls) ≡ seats
-    long = length-map-range_with_len (λ (s : ℕ). calls_for seats s calls) 0 seats
+    long : length (shares_of rules seats calls) ≡ seats
+    long = length-map-range_with_len (λ (s : ℕ). calls_for rules seats s calls) 0 seats
 
-    there : (s : ℕ) → s < seats → get_or (shares_of seats calls) s [] ≡ calls_for seats s calls
+    there : (s : ℕ) → s < seats → get_or (shares_of rules seats calls) s [] ≡ calls_for rules seats s calls
     there s inside =
-        get_or-map-range_with_len (λ (r : ℕ). calls_for seats r calls) 0 seats s s [] inside (omega arith)
+        get_or-map-range_with_len (λ (r : ℕ). calls_for rules seats r calls) 0 seats s s [] inside (omega arith)
 
     each : (s : ℕ) → s < seats →
-        get_or (set (shares_of seats calls) seat (get_or (shares_of seats calls) seat [] ++ call ∷ [])) s []
-        ≡ calls_for seats s (calls ++ call ∷ [])
+        get_or (set (shares_of rules seats calls) seat (get_or (shares_of rules seats calls) seat [] ++ call ∷ [])) s []
+        ≡ calls_for rules seats s (calls ++ call ∷ [])
     each s inside = elim (cases_eq s seat) [
       | inl same ↦
-          let within : seat < length (shares_of seats calls) = omega (arith, long, less) in
-          let own : (flow_seat seats (key_in call) == s) ≡ true =
-          eq-eqb (flow_seat seats (key_in call)) s (sym is ∙ sym same) in
-          ap (λ (r : ℕ). get_or (set (shares_of seats calls) seat
-          (get_or (shares_of seats calls) seat [] ++ call ∷ [])) r []) same
-          ∙ get_or-set_same (shares_of seats calls) seat
-          (get_or (shares_of seats calls) seat [] ++ call ∷ []) [] within
+          let within : seat < length (shares_of rules seats calls) = omega (arith, long, less) in
+          let own : (flow_seat rules seats (key_in call) == s) ≡ true =
+          eq-eqb (flow_seat rules seats (key_in call)) s (sym is ∙ sym same) in
+          ap (λ (r : ℕ). get_or (set (shares_of rules seats calls) seat
+          (get_or (shares_of rules seats calls) seat [] ++ call ∷ [])) r []) same
+          ∙ get_or-set_same (shares_of rules seats calls) seat
+          (get_or (shares_of rules seats calls) seat [] ++ call ∷ []) [] within
           ∙ ap (λ (cs : List Call). cs ++ call ∷ []) (there seat less)
-          ∙ ap (λ (r : ℕ). calls_for seats r calls ++ call ∷ []) (sym same)
-          ∙ ap (λ (cs : List Call). calls_for seats s calls ++ cs)
-          (sym (cond-true (flow_seat seats (key_in call) == s) (call ∷ []) [] own))
-          ∙ sym (calls_for_more seats s calls call)
+          ∙ ap (λ (r : ℕ). calls_for rules seats r calls ++ call ∷ []) (sym same)
+          ∙ ap (λ (cs : List Call). calls_for rules seats s calls ++ cs)
+          (sym (cond-true (flow_seat rules seats (key_in call) == s) (call ∷ []) [] own))
+          ∙ sym (calls_for_more rules seats s calls call)
       | inr other ↦
-          let none : (flow_seat seats (key_in call) == s) ≡ false =
-          ne_eqb (flow_seat seats (key_in call)) s (λ eq. other (sym eq ∙ sym is)) in
-          get_or-set_other (shares_of seats calls) seat s
-          (get_or (shares_of seats calls) seat [] ++ call ∷ []) [] other
-          ∙ there s inside ∙ sym (append-nil (calls_for seats s calls))
-          ∙ ap (λ (cs : List Call). calls_for seats s calls ++ cs)
-          (sym (cond-false (flow_seat seats (key_in call) == s) (call ∷ []) [] none))
-          ∙ sym (calls_for_more seats s calls call)
+          let none : (flow_seat rules seats (key_in call) == s) ≡ false =
+          ne_eqb (flow_seat rules seats (key_in call)) s (λ eq. other (sym eq ∙ sym is)) in
+          get_or-set_other (shares_of rules seats calls) seat s
+          (get_or (shares_of rules seats calls) seat [] ++ call ∷ []) [] other
+          ∙ there s inside ∙ sym (append-nil (calls_for rules seats s calls))
+          ∙ ap (λ (cs : List Call). calls_for rules seats s calls ++ cs)
+          (sym (cond-false (flow_seat rules seats (key_in call) == s) (call ∷ []) [] none))
+          ∙ sym (calls_for_more rules seats s calls call)
     ]
 
 -- lists of calls, as they are seen
@@ -85,20 +87,21 @@ pushed lists seat was now call inside is push =
     ∙ sym (get_or-map (λ (own : Vec Call Global). own.items) lists seat was [] inside)))
 
 -- one call more is dealt to its seat
-pub dealt_more : (seats : ℕ) (lists : List (Vec Call Global)) (seat : ℕ) (was now : Vec Call Global) (call : Call)
+pub dealt_more : (rules : Rules) (seats : ℕ) (lists : List (Vec Call Global)) (seat : ℕ) (was now : Vec Call Global)
+    (call : Call)
     (calls : List Call) → seat < length lists → seat < seats → was ≡ get_or lists seat was →
-    now.items ≡ was.items ++ call ∷ [] → seat ≡ flow_seat seats (key_in call) →
-    items_in lists ≡ shares_of seats calls →
-    items_in (set lists seat now) ≡ shares_of seats (calls ++ call ∷ [])
-dealt_more seats lists seat was now call calls inside below is push own are =
+    now.items ≡ was.items ++ call ∷ [] → seat ≡ flow_seat rules seats (key_in call) →
+    items_in lists ≡ shares_of rules seats calls →
+    items_in (set lists seat now) ≡ shares_of rules seats (calls ++ call ∷ [])
+dealt_more rules seats lists seat was now call calls inside below is push own are =
     pushed lists seat was now call inside is push
     ∙ ap (λ (xs : List (List Call)). set xs seat (get_or xs seat [] ++ call ∷ [])) are
-    ∙ shares_more seats calls call seat own below
+    ∙ shares_more rules seats calls call seat own below
 
 -- no calls, of so many seats
-pub shares_none : (seats : ℕ) → replicate seats [] ≡ shares_of seats []
-shares_none seats =
-    fill_by_all (λ (s : ℕ). calls_for seats s []) (replicate seats []) seats [] (length-replicate seats [])
+pub shares_none : (rules : Rules) (seats : ℕ) → replicate seats [] ≡ shares_of rules seats []
+shares_none rules seats =
+    fill_by_all (λ (s : ℕ). calls_for rules seats s []) (replicate seats []) seats [] (length-replicate seats [])
     (λ s inside. get_or-replicate seats s [] [] inside)
 
 -- a pile with no packets, whose lists are empty
@@ -112,7 +115,8 @@ holds_none pile before seats count empty many =
       calls = [];
       make = refl;
       askable = All-nil (λ (call : ℕ × Call). IsAskable call.1);
-      shares_are = empty ∙ shares_none seats ∙ ap (λ (n : ℕ). shares_of n []) (sym many);
+      shares_are = empty ∙ shares_none pile.classes.rules seats ∙ ap (λ (n : ℕ). shares_of pile.classes.rules n [])
+          (sym many);
     }
 
 -- the call of a packet, where it makes one
@@ -141,13 +145,13 @@ askable_more number (Some call) calls fits all =
 pub holds_more : (old new : FlowPile) (before : ℕ) (packets : List (List ℕ)) (packet : List ℕ) (number : ℕ)
     (made : Option Call) → HoldsShares old before packets → number ≡ before + length packets + 1 →
     length packets + 1 ≤ 65536 → MakesCall old.calling number packet made → IfSome made IsAskable →
-    new.calling ≡ old.calling → new.packets ≡ old.packets + 1 →
+    new.calling ≡ old.calling → new.classes ≡ old.classes → new.packets ≡ old.packets + 1 →
     ((calls : List Call) →
-    items_in old.shares.items ≡ shares_of (vec_len old.shares) calls →
+    items_in old.shares.items ≡ shares_of old.classes.rules (vec_len old.shares) calls →
     items_in new.shares.items
-    ≡ shares_of (vec_len new.shares) (calls ++ call_list made)) →
+    ≡ shares_of old.classes.rules (vec_len new.shares) (calls ++ call_list made)) →
     HoldsShares new before (packets ++ packet ∷ [])
-holds_more old new before packets packet number made holds at few makes fits same count dealt =
+holds_more old new before packets packet number made holds at few makes fits same by count dealt =
     let size : length (packets ++ packet ∷ []) ≡ length packets + 1 = length-append packets (packet ∷ []) in
     record {
       count = omega (arith, count, holds.count, size);
@@ -159,5 +163,5 @@ holds_more old new before packets packet number made holds at few makes fits sam
           holds.make);
       askable = askable_more number made holds.calls fits holds.askable;
       shares_are = dealt (map (λ (call : ℕ × Call). call.1) holds.calls) holds.shares_are
-          ∙ ap (shares_of (vec_len new.shares)) (sym (calls_more number made holds.calls));
+          ∙ (λ i. shares_of (sym by i).rules (vec_len new.shares) (sym (calls_more number made holds.calls) i));
     }

@@ -1,15 +1,18 @@
 -- What is asked of a run that goes through flows, and the table that it is served on.
 -- Source: docs/FORMATS.md, the report of flows.
-use Rattle.std.specs.Prelude.{◌≡◌, ◌<◌, ◌≤◌, ℕ, ◌%◌, []}
+use Rattle.std.specs.Prelude.{◌≡◌, ◌<◌, ◌≤◌, ℕ, ◌%◌, List, [], ◌∷◌}
 use Rattle.std.specs.Option.{ForSome}
 use Rattle.capture_loop.specs.declared.job.TheConstants.{MOST_BATCH}
 use Rattle.capture_loop.specs.declared.portions.Portions.{Portions}
 use Rattle.flows_runner.specs.declared.pile.TheConstants.{FLOW_LIMIT}
-use Rattle.hash_bits.specs.declared.hashing.Hashing.TheVariants.{Mix}
+use Rattle.hash_bits.specs.declared.hashing.Hashing.{Hashing}
+use Rattle.hash_bits.specs.declared.hashing.Hashing.TheVariants.{Mix, Ports}
 use Rattle.step_counts.specs.Made.{IsMadeOf}
 use Rattle.plain_map.specs.declared.keys.Key.{Key}
 use Rattle.plain_map.specs.declared.rules.Rules.{Rules}
-use Rattle.trace_share.specs.Deal.{flow_hash}
+use Rattle.plain_map.specs.PlainObject.{class_of}
+use Rattle.mode_parts.specs.declared.calling.Calling.{Calling}
+use Rattle.mode_parts.specs.Callings.{calling_way}
 use Rattle.report_text.specs.declared.flows.FlowsHead.{FlowsHead}
 use Rattle.lasting_model.specs.Plans.{Plan}
 use Rattle.flows_runner.specs.declared.asked.Asked.{Asked}
@@ -24,9 +27,24 @@ pub record IsPlanOf (asked : Asked) (plan : Plan) : Type 0 where
 abbrev pub rules_of : Asked → Rules
 rules_of asked = record { items = asked.items; depth = asked.depth; hashing = Mix asked.seed }
 
--- the seat that makes the calls of a flow
-abbrev pub flow_seat : (seats : ℕ) → Key → ℕ
-flow_seat seats key = flow_hash key % seats
+-- the seat that makes the calls of a flow: that of its class
+abbrev pub flow_seat : Rules → (seats : ℕ) → Key → ℕ
+flow_seat rules seats key = class_of rules key % seats
+
+-- a hash, as two numbers
+abbrev pub hash_kind : Hashing → ℕ
+hash_kind (Mix seed) = 0
+hash_kind (Ports seed) = 1
+
+-- and its seed
+abbrev pub hash_seed : Hashing → ℕ
+hash_seed (Mix seed) = seed
+hash_seed (Ports seed) = seed
+
+-- for how many seats, by which rules, and how packets become calls, as numbers
+abbrev pub dealing_way : (seats : ℕ) → Rules → Calling → List ℕ
+dealing_way seats rules calling =
+    seats ∷ rules.items ∷ rules.depth ∷ hash_kind rules.hashing ∷ hash_seed rules.hashing ∷ calling_way calling
 
 -- what the head line tells
 abbrev pub head_of : Asked → FlowsHead

@@ -1,13 +1,13 @@
 -- A block of the report of flows: what the plain map holds after the calls of the packets so far.
 -- Source: docs/FORMATS.md, the report of flows.
-use Rattle.std.specs.Prelude.{◌≡◌, ℕ, ◌+◌, ◌-◌, ◌%◌, ◌==◌, ◌≤◌, ◌&&◌, nat_lt, Bool, false, if◌then◌else◌, List, [], ◌∷◌, ◌++◌, filter, length, map, take, IsPermutation, Option, Some, None}
+use Rattle.std.specs.Prelude.{◌≡◌, ℕ, ◌+◌, ◌-◌, ◌%◌, ◌==◌, ◌≤◌, ◌&&◌, nat_lt, Bool, false, if◌then◌else◌, List, [], ◌∷◌, ◌++◌, filter, length, map, take, Option, Some, None}
 use Rattle.std.specs.FinMap.{empty}
 use Rattle.plain_map.specs.declared.calls.Call.{Call}
 use Rattle.plain_map.specs.PlainObject.{pairs_of}
 use Rattle.mode_parts.specs.PacketCalls.{MakeCalls}
 use Rattle.report_text.specs.Flows.{FlowsBlock}
 use Rattle.report_text.specs.declared.flows.FlowCounts.{FlowCounts}
-use Rattle.map_laws.specs.ByKey.{AgreeByKey, LegalFree, LegalMade, Made, NoneLacksRoom, after_free, after_made}
+use Rattle.map_laws.specs.ByKey.{LegalFree, LegalMade, Made, NoneLacksRoom, after_free, after_made}
 use Rattle.flow_workers.specs.Counts.{counts_of}
 use Rattle.flows_runner.specs.declared.asked.Asked.{Asked}
 use Rattle.flows_runner.specs.Asked.{rules_of}
@@ -27,19 +27,16 @@ block_counts packets made = record {
   sum = (counts_of made).sum;
 }
 
--- The block tells of so many packets, which made these calls, with these replies, in packet order. All of them have one
--- order, each flow's in packet order, in which each reply is that of the plain map. The sessions are those that it
--- holds then. If none was answered that its class is full, then replies and sessions are those of the map without a
--- limit, asked in packet order.
+-- The block tells of so many packets, which made these calls, with these replies, in packet order. Each reply is that
+-- of the plain map, asked these calls in packet order, and the sessions are those that it holds then. So the packets
+-- and the map's rules decide the block, whatever room a class has and however many callers there are. If none was
+-- answered that its class is full, then replies and sessions are those of the map without a limit.
 pub record IsBlock (asked : Asked) (packets : ℕ) (made : List Made) (block : FlowsBlock) : Type 0 where
   pub at : block.at ≡ packets
   pub counts : block.counts ≡ block_counts packets made
-  pub order : List Made
-  pub agrees : AgreeByKey order made
-  pub permuted : IsPermutation made order
-  pub legal : LegalMade (rules_of asked) empty order
-  pub pairs : block.pairs ≡ pairs_of (after_made (rules_of asked) empty order)
-  pub in_turn : NoneLacksRoom made → LegalFree empty made × (block.pairs ≡ pairs_of (after_free empty made))
+  pub legal : LegalMade (rules_of asked) empty made
+  pub pairs : block.pairs ≡ pairs_of (after_made (rules_of asked) empty made)
+  pub free : NoneLacksRoom made → LegalFree empty made × (block.pairs ≡ pairs_of (after_free empty made))
 
 -- of these packets, which made these calls, the block tells the first so many
 pub record IsBlockAt (asked : Asked) (packets : List (List ℕ)) (made : List Made) (at : ℕ) (block : FlowsBlock) :

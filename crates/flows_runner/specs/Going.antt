@@ -1,6 +1,6 @@
 -- How far a run through flows has come: the table and its seats, what was served on it, and what is counted.
 -- Source: this project's own.
-use Rattle.std.specs.Prelude.{◌≡◌, ◌≤◌, ◌<◌, true, false, ℕ, ◌+◌, ◌*◌, List, [], ◌∷◌, ◌++◌, length, map, All, Option, Some, None, vec_len, vec_capacity}
+use Rattle.std.specs.Prelude.{◌≡◌, ◌≤◌, ◌<◌, true, false, ℕ, ◌+◌, ◌*◌, List, [], ◌++◌, length, map, All, Option, Some, None, vec_len, vec_capacity}
 use Rattle.std.specs.List.{range_with_len}
 use Rattle.std.specs.Option.{ForSome}
 use Rattle.plain_map.specs.declared.calls.Call.{Call}
@@ -8,7 +8,6 @@ use Rattle.plain_map.specs.declared.keys.Pair.{Pair}
 use Rattle.plain_map.specs.Serving.{IsAskable}
 use Rattle.key_texts.specs.FlowText.{HasText}
 use Rattle.mode_parts.specs.PacketCalls.{MakeCalls}
-use Rattle.mode_parts.specs.Callings.{calling_way}
 use Rattle.report_text.specs.Flows.{FlowsBlock, flows_block, flows_head}
 use Rattle.lasting_model.specs.Worlds.{Event, BySeat, world_after}
 use Rattle.lasting_laws.specs.Orders.{answers_by}
@@ -20,7 +19,7 @@ use Rattle.flows_runner.specs.declared.pile.TheConstants.{FLOW_LIMIT}
 use Rattle.flows_runner.specs.declared.asked.Asked.{Asked}
 use Rattle.flows_runner.specs.declared.blocks.Block.{Block}
 use Rattle.flows_runner.specs.declared.flowing.Flowing.{Flowing}
-use Rattle.flows_runner.specs.Asked.{head_of}
+use Rattle.flows_runner.specs.Asked.{dealing_way, head_of, rules_of}
 use Rattle.flows_runner.specs.Blocks.{IsBlock, is_place, places_within}
 use Rattle.flows_runner.specs.Piles.{shares_of}
 use Rattle.flows_runner.specs.Served.{AreServed, Served}
@@ -66,9 +65,9 @@ pub record HasSpare (job : Flowing) : Type 0 where
   pub every : ForSome job.asked.every (λ every. 0 < every)
   pub spare : vec_len job.spare ≡ job.asked.seats
 
--- for how many seats, and how packets become calls
+-- for how many seats, by which rules, and how packets become calls
 abbrev pub job_way : Flowing → List ℕ
-job_way job = job.asked.seats ∷ calling_way job.asked.calling
+job_way job = dealing_way job.asked.seats (rules_of job.asked) job.asked.calling
 
 -- so many packets were served
 pub record IsGoing (job : Flowing) (many : ℕ) : Type 0 where
@@ -137,7 +136,7 @@ pub record IsOpened (job : Flowing) (t : TableValue) (workers : List FlowWorker)
   pub make : MakeCalls job.asked.calling (before + 1) packets calls
   pub askable : All (λ (call : ℕ × Call). IsAskable call.1) calls
   pub shares : map (λ (w : FlowWorker). w.calls.items) workers
-      ≡ shares_of job.asked.seats (map (λ (call : ℕ × Call). call.1) calls)
+      ≡ shares_of (rules_of job.asked) job.asked.seats (map (λ (call : ℕ × Call). call.1) calls)
   pub no_replies : All (λ (w : FlowWorker). w.replies ≡ no_counts) workers
 
 -- ---- what is told of a batch

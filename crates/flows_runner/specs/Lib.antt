@@ -7,3 +7,4 @@ pub mod Going
 pub mod BlockLaws
 pub mod Hands
 pub mod JobLaws
+pub mod Does

@@ -10,7 +10,7 @@ use Rattle.lasting_model.specs.Worlds.{Event, IsRun, world_after}
 use Rattle.lasting_laws.specs.Orders.{AllAreIdle}
 use Rattle.flow_laws.specs.FlowOrders.{AreAnswered}
 use Rattle.flows_runner.specs.declared.asked.Asked.{Asked}
-use Rattle.flows_runner.specs.Asked.{IsPlanOf, flow_seat}
+use Rattle.flows_runner.specs.Asked.{IsPlanOf, flow_seat, rules_of}
 
 -- what a table was opened with, all that happened on it, and the calls of all packets in packet order, each with its
 -- reply
@@ -30,5 +30,6 @@ pub record AreServed (asked : Asked) (packets : List (List ℕ)) (served : Serve
   -- they were answered in a run, and none is under way
   pub run : IsRun served.plan served.events
   pub rest : AllAreIdle served.plan (world_after served.plan served.events)
-  pub answered : AreAnswered served.plan (flow_seat asked.seats) (world_after served.plan served.events) served.made
+  pub answered : AreAnswered served.plan (flow_seat (rules_of asked) asked.seats)
+      (world_after served.plan served.events) served.made
   pub bounded : All (IsWithin served.plan.settings) (world_after served.plan served.events).answers

@@ -7,9 +7,8 @@ ghost use Rattle.map_laws.specs.ByKey.{Made};
 ghost use Rattle.lasting_table.specs.Parties.{PartyValue};
 ghost use Rattle.lasting_table.specs.Meetings.{AreSeatsOf, HaveMet};
 ghost use Rattle.flow_workers.specs.Counts.{counts_of};
-ghost use Rattle.mode_parts.specs.Callings.{calling_way};
 ghost use Rattle.report_text.specs.Flows.{flows_head};
-ghost use Rattle.flows_runner.specs.Asked.{CanBeAsked, head_of};
+ghost use Rattle.flows_runner.specs.Asked.{CanBeAsked, dealing_way, head_of, rules_of};
 ghost use Rattle.flows_runner.specs.Blocks.{block_counts, is_place};
 ghost use Rattle.flows_runner.specs.Hands.{AreWorkersOf, CanTake, HasHandedOut, HasTaken, HaveFew};
 ghost use Rattle.flows_runner.specs.Served.{Served};
@@ -51,7 +50,8 @@ impl Flowing {
         ensures going { IfOk result (λ flowing. IsGoing flowing 0) }
         ensures done { IfOk result (λ flowing. (text : List ℕ) → text ≡ flows_head (head_of asked.now) →
             IsDone flowing asked.now [] text) }
-        ensures way { IfOk result (λ flowing. job_way flowing ≡ asked.now.seats ∷ calling_way asked.now.calling) }
+        ensures way { IfOk result (λ flowing. job_way flowing
+            ≡ dealing_way asked.now.seats (rules_of asked.now) asked.now.calling) }
     {
         let settings = settings_of(asked);
         let rows = rows_for(&settings);

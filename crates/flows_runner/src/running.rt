@@ -22,8 +22,8 @@ use report_text::flows_head_text;
 use std::thread::Threads;
 
 /// Goes through the flows of the source's input as is asked, batch by batch, on one table that lasts, and puts the
-/// report into the sink. Each flow's calls are made by one caller, in packet order. Each caller has a thread of its
-/// own.
+/// report into the sink. The calls of each class are made by one caller, in packet order. Each caller has a thread of
+/// its own.
 pub fn flow_input<R: Threads + Sync, S: Source, K: Sink, G: Gate + Sync>(
     means: &Means<R, G>,
     asked: &Asked,
@@ -54,8 +54,8 @@ pub fn flow_input<R: Threads + Sync, S: Source, K: Sink, G: Gate + Sync>(
     flows_head_text(&mut text, &head_of(asked))?;
     let mut flowing = Flowing::new(alloc, asked)?;
     let mut piles = Piles {
-        now: FlowPile::with_room(alloc, asked.calling, asked.seats, room)?,
-        next: FlowPile::with_room(alloc, asked.calling, asked.seats, room)?,
+        now: FlowPile::with_room(alloc, asked, room)?,
+        next: FlowPile::with_room(alloc, asked, room)?,
         beyond: *beyond,
     };
     let link = asked.calling.framing.link.number();

@@ -4,3 +4,4 @@ pub mod FittingCalls
 pub mod GoodCalls
 pub mod ExactLemmas
 pub mod PileLemmas
+pub mod EdgeLemmas

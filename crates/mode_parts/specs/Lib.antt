@@ -4,3 +4,4 @@ pub mod Reading
 pub mod Statuses
 pub mod Planned
 pub mod Piles
+pub mod Edges

@@ -4,6 +4,7 @@ ghost use Rattle.std.specs.Prelude.{◌≡◌};
 ghost use Rattle.mode_parts.specs.Statuses.{other_link};
 
 use capture_faults::{AnyFault, CaptureFault, Ending};
+use capture_loop::Stop;
 use packet_heads::Link;
 
 /// How a run ended, and so the program's exit status.
@@ -27,7 +28,7 @@ pub enum Status {
 
 impl Status {
     ghost use Rattle.std.specs.Prelude.{◌≡◌, option_map};
-    ghost use Rattle.mode_parts.specs.Statuses.{Says, code_of, status_of, text_of};
+    ghost use Rattle.mode_parts.specs.Statuses.{Says, code_of, status_by, status_of, text_of};
 
     /// The program's exit status.
     pub fn code(self) -> u8
@@ -73,6 +74,17 @@ impl Status {
             Ending::ReadFault => Status::ReadFault,
             Ending::Limit { .. } => Status::Limit,
             Ending::Fault(fault) => Status::BadCapture { fault: *fault },
+        }
+    }
+
+    /// The status of a run that ended so.
+    pub fn of_run(end: &Result<Ending, Stop>) -> Status
+        ensures { result ≡ status_by end.now }
+    {
+        match end {
+            Ok(ending) => Status::of_ending(ending),
+            Err(Stop::Memory) => Status::Memory,
+            Err(Stop::NotPut) => Status::WriteFault,
         }
     }
 }

@@ -12,3 +12,4 @@ pub mod PlayPackets
 pub mod PlayEnds
 pub mod GoodPlays
 pub mod PlayLemmas
+pub mod DoesLemmas

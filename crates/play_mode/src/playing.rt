@@ -16,10 +16,12 @@ ghost use Rattle.batch_deals.specs.Dealt.{shares_of};
 ghost use Rattle.capture_loop.specs.Endings.{HasFailed, OnLimit};
 ghost use Rattle.capture_loop.specs.Input.{StopsAt};
 ghost use Rattle.command_line.specs.Words.{IsInRange};
-ghost use Rattle.mode_parts.specs.Statuses.{MarksFor, ReadsFailed, WritesFailed};
+ghost use Rattle.mode_parts.specs.Edges.{TellsReads, TellsWrites, edges, sink_edge, source_edge};
+ghost use Rattle.mode_parts.specs.Statuses.{MarksFor};
 ghost use Rattle.packet_heads.specs.Links.{number_in};
 ghost use Rattle.mode_parts.specs.Reading.{AreBetween, EndsCalls};
 ghost use Rattle.mode_parts.specs.Planned.{IsServiceOf};
+ghost use Rattle.play_mode.specs.Does.{DoesPlay};
 ghost use Rattle.play_mode.specs.Playing.{IsPlayOf, LeavesPlayed, play_in, play_limit, play_setup, play_tail, played_lines, ranges_for, refusals_in, schedule_in};
 
 use crate::laws::playing_laws;
@@ -31,6 +33,7 @@ use command_line::Plan;
 use core_steps::CoreWorld;
 use edge_traits::{Failed, Sink, Source, write_all};
 use mode_parts::{CallPile, Calling, Status, calling_of, head_of, put_sessions, service_of};
+use pcapng_reader::one_input;
 use plain_map::{Call, OpenFault, Pending, session_laws};
 use play_runner::{Played, Segment, most_steps};
 use report_promises::{head_fits, promise_laws, tail_fits};
@@ -52,16 +55,32 @@ pub fn play<S: Source, K: Sink>(
     beyond: &mut Option<u64>,
 ) -> Status
     requires { IsInRange plan.now }
+    ensures does { DoesPlay plan.now (edges S.Source K.Sink source.old sink.old beyond.old)
+        (edges S.Source K.Sink source.new sink.new beyond.new) result }
+    ensures reads { TellsReads (source_edge S.Source source.old) (source_edge S.Source source.new) result }
+    ensures writes { TellsWrites (sink_edge K.Sink sink.old) (sink_edge K.Sink sink.new) result }
+    ensures no_usage { result ≡ Status.Usage → ⊥ }
+{
+    one_input();
+    play_input(alloc, plan, source, sink, beyond)
+}
+
+/// The same: what is left, and which place is noted.
+fn play_input<S: Source, K: Sink>(
+    alloc: Global,
+    plan: &Plan,
+    source: &mut S,
+    sink: &mut K,
+    beyond: &mut Option<u64>,
+) -> Status
+    requires { IsInRange plan.now }
     ensures leaves { LeavesPlayed plan.now (EndsBy (S.failed source.old) (S.failed source.new)) (S.left source.old)
         (S.left source.new) (K.put sink.old) (K.put sink.new) result }
-    ensures read_fault { result ≡ Status.ReadFault → Rose (S.faults source.old) (S.faults source.new) }
-    ensures write_fault { result ≡ Status.WriteFault → Rose (K.faults sink.old) (K.faults sink.new) }
-    ensures reads { ReadsFailed result (S.failed source.old) (S.failed source.new) }
-    ensures writes { WritesFailed result (K.failed sink.old) (K.failed sink.new) }
+    ensures reads { TellsReads (source_edge S.Source source.old) (source_edge S.Source source.new) result }
+    ensures writes { TellsWrites (sink_edge K.Sink sink.old) (sink_edge K.Sink sink.new) result }
     ensures no_usage { result ≡ Status.Usage → ⊥ }
     ensures beyond { MarksFor result beyond.old beyond.new
         (StopsAt (number_in plan.now.framing.link) play_limit (S.left source.old) (S.left source.new)) }
-    ensures counted { (S.faults source.old ≤ S.faults source.new) × (K.faults sink.old ≤ K.faults sink.new) }
 {
     promise_laws();
     let service = service_of(plan);

@@ -1,3 +1,4 @@
+pub mod DoesLemmas
 pub mod EndLemmas
 pub mod ExactServes
 pub mod GoodEndings

@@ -6,3 +6,4 @@ pub mod Serving
 pub mod ServingLaws
 pub mod Trying
 pub mod TryingLaws
+pub mod Does

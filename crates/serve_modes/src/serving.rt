@@ -19,9 +19,11 @@ ghost use Rattle.capture_loop.specs.Looping.{OnNotPut};
 ghost use Rattle.command_line.specs.declared.plan.Plan.{Plan as APlan};
 ghost use Rattle.command_line.specs.Words.{IsInRange};
 ghost use Rattle.mode_parts.specs.PacketCalls.{MakeCalls};
+ghost use Rattle.serve_modes.specs.Does.{DoesServe};
 ghost use Rattle.serve_modes.specs.Progress.{HasServed};
 ghost use Rattle.serve_modes.specs.Headline.{LeavesAll};
-ghost use Rattle.mode_parts.specs.Statuses.{MarksFor, ReadsFailed, WritesFailed, status_by};
+ghost use Rattle.mode_parts.specs.Edges.{TellsReads, TellsWrites, edges, sink_edge, source_edge};
+ghost use Rattle.mode_parts.specs.Statuses.{MarksFor, status_by};
 ghost use Rattle.packet_heads.specs.Links.{number_in};
 ghost use Rattle.mode_parts.specs.Callings.{calling_of, calling_way};
 ghost use Rattle.mode_parts.specs.Planned.{IsServiceOf, head_of};
@@ -40,6 +42,7 @@ use capture_loop::{Job, MOST_BATCH, Means, Opened, PACKET_LIMIT, Piles, Stop, ru
 use command_line::Plan;
 use edge_traits::{Gate, Sink, Source};
 use mode_parts::{CallPile, Calling, Status, calling_of, head_of, put_sessions, service_of};
+use pcapng_reader::one_input;
 use plain_map::{Call, MOST_SEATS, session_laws};
 use report_promises::{ending_fits, head_fits, promise_laws};
 use report_text::{head_text, tail_text};
@@ -293,22 +296,15 @@ pub fn serve<R: Threads + Sync, S: Source, K: Sink, G: Gate + Sync>(
 ) -> Status
     requires range { IsInRange plan.now }
     requires batch { means.now.portions ≡ in_batches plan.now.batch }
-    ensures leaves { LeavesAll plan.now (EndsBy (S.failed source.old) (S.failed source.new)) (S.left source.old)
-        (S.left source.new) (K.put sink.old) (K.put sink.new) result }
-    ensures read_fault { result ≡ Status.ReadFault → Rose (S.faults source.old) (S.faults source.new) }
-    ensures write_fault { result ≡ Status.WriteFault → Rose (K.faults sink.old) (K.faults sink.new) }
-    ensures reads { ReadsFailed result (S.failed source.old) (S.failed source.new) }
-    ensures writes { WritesFailed result (K.failed sink.old) (K.failed sink.new) }
+    ensures does { DoesServe plan.now (edges S.Source K.Sink source.old sink.old beyond.old)
+        (edges S.Source K.Sink source.new sink.new beyond.new) result }
+    ensures reads { TellsReads (source_edge S.Source source.old) (source_edge S.Source source.new) result }
+    ensures writes { TellsWrites (sink_edge K.Sink sink.old) (sink_edge K.Sink sink.new) result }
     ensures no_usage { result ≡ Status.Usage → ⊥ }
-    ensures beyond { MarksFor result beyond.old beyond.new
-        (StopsAt (number_in plan.now.framing.link) packet_limit (S.left source.old) (S.left source.new)) }
-    ensures counted { (S.faults source.old ≤ S.faults source.new) × (K.faults sink.old ≤ K.faults sink.new) }
 {
-    match serve_input(means, plan, source, sink, beyond) {
-        Ok(ending) => Status::of_ending(&ending),
-        Err(Stop::Memory) => Status::Memory,
-        Err(Stop::NotPut) => Status::WriteFault,
-    }
+    one_input();
+    let end = serve_input(means, plan, source, sink, beyond);
+    Status::of_run(&end)
 }
 
 /// The same, up to the ending of the input. The text and the piles, which all

@@ -3,7 +3,6 @@
 ghost use Rattle.std.specs.Prelude.{◌≡◌, ◌≤◌, ◌<◌, ◌^◌, ◌+◌, ℕ, List, [], ◌∷◌, ◌++◌, All, length, None, IfOk, OnOk};
 ghost use Rattle.std.specs.List.{AllZip};
 ghost use Rattle.std.specs.Option.{ForSome};
-ghost use Rattle.edge_traits.specs.Edge.{Rose};
 ghost use Rattle.word_rows.specs.Shape.{AreBelow};
 ghost use Rattle.batch_runner.specs.Seats.{HasWorked};
 ghost use Rattle.batch_runner.specs.Totals.{IsTotalOf};
@@ -13,7 +12,7 @@ ghost use Rattle.command_line.specs.declared.plan.Plan.{Plan as APlan};
 ghost use Rattle.command_line.specs.Words.{IsInRange};
 ghost use Rattle.mode_parts.specs.Callings.{calling_of, calling_way, plain_calling};
 ghost use Rattle.serve_modes.specs.Headline.{IsTrial, LeavesTried, seed_of, trial_of};
-ghost use Rattle.mode_parts.specs.Statuses.{WritesFailed};
+ghost use Rattle.mode_parts.specs.Edges.{TellsWrites, sink_edge};
 ghost use Rattle.mode_parts.specs.Planned.{IsServiceOf};
 ghost use Rattle.serve_modes.specs.Trying.{CountWorker, HasOpenedTrial, HasTried, IsNoText, IsTrialOf, IsTrying};
 
@@ -229,11 +228,9 @@ pub fn try_plan<R: Threads + Sync, K: Sink, G: Gate + Sync>(
     requires batch { means.now.portions ≡ in_batches plan.now.batch }
     ensures leaves { plan.now.rows ≡ None → calling_of plan.now ≡ plain_calling →
         LeavesTried plan.now (K.put sink.old) (K.put sink.new) result }
-    ensures no_usage { result ≡ Status.Usage → ⊥ }
+    ensures writes { TellsWrites (sink_edge K.Sink sink.old) (sink_edge K.Sink sink.new) result }
     ensures no_read { result ≡ Status.ReadFault → ⊥ }
-    ensures write_fault { result ≡ Status.WriteFault → Rose (K.faults sink.old) (K.faults sink.new) }
-    ensures writes { WritesFailed result (K.failed sink.old) (K.failed sink.new) }
-    ensures counted { K.faults sink.old ≤ K.faults sink.new }
+    ensures no_usage { result ≡ Status.Usage → ⊥ }
 {
     match text_of(means, plan) {
         Ok(text) => match write_all(sink, text.bytes()) {

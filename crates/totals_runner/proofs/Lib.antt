@@ -12,3 +12,4 @@ mod BatchLemmas
 mod KeptLemmas
 mod JobLemmas
 mod OpenedLemmas
+pub mod DoesLemmas

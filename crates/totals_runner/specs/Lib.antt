@@ -9,3 +9,4 @@ pub mod Batch
 pub mod Told
 pub mod JobLaws
 pub mod Opened
+pub mod Does

@@ -9,6 +9,7 @@ mod frames;
 mod job;
 mod laws;
 mod lines;
+mod mode;
 mod running;
 mod seats;
 
@@ -16,4 +17,5 @@ pub use batch::Dealt;
 pub use counting::{Asked, Counting};
 pub use frames::Frames;
 pub use laws::counted_laws;
+pub use mode::count;
 pub use running::count_input;

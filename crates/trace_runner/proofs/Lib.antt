@@ -1,3 +1,2 @@
 pub mod TrialWords
-mod JudgedLemmas
-mod LoopLemmas
+mod DoesLemmas

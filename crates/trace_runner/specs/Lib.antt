@@ -1,5 +1,2 @@
-pub mod Judged
-pub mod Beyond
 pub mod Made
-pub mod Totalled
-pub mod Flowed
+pub mod Does

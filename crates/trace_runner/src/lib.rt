@@ -1,11 +1,8 @@
 //! The program behind its words: each mode by its own crate, and one call that does what the words ask for.
 #![tactic(auto)]
 
-mod checking;
-mod flows;
 mod making;
 mod running;
-mod totals;
 
 pub use capture_loop::{BATCH, MOST_BATCH, PACKET_LIMIT};
 pub use flows_runner::FLOW_LIMIT;

@@ -10,5 +10,5 @@ returns-clause-holds c =
     let shares = c.in_ok-empty_shares.field-0 in
     let long = sym (length-map shares.items (λ (own : Vec Call Global). own.items))
     ∙ ap (λ (xs : List (List Call)). length xs) c.in_ok-empty_shares.ensures
-    ∙ length-replicate c.args.seats [] in
-    holds_none _ 0 c.args.seats refl c.in_ok-empty_shares.ensures (omega (arith, long, shares.ok.0))
+    ∙ length-replicate c.args.asked.now.seats [] in
+    holds_none _ 0 c.args.asked.now.seats refl c.in_ok-empty_shares.ensures (omega (arith, long, shares.ok.0))

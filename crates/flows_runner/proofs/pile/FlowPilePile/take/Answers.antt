@@ -10,14 +10,20 @@ pub returns-clause-holds : goal.returns-clause-holds
 returns-clause-holds c = λ before packets holds at.
     let few : length packets + 1 ≤ 65536 = omega (arith, holds.count, c.requires.some.2.count, c.requires.some.4) in
     let Held : FlowPile → Type 0 =
-    (λ pile. HoldsShares (record { calling = pile.calling; packets = pile.packets + 1; shares = pile.shares }) before
+    (λ pile. HoldsShares (record {
+      calling = pile.calling;
+      classes = pile.classes;
+      packets = pile.packets + 1;
+      shares = pile.shares;
+    }) before
     (packets ++ c.args.packet.now ∷ [])) in
     elim c.match-call_in.branch [
       | in-Some+in_ok-deal w ↦ subst Held (sym w.self-is)
           (holds_more c.args.self.now _ before packets c.args.packet.now c.args.number (Some w.in-Some.call) holds at
-          few w.in-Some.ensures.made w.in-Some.ensures.fits.0 refl refl w.in_ok-deal.ensures.dealt)
+          few w.in-Some.ensures.made w.in-Some.ensures.fits.0 refl refl refl w.in_ok-deal.ensures.dealt)
       | in_default w ↦ subst Held (sym w.self-is)
           (holds_more c.args.self.now _ before packets c.args.packet.now c.args.number None holds at few
-          w.in_default.ensures.made tt refl refl
-          (λ calls are. are ∙ ap (shares_of (vec_len c.args.self.now.shares)) (sym (append-nil calls))))
+          w.in_default.ensures.made tt refl refl refl
+          (λ calls are. are ∙ ap (shares_of c.args.self.now.classes.rules (vec_len c.args.self.now.shares)) (sym
+          (append-nil calls))))
     ]
