@@ -1,0 +1,3 @@
+pub mod CallLists
+pub mod SeatUpdates
+pub mod Turns
