@@ -1,8 +1,7 @@
--- A bucket has no more generations behind it than there were updates: so with 10^12 calls none is spent.
-use Rattle.std.proofs.Common.{◌≡◌, ◌≢◌, ℕ, ◌+◌, ◌-◌, ◌^◌, ◌<◌, ◌≤◌, inl, inr, Bool, true, false, cond, List, [], ◌∷◌, ◌++◌, length, Option, Some, None, refl, sym, ap, ◌∙◌, subst, arith, lt-ltb, get_or-set_same, get_or-set_other, true≢false}
+-- A bucket has no more generations behind it than there were updates: so with 10^12 updates none is spent.
+use Rattle.std.proofs.Common.{◌≡◌, ◌≢◌, ℕ, ◌+◌, ◌-◌, ◌^◌, ◌<◌, ◌≤◌, inl, inr, Bool, true, false, cond, List, [], ◌∷◌, ◌++◌, Option, Some, None, refl, sym, ap, ◌∙◌, subst, arith, lt-ltb, get_or-set_same, get_or-set_other, true≢false}
 use Rattle.std.specs.Prelude.{◌==◌, nat_lt, fold}
 use Rattle.std.proofs.lemmas.Bool.{cases_lt, ne_eqb}
-use Rattle.std.proofs.lemmas.List.{length-append}
 use Rattle.std.proofs.lemmas.List.Elements.{All-weaker}
 use Rattle.std.proofs.Math.Nat.{pow-le-pow_right}
 use Rattle.plain_map.specs.declared.calls.Call.{Call}
@@ -10,31 +9,35 @@ use Rattle.plain_map.specs.declared.calls.Call.TheVariants.{Insert, Remove, Look
 use Rattle.plain_map.specs.declared.calls.Reply.{Reply}
 use Rattle.plain_map.specs.Calls.{key_in}
 use Rattle.exchange_model.specs.Plans.{Plan, IsPlan, holders_of, buckets_of, born_row}
-use Rattle.exchange_model.specs.Codes.{tag, generation_in, row_in, born_word, last_generation}
-use Rattle.exchange_model.specs.Laws.{FoundSpent, NoneIsSpent}
+use Rattle.exchange_model.specs.Codes.{tag, generation_in, row_in, born_word, last_generation, is_spent}
+use Rattle.exchange_model.specs.Laws.{FoundSpent, NoneIsSpent, all_answered}
 use Rattle.exchange_model.specs.Words as W
 use Rattle.exchange_model.specs.Words.{with_word}
 use Rattle.exchange_model.specs.Steps as S
 use Rattle.exchange_model.specs.Steps.{MadeBySeat, SeatNow, Step, Stand, Found, Try, Ending, Aim, OfKey, OfBucket, Glance, Course, deed_of, glance_deed, bucket_of_call, next_tag}
-use Rattle.exchange_model.specs.Goes.{scan_begins, Fate, On, Ends, Spends, Refuses, first_fate, is_announced, exchanged, lost, ends_with, ended, reply_for, fate, own_after, glance_fate, Called, Told, Replied, Spent, Refused}
-use Rattle.exchange_model.specs.Worlds.{World, Answer, Event, OfSeat, OfReader, IsEvent, AreEvents, What, Begin, Copy, Step_on, IsFlying, Fits, IsRun, seat_in, with_seat, ticked, found_by, store_after, stepped, seat_after, answers_after, with_answer, BySeat, goes, glances, look_after, look_answers, look_begins, update_begins, call_begins, goes_on, act, peeks_on, stand_at, course_from, happens, nobody, opening_world, opening_store, world_after, Peek, Open, Peek_on}
+use Rattle.exchange_model.specs.Goes.{ScanFate, ScansOn, Scanned, scanned, scan_fate_of, seats_from, scan_begins, Fate, On, Ends, Spends, Refuses, first_fate, is_announced, exchanged, lost, ends_with, ended, reply_for, fate, own_after, GlanceFate, Looks, Shows, Disturbed, glance_fate, Spent}
+use Rattle.exchange_model.specs.Worlds.{World, Answer, Event, OfSeat, OfReader, IsEvent, AreEvents, What, Begin, Copy, Step_on, IsFlying, Fits, IsRun, seat_in, with_seat, ticked, found_by, store_after, stepped, seat_after, answers_after, goes, glances, look_after, look_answers, look_begins, update_begins, call_begins, goes_on, act, peeks_on, stand_at, course_from, happens, nobody, opening_world, opening_store, world_after, Peek, Open, Peek_on}
 use Rattle.exchange_laws.proofs.Places.{either_put}
 use Rattle.exchange_laws.proofs.Words.{bucket_small, generation_of_tag, rows_few}
 use Rattle.exchange_laws.proofs.Owned.{Owned, Place}
 use Rattle.exchange_laws.proofs.OwnedSteps.{IsStill, quiet_words, quiet_step, quiet_glance}
 use Rattle.exchange_laws.proofs.OwnedMoves.{Moves, Stays, Stores, Exchanges}
 use Rattle.exchange_laws.proofs.OwnedEvents.{event_keeps}
-use Rattle.exchange_laws.proofs.OwnedRuns.{front_follows, opening_owned}
-use Rattle.exchange_laws.proofs.SeatSums.{sum_from, sum_changed, sum_same, sum_most}
-use Rattle.exchange_laws.proofs.AnswersGrow.{Grows, answers_grow, long_grows, fate_grows, look_grows, event_grows}
-use Rattle.exchange_laws.proofs.SpentBuckets.{spent_is_found}
+use Rattle.exchange_laws.proofs.OwnedRuns.{opening_owned}
+use Rattle.exchange_laws.proofs.SeatSums.{sum_from, sum_changed, sum_same, sum_more}
+use Rattle.exchange_laws.proofs.SpentBuckets.{spent_is_found, spent_stays}
 
 -- ---- what is said
 
+-- whether an announced op was applied
+abbrev pub was_applied : Ending → ℕ
+was_applied (S.Applied reply) = 1
+was_applied S.GivenUp = 0
+
 -- whether a seat that stands here may have exchanged a word for its call under way
 abbrev pub exchanged_at : Step → ℕ
-exchanged_at (S.Over ending) = 1
-exchanged_at (S.LowerPending ending) = 1
+exchanged_at (S.Over ending) = was_applied ending
+exchanged_at (S.LowerPending ending) = was_applied ending
 exchanged_at S.Stuck = 1
 exchanged_at step = 0
 
@@ -43,23 +46,27 @@ has_exchanged S.Idle = 0
 has_exchanged (S.Goes call step) = exchanged_at step
 has_exchanged (S.Glances aim glance) = 0
 
-module _ (plan : Plan) where
-  abbrev under_way : World → ℕ → ℕ
-  under_way x q = has_exchanged (seat_in x q).stand
+-- the updates that a seat was answered, and the one under way if it may have exchanged a word
+abbrev pub so_many : SeatNow → ℕ
+so_many now = now.answered + has_exchanged now.stand
 
-  -- so many exchanges have happened: no more than there are answers, and calls under way that have exchanged
+module _ (plan : Plan) where
+  abbrev of_seat : World → ℕ → ℕ
+  of_seat x q = so_many (seat_in x q)
+
+  -- so many exchanges have happened: no more than updates were answered, and calls under way have exchanged
   pub record Few (x : World) : Type 0 where
     pub many : ℕ
     pub low : (b : ℕ) → b < buckets_of plan.settings → generation_in plan (x.store.bucket b) ≤ 1 + many
-    pub sum : many ≤ length x.answers + sum_from (under_way x) 0 plan.settings.seats
+    pub sum : many ≤ sum_from (of_seat x) 0 plan.settings.seats
 
   -- ---- where a step leads, and how many exchanges it has made
 
   abbrev Leads : (was inc : ℕ) → Fate → Type 0
   Leads was inc (On step) = was + inc ≤ exchanged_at step
   Leads was inc (Ends reply) = was + inc ≤ 1
-  Leads was inc Spends = was + inc ≤ 1
-  Leads was inc Refuses = was + inc ≤ 1
+  Leads was inc Spends = was + inc ≤ 0
+  Leads was inc Refuses = was + inc ≤ 0
 
   none_leads : (f : Fate) → Leads 0 0 f
   none_leads (On step) = omega arith
@@ -73,34 +80,17 @@ module _ (plan : Plan) where
   ends_leads true (Some reply) = omega arith
   ends_leads false (Some reply) = omega arith
 
-  over_leads : (ending : Ending) → Leads 1 0 (ended ending)
+  over_leads : (ending : Ending) → Leads (was_applied ending) 0 (ended ending)
   over_leads (S.Applied reply) = omega arith
   over_leads S.GivenUp = omega arith
 
-  told_long : (x : World) (p : ℕ) (call : Call) (told : Told) (course : Course) →
-      length (with_answer x (BySeat p) (Called call) told course) ≡ length x.answers + 1
-  told_long x p call told course =
-      let a : Answer = record {
-        by = BySeat p;
-        asked = Called call;
-        told = told;
-        began = course.began;
-        ended = x.clock + 1;
-        steps = course.steps;
-      } in
-      length-append x.answers (a ∷ [])
-
-  -- one answer more where a call ends
-  answers_long : (x : World) (p : ℕ) (call : Call) (f : Fate) (was inc : ℕ) → Leads was inc f → (own : SeatNow) →
-      length x.answers + was + inc
-      ≤ length (answers_after x p call (stepped (seat_in x p).course) f) + has_exchanged (seat_after own call f).stand
-  answers_long x p call (On step) was inc k own = omega (arith, k)
-  answers_long x p call (Ends reply) was inc k own =
-      (let long = told_long x p call (Replied reply) (stepped (seat_in x p).course) in omega (arith, k, long))
-  answers_long x p call Spends was inc k own =
-      (let long = told_long x p call Spent (stepped (seat_in x p).course) in omega (arith, k, long))
-  answers_long x p call Refuses was inc k own =
-      (let long = told_long x p call Refused (stepped (seat_in x p).course) in omega (arith, k, long))
+  -- one update more is answered where a call ends that exchanged
+  counted : (call : Call) (f : Fate) (was inc : ℕ) → Leads was inc f → (own : SeatNow) →
+      own.answered + was + inc ≤ so_many (seat_after own call f)
+  counted call (On step) was inc k own = omega (arith, k)
+  counted call (Ends reply) was inc k own = omega (arith, k)
+  counted call Spends was inc k own = omega (arith, k)
+  counted call Refuses was inc k own = omega (arith, k)
 
   -- ---- an exchange is to the next generation
 
@@ -122,6 +112,46 @@ module _ (plan : Plan) where
         | inr z ↦ (let is_now = ap (generation_in plan) z.1 in omega (arith, same, is_now))
       ]
 
+  -- ---- a seat counts an update where it ends, and nowhere else
+
+  scanned_counts : (now : SeatNow) (f : ScanFate) → (scanned now f).answered ≡ now.answered
+  scanned_counts now (ScansOn scan) = refl
+  scanned_counts now (Scanned left held) = refl
+
+  first_counts : (p : ℕ) (free : List ℕ) (now : SeatNow) → (scan_begins plan p free now).answered ≡ now.answered
+  first_counts p [] now = scanned_counts (record now { kept = [] }) (seats_from plan p 0 now.kept [])
+  first_counts p (row ∷ free) now = refl
+
+  own_counts : (p : ℕ) (now : SeatNow) (call : Call) (step : Step) (w : ℕ) →
+      (own_after plan p now call step w).answered ≡ now.answered
+  own_counts p now call S.Scans w = scanned_counts now (scan_fate_of plan p now.scan w)
+  own_counts p now call (S.Exchange t found) w = go (w == t.word)
+    where
+      go : (c : Bool) → (cond c (exchanged now (row_in plan t.word)) now).answered ≡ now.answered
+      go true = refl
+      go false = refl
+  own_counts p now call (S.LoadWord turn) w = refl
+  own_counts p now call (S.LoadRow turn old words) w = refl
+  own_counts p now call (S.CheckWord turn old words) w = refl
+  own_counts p now call (S.LoadPending t) w = refl
+  own_counts p now call (S.LoadAnnounced t found) w = refl
+  own_counts p now call (S.LoadOp t found announced words) w = refl
+  own_counts p now call (S.StoreRow t found i) w = refl
+  own_counts p now call S.RaisePending w = refl
+  own_counts p now call (S.StoreOp i) w = refl
+  own_counts p now call S.Announce w = refl
+  own_counts p now call S.StoreWant w = refl
+  own_counts p now call S.StoreAsking w = refl
+  own_counts p now call S.HeldWord w = refl
+  own_counts p now call (S.TakeHold old) w = refl
+  own_counts p now call (S.HeldHead row) w = refl
+  own_counts p now call (S.HeldEntry row at left) w = refl
+  own_counts p now call (S.HeldReply row at) w = refl
+  own_counts p now call (S.GiveBack reply) w = refl
+  own_counts p now call (S.Over ending) w = refl
+  own_counts p now call (S.LowerPending ending) w = refl
+  own_counts p now call S.Stuck w = refl
+
   module _ (is_plan : IsPlan plan) (x : World) (h : Owned plan x) (c : Few x) (p : ℕ)
       (inside : p < holders_of plan.settings) where
     abbrev now : SeatNow
@@ -129,22 +159,21 @@ module _ (plan : Plan) where
 
     next : (store : W.Store) (then : SeatNow) (answers : List Answer) (updates : List MadeBySeat) (inc : ℕ) →
         ((b : ℕ) → generation_in plan (store.bucket b) ≤ generation_in plan (x.store.bucket b) + inc) →
-        length x.answers + has_exchanged now.stand + inc ≤ length answers + has_exchanged then.stand →
-        length x.answers ≤ length answers → (plan.settings.seats ≤ p → inc ≡ 0) →
+        so_many now + inc ≤ so_many then → (plan.settings.seats ≤ p → inc ≡ 0) →
         Few (ticked (with_seat x p store then answers updates))
-    next store then answers updates inc higher long grown past = record {
+    next store then answers updates inc higher more past = record {
       many = c.many + inc;
       low = λ b less. (let was = c.low b less in let up = higher b in omega (arith, was, up));
       sum = elim (cases_lt p plan.settings.seats) [
         | inl less ↦
-            let sums = sum_changed (under_way y) (under_way x) p 0 plan.settings.seats (omega arith)
-            (omega (arith, less)) (λ q n. ap (λ (k : SeatNow). has_exchanged k.stand) (other q n)) in
-            let own = ap (λ (k : SeatNow). has_exchanged k.stand) mine in
-            omega (arith, sums, own, long, c.sum)
+            let sums = sum_changed (of_seat y) (of_seat x) p 0 plan.settings.seats (omega arith)
+            (omega (arith, less)) (λ q n. ap so_many (other q n)) in
+            let own = ap so_many mine in
+            omega (arith, sums, own, more, c.sum)
         | inr late ↦
-            let same = sum_same (under_way y) (under_way x) 0 plan.settings.seats
-            (λ q low high. ap (λ (k : SeatNow). has_exchanged k.stand) (other q (λ e. omega (arith, e, high, late)))) in
-            let none = past late in omega (arith, same, none, grown, c.sum)
+            let same = sum_same (of_seat y) (of_seat x) 0 plan.settings.seats
+            (λ q low high. ap so_many (other q (λ e. omega (arith, e, high, late)))) in
+            let none = past late in omega (arith, same, none, c.sum)
       ];
     }
       where
@@ -168,10 +197,11 @@ module _ (plan : Plan) where
         let own = own_after plan p now call step w in
         let f = fate plan p now call step w in
         let at = ap has_exchanged stood in
-        let long = answers_long x p call f (exchanged_at step) 0 (leads w) own in
+        let counts = own_counts p now call step w in
+        let more = counted call f (exchanged_at step) 0 (leads w) own in
         next (store_after deed x.store) (seat_after own call f) (answers_after x p call (stepped now.course) f) _ 0
-        (λ b. (let e = ap (generation_in plan) (same b) in omega (arith, e))) (omega (arith, at, long))
-        (long_grows x.answers _ (fate_grows x p call (stepped now.course) f)) (λ _. refl)
+        (λ b. (let e = ap (generation_in plan) (same b) in omega (arith, e))) (omega (arith, at, counts, more))
+        (λ _. refl)
 
     quiet_bucket : (call : Call) (step : Step) → IsStill step → (b : ℕ) →
         (store_after (deed_of plan p now call step) x.store).bucket b ≡ x.store.bucket b
@@ -209,18 +239,16 @@ module _ (plan : Plan) where
         go true moves =
             let own = exchanged now (row_in plan t.word) in
             let leads = ends_leads (is_announced t.turn) (reply_for p (S.made plan t found).made) in
-            let long = answers_long x p call won 0 1 leads own in
+            let more = counted call won 0 1 leads own in
             next (with_word x.store (W.Bucket b) (next_tag plan now t.word)) (seat_after own call won)
             (answers_after x p call (stepped now.course) won) (x.made ++ (S.made plan t found).made) 1
-            (λ a. one_higher is_plan h.at x (after true) a moves) (omega (arith, at, long))
-            (long_grows x.answers _ (fate_grows x p call (stepped now.course) won))
+            (λ a. one_higher is_plan h.at x (after true) a moves) (omega (arith, at, more))
             (λ late. absurd (omega (arith, late, seat)))
         go false moves =
             let f = lost t.turn in
-            let long = answers_long x p call f 0 0 (none_leads f) now in
+            let more = counted call f 0 0 (none_leads f) now in
             next x.store (seat_after now call f) (answers_after x p call (stepped now.course) f) (x.made ++ []) 0
-            (λ a. omega arith) (omega (arith, at, long))
-            (long_grows x.answers _ (fate_grows x p call (stepped now.course) f)) (λ _. refl)
+            (λ a. omega arith) (omega (arith, at, more)) (λ _. refl)
 
     update_step : (call : Call) (step : Step) → p < plan.settings.seats → now.stand ≡ S.Goes call step →
         Moves plan h.at x (ticked (goes plan x p now call step)) → Few (ticked (goes plan x p now call step))
@@ -279,27 +307,32 @@ module _ (plan : Plan) where
         let deed = glance_deed plan p now.time aim glance in
         let f = glance_fate plan now.time aim glance (found_by deed x.store) in
         let at = ap has_exchanged stood in
-        let grown = long_grows x.answers _ (look_grows plan x p aim (stepped now.course) f) in
+        let counts = look_counts glance f in
         next (store_after deed x.store) (look_after now aim glance f) (look_answers plan x p aim (stepped now.course) f)
         x.made 0
         (λ b. (let same = ap (λ (g : ℕ → ℕ). generation_in plan (g b))
         (quiet_words deed x.store (quiet_glance plan p now.time aim glance)).0 in omega (arith, same)))
-        (omega (arith, at, grown)) grown (λ _. refl)
+        (omega (arith, at, counts)) (λ _. refl)
+      where
+        look_counts : (was : Glance) (f : GlanceFate) → so_many (look_after now aim was f) ≡ now.answered
+        look_counts was (Looks next) = omega arith
+        look_counts was (Shows items) = omega arith
+        look_counts was Disturbed = omega arith
 
     look_first : (aim : Aim) → now.stand ≡ S.Idle → Few (ticked (look_begins x p now aim))
     look_first aim stood =
         (let at = ap has_exchanged stood in
-        next x.store _ x.answers x.made 0 (λ b. omega arith) (omega (arith, at)) (omega arith) (λ _. refl))
+        next x.store _ x.answers x.made 0 (λ b. omega arith) (omega (arith, at)) (λ _. refl))
 
     update_first : (call : Call) → now.stand ≡ S.Idle → Few (ticked (update_begins plan x p now call))
     update_first call stood =
         let taken = scan_begins plan p now.free now in
         let f = first_fate taken.free taken.scan in
         let at = ap has_exchanged stood in
-        let grown = long_grows x.answers _ (fate_grows x p call (course_from x.clock) f) in
+        let counts = first_counts p now.free now in
         next x.store (record taken { stand = stand_at call f; course = course_from x.clock })
-        (answers_after x p call (course_from x.clock) f) x.made 0 (λ b. omega arith) (omega (arith, at, grown)) grown
-        (λ _. refl)
+        (answers_after x p call (course_from x.clock) f) x.made 0 (λ b. omega arith)
+        (omega (arith, at, counts)) (λ _. refl)
 
     call_first : (call : Call) → now.stand ≡ S.Idle → Few (ticked (call_begins plan x p now call))
     call_first (Lookup key) e = look_first (OfKey key) e
@@ -329,16 +362,11 @@ module _ (plan : Plan) where
     where
       go : (peek : Peek) → Few (happens plan x (OfReader r peek))
       go (Open aim tries) = record { many = c.many; low = c.low; sum = c.sum }
-      go Peek_on = by_stand (x.readers r).stand (event_grows plan x (OfReader r Peek_on))
+      go Peek_on = by_stand (x.readers r).stand
         where
-          by_stand : (stand : S.Peeking) → Grows x.answers (peeks_on plan x r (x.readers r) stand).answers →
-              Few (ticked (peeks_on plan x r (x.readers r) stand))
-          by_stand S.Rests g = record { many = c.many; low = c.low; sum = c.sum }
-          by_stand (S.Peeks aim glance) g = record {
-            many = c.many;
-            low = c.low;
-            sum = (let long = long_grows x.answers _ g in omega (arith, long, c.sum));
-          }
+          by_stand : (stand : S.Peeking) → Few (ticked (peeks_on plan x r (x.readers r) stand))
+          by_stand S.Rests = record { many = c.many; low = c.low; sum = c.sum }
+          by_stand (S.Peeks aim glance) = record { many = c.many; low = c.low; sum = c.sum }
 
   pub few_keep : (is_plan : IsPlan plan) (x : World) (h : Owned plan x) → Few x → (event : Event) →
       IsEvent plan x event → Moves plan h.at x (happens plan x event) → Few (happens plan x event)
@@ -374,12 +402,16 @@ module _ (plan : Plan) where
       few_follow is events (happens plan x event) k.owned (few_keep is x h c event follow.0 k.moves) follow.1
 
   -- a seat has one call under way at most
-  one_at_most : (x : World) (q : ℕ) → under_way x q ≤ 1
-  one_at_most x q = go (seat_in x q).stand
+  one_at_most : (stand : Stand) → has_exchanged stand ≤ 1
+  one_at_most stand = go stand
     where
+      by_ending : (ending : Ending) → was_applied ending ≤ 1
+      by_ending (S.Applied reply) = omega arith
+      by_ending S.GivenUp = omega arith
+
       by_step : (step : Step) → exchanged_at step ≤ 1
-      by_step (S.Over ending) = omega arith
-      by_step (S.LowerPending ending) = omega arith
+      by_step (S.Over ending) = by_ending ending
+      by_step (S.LowerPending ending) = by_ending ending
       by_step S.Stuck = omega arith
       by_step S.Scans = omega arith
       by_step (S.LoadWord turn) = omega arith
@@ -407,16 +439,17 @@ module _ (plan : Plan) where
       go (S.Goes call step) = by_step step
       go (S.Glances aim glance) = omega arith
 
--- a bucket's generation is no more than the answers, one for each seat, and one
+-- a bucket's generation is no more than the updates that were answered, one for each seat, and one
 pub generations_few : (plan : Plan) (events : List Event) (b : ℕ) → IsRun plan events → b < buckets_of plan.settings →
     generation_in plan ((world_after plan events).store.bucket b)
-    ≤ 1 + length (world_after plan events).answers + plan.settings.seats
+    ≤ 1 + all_answered plan (world_after plan events) + plan.settings.seats
 generations_few plan events b run less =
     let x = world_after plan events in
     let c = few_follow plan run.opened events (opening_world plan) (opening_owned plan run.opened)
     (few_first plan run.opened) run.follow in
     let low = c.low b less in
-    let most = sum_most (under_way plan x) 0 plan.settings.seats (one_at_most plan x) in
+    let most = sum_more (of_seat plan x) (λ q. (seat_in x q).answered) 0 plan.settings.seats
+    (λ q. (let one = one_at_most plan (seat_in x q).stand in omega (arith, one))) in
     omega (arith, low, c.sum, most)
 
 -- there are so many generations at least
@@ -426,7 +459,18 @@ last_high plan is =
     let high : 2 ^ 43 ≤ 2 ^ (64 - plan.row_bits) = pow-le-pow_right {n = 2} (omega arith) bits in
     omega (arith, high)
 
--- THE RESULT: with 10^12 calls no bucket is spent
+-- with 10^12 updates no bucket is spent
+pub none_spent : (plan : Plan) (events : List Event) (b : ℕ) → IsRun plan events →
+    all_answered plan (world_after plan events) ≤ 10 ^ 12 → b < buckets_of plan.settings →
+    is_spent plan ((world_after plan events).store.bucket b) ≡ false
+none_spent plan events b run few less =
+    let low = generations_few plan events b run less in
+    let high = last_high plan run.opened in
+    let seats = run.opened.seats in
+    ne_eqb (generation_in plan ((world_after plan events).store.bucket b)) (last_generation plan)
+    (λ e. omega (arith, e, low, few, high, seats))
+
+-- THE RESULT: so none is told that its bucket is. A bucket that was spent once would be so still
 pub none_is_spent : NoneIsSpent
 none_is_spent plan events run few =
     All-weaker (λ (a : Answer). a.told ≡ Spent → FoundSpent plan events a) (λ (a : Answer). a.told ≢ Spent)
@@ -434,19 +478,10 @@ none_is_spent plan events run few =
   where
     not_spent : (a : Answer) → FoundSpent plan events a → ⊥
     not_spent a f =
-        let run_front : IsRun plan f.front = record {
-          opened = run.opened;
-          follow = front_follows plan f.front f.back (opening_world plan)
-              (subst (AreEvents plan (opening_world plan)) f.cut run.follow);
-        } in
         let b = bucket_of_call plan f.call in
-        let low = generations_few plan f.front b run_front (bucket_small plan run.opened (key_in f.call)) in
-        let cut = ap (λ (es : List Event). length (world_after plan es).answers) f.cut in
-        let grown = long_grows (world_after plan f.front).answers (world_after plan (f.front ++ f.back)).answers
-        (answers_grow plan f.front f.back) in
-        let high = last_high plan run.opened in
-        let seats = run.opened.seats in
-        let g = generation_in plan ((world_after plan f.front).store.bucket b) in
-        let other : (g == last_generation plan) ≡ false =
-        ne_eqb g (last_generation plan) (λ e. omega (arith, e, low, cut, grown, few, high, seats)) in
-        true≢false (sym f.spent ∙ other)
+        let less = bucket_small plan run.opened (key_in f.call) in
+        let stays : (world_after plan events).store.bucket b ≡ (world_after plan f.front).store.bucket b =
+        subst (λ (es : List Event). (world_after plan es).store.bucket b ≡ (world_after plan f.front).store.bucket b)
+        (sym f.cut)
+        (spent_stays plan f.front f.back b (subst (IsRun plan) f.cut run) less f.spent) in
+        true≢false (sym f.spent ∙ ap (is_spent plan) (sym stays) ∙ none_spent plan events b run few less)

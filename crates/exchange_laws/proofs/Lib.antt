@@ -64,7 +64,6 @@ pub mod HeldSeats
 pub mod GoingOn
 pub mod StepCounts
 pub mod Bounded
-pub mod AnswersGrow
 pub mod Generations
 pub mod PastCalls
 pub mod SpentTold

@@ -12,6 +12,17 @@ sum_from f seat many = sum_by f (range_with_len seat many)
 one_more : (f : ℕ → ℕ) (seat many : ℕ) → sum_from f seat (suc many) ≡ f seat + sum_from f (seat + 1) many
 one_more f seat many = sum_by-cons f seat (range_with_len (seat + 1) many)
 
+-- a sum of which each term is one more at most
+pub sum_more : (f g : ℕ → ℕ) (seat many : ℕ) → ((q : ℕ) → f q ≤ g q + 1) →
+    sum_from f seat many ≤ sum_from g seat many + many
+sum_more f g seat zero more = omega arith
+sum_more f g seat (suc many) more =
+    let a = one_more f seat many in
+    let b = one_more g seat many in
+    let here = more seat in
+    let rest = sum_more f g (seat + 1) many more in
+    omega (arith, a, b, here, rest)
+
 -- with the same terms it is the same
 pub sum_same : (f g : ℕ → ℕ) (seat many : ℕ) → ((q : ℕ) → seat ≤ q → q < seat + many → f q ≡ g q) →
     sum_from f seat many ≡ sum_from g seat many

@@ -97,7 +97,7 @@ pub fn progress_laws()
 
 /// In every run a bucket that has its last generation stays as it is. Who is told that its bucket is spent has
 /// found it so at one moment of the call. Each update that begins there later is told so, unless it changes
-/// nothing: then it is told its reply. With 10^12 calls no bucket is spent.
+/// nothing: then it is told its reply. With 10^12 updates no bucket is spent.
 pub fn spent_laws()
     ensures found { SpentIsFound }
     ensures told { SpentIsTold }

@@ -268,10 +268,14 @@ SpentIsTold =
     IsToldSpent plan (pairs_in plan (world_after plan front) (bucket_of_call plan call)) call a.told)
     (world_after plan (front ++ back)).answers
 
--- with 10^12 calls none is, whatever the depth
+-- how many updates all seats were answered
+abbrev pub all_answered : Plan → World → ℕ
+all_answered plan world = sum_by (λ seat. (seat_in world seat).answered) (range_with_len 0 plan.settings.seats)
+
+-- with 10^12 updates none is, whatever the depth, and however many lookups and copies there were
 abbrev pub NoneIsSpent : Type 0
 NoneIsSpent =
-    (plan : Plan) (events : List Event) → IsRun plan events → length (world_after plan events).answers ≤ 10 ^ 12 →
+    (plan : Plan) (events : List Event) → IsRun plan events → all_answered plan (world_after plan events) ≤ 10 ^ 12 →
     All (λ (a : Answer). a.told ≢ Spent) (world_after plan events).answers
 
 -- ---- held rows, and what was loaded
