@@ -65,6 +65,8 @@ pub mod GoingOn
 pub mod StepCounts
 pub mod Bounded
 pub mod Generations
+pub mod AnswersGrow
+pub mod PostedCounts
 pub mod PastCalls
 pub mod SpentTold
 pub mod PendingRuns

@@ -29,6 +29,14 @@ AskingsAreCounted =
     ((seat_in world seat).time ≤ length (answers_by seat world.answers))
     × ((seat_in world seat).answered ≡ length (updates_by seat world.answers)))
 
+-- and announces at most once in a call
+abbrev pub AnnouncementsAreCounted : Type 0
+AnnouncementsAreCounted =
+    (plan : Plan) (events : List Event) (seat : ℕ) → IsRun plan events → seat < holders_of plan.settings →
+    (seat_in (world_after plan events) seat).stand ≡ Idle →
+    (seat_in (world_after plan events) seat).posted
+    ≤ length (answers_by seat (world_after plan events).answers)
+
 -- answers are never taken back: later ones come behind them
 abbrev pub AnswersStay : Type 0
 AnswersStay =

@@ -30,6 +30,7 @@ ghost use Rattle.exchange_model.specs.Laws.{
 ghost use Rattle.exchange_laws.specs.Fits.{RowsAreKept, RowsAreOfBuckets};
 ghost use Rattle.exchange_laws.specs.OneByOne.{LooksAreInTurn};
 ghost use Rattle.exchange_laws.specs.Orders.{
+  AnnouncementsAreCounted,
   AnswersStay,
   AskingsAreCounted,
   CopiesAreOfRests,
@@ -126,11 +127,12 @@ pub fn word_laws()
     ensures small { WordsAreSmall }
 {}
 
-/// In every run answers stay. A seat, or a reader that can hold, asks at most once in a call, and has counted its
-/// answered updates. The first answer that a seat gets after it had an update under way is to that one.
+/// In every run answers stay. A seat, or a reader that can hold, asks and announces at most once in a call, and has
+/// counted its answered updates. The first answer that a seat gets after it had an update under way is to that one.
 pub fn call_laws()
     ensures answers_stay { AnswersStay }
     ensures counted { AskingsAreCounted }
+    ensures announced { AnnouncementsAreCounted }
     ensures answered_first { InFlightIsAnswered }
 {}
 
