@@ -133,7 +133,8 @@ module _ (plan : Plan) (p : ℕ) where
   step_leads now call (S.CheckWord turn old words) w = none_leads (fate plan p now call (S.CheckWord turn old words) w)
   step_leads now call (S.LoadPending t) w = none_leads (fate plan p now call (S.LoadPending t) w)
   step_leads now call (S.LoadAnnounced t found) w = none_leads (fate plan p now call (S.LoadAnnounced t found) w)
-  step_leads now call (S.LoadOp t found announced words) w = none_leads (fate plan p now call (S.LoadOp t found announced words) w)
+  step_leads now call (S.LoadOp t found announced words) w =
+      none_leads (fate plan p now call (S.LoadOp t found announced words) w)
   step_leads now call (S.StoreRow t found i) w = none_leads (fate plan p now call (S.StoreRow t found i) w)
   step_leads now call (S.Exchange t found) w = none_leads (fate plan p now call (S.Exchange t found) w)
   step_leads now call S.RaisePending w = none_leads (fate plan p now call S.RaisePending w)
