@@ -17,3 +17,7 @@ mod TryLemmas
 mod PutLemmas
 mod AttemptLemmas
 mod AnnounceLemmas
+mod UpdateLemmas
+mod ScanLemmas
+mod OpeningLemmas
+mod BeginLemmas

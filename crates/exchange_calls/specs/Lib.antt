@@ -12,3 +12,5 @@ pub mod Attempts
 pub mod Announces
 pub mod OwnRowsView
 pub mod Writes
+pub mod Seats
+pub mod Scans

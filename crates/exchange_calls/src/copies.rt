@@ -55,7 +55,7 @@ fn copy_held<S: Steps>(
     requires phase { (S.now steps.old).now.stand ≡ Glances (OfBucket bucket) GlanceWant }
     requires desk { IsOf (S.now steps.old) desk.now }
     requires time { time.old ≡ (S.now steps.old).now.time }
-    requires late { time.old < 2 ^ 57 }
+    requires late { time.old < 2 ^ 62 }
     requires few { bucket < 2 ^ 32 }
     requires room { desk.now.sizes.items ≤ length out.old }
     ensures shown { S.now steps.new ≡
@@ -82,7 +82,7 @@ pub fn copy<S: Steps>(
     requires seat { (S.now steps.old).holds ≡ true }
     requires desk { IsOf (S.now steps.old) desk.now }
     requires time { time.old ≡ (S.now steps.old).now.time }
-    requires late { time.old < 2 ^ 57 }
+    requires late { time.old < 2 ^ 62 }
     requires bucket { bucket < 2 ^ desk.now.sizes.depth }
     requires room { desk.now.sizes.items ≤ length out.old }
     requires may { S.may steps.old (Copied bucket) LOOK_TRIES }

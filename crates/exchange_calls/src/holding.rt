@@ -19,7 +19,7 @@ pub fn hold<S: Steps>(steps: &mut S, desk: &Desk, time: &mut u64, bucket: u64) -
     requires wanting { IsWanting (S.now steps.old) bucket }
     requires desk { IsOf (S.now steps.old) desk.now }
     requires time { time.old ≡ (S.now steps.old).now.time }
-    requires few { time.old < 2 ^ 57 }
+    requires few { time.old < 2 ^ 62 }
     requires bucket { bucket < 2 ^ 32 }
     ensures goes { (holder : Holder) → (S.now steps.old).now.stand ≡ wants holder →
         S.now steps.new ≡ on (asked_again (S.now steps.old)) (holds_row holder result) }

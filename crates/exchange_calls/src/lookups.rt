@@ -80,7 +80,7 @@ fn find_held<S: Steps>(
     requires phase { (S.now steps.old).now.stand ≡ Glances (OfKey key.now) GlanceWant }
     requires desk { IsOf (S.now steps.old) desk.now }
     requires time { time.old ≡ (S.now steps.old).now.time }
-    requires late { time.old < 2 ^ 57 }
+    requires late { time.old < 2 ^ 62 }
     requires bucket { bucket ≡ class_of desk.now.rules key.now }
     requires few { bucket < 2 ^ 32 }
     ensures shown { HasShown (asked_again (S.now steps.old)) (S.now steps.new) key.now result }
@@ -102,7 +102,7 @@ pub fn lookup<S: Steps>(steps: &mut S, desk: &Desk, time: &mut u64, key: &Key) -
     requires seat { (S.now steps.old).holds ≡ true }
     requires desk { IsOf (S.now steps.old) desk.now }
     requires time { time.old ≡ (S.now steps.old).now.time }
-    requires few { time.old < 2 ^ 57 }
+    requires few { time.old < 2 ^ 62 }
     requires may { S.may steps.old (Called (Lookup key.now)) LOOK_TRIES }
     ensures told { S.now steps.new ≡ ended (S.now steps.old) time.new (Replied result) }
 {

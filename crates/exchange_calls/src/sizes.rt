@@ -21,6 +21,6 @@ pub struct TableSizes {
     pub ghost few_readers: { readers ≤ 64 },
     pub ghost few_items: { items ≤ 16 },
     pub ghost low: { depth ≤ 20 },
-    pub ghost few_spare: { spare ≤ 128 },
+    pub ghost few_spare: { spare ≤ 256 },
     pub ghost few_bits: { row_bits ≤ 21 },
 }
