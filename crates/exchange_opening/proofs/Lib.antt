@@ -1,0 +1,3 @@
+pub mod OpeningWords
+pub mod Chains
+pub mod FirstPairs

@@ -1,0 +1,6 @@
+use Rattle.std.proofs.Common.{◌^◌, ◌≤◌, arith}
+use Rattle.std.proofs.Math.Pow.{pow_mono}
+use Rattle.exchange_opening.proofs.options.buckets_of.Goals as goal
+
+pub returns-clause-few : goal.returns-clause-few
+returns-clause-few c = let few : 2 ^ c.args.depth ≤ 2 ^ 20 = pow_mono c.requires in omega (arith, few)
