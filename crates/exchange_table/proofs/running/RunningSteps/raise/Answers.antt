@@ -1,0 +1,28 @@
+use Rattle.std.proofs.Common.{arith}
+use Rattle.exchange_calls.specs.Going.Task.{Raise}
+use Rattle.exchange_table.proofs.OnTheWay.{fits_then, goes_then, raise_ready, still}
+use Rattle.exchange_table.proofs.running.RunningSteps.raise.Goals as goal
+
+pub fetch_add-found-requires : goal.fetch_add-found-requires
+fetch_add-found-requires g c = raise_ready g.B.Asked.asked g.B.Asked.tries g.B.Asked.since c.self.inside.words.now.key
+    c.self.inside.words.now.table_id c.self.inside.token c.self.inside.stage c.self.invariant _ c.self.view_is _ _
+    c.args.at c.requires.asked
+
+pub invariant_of-self : goal.invariant_of-self
+invariant_of-self g c = still g.B.Asked.asked g.B.Asked.tries g.B.Asked.since c.self.inside.words.now.key
+    c.self.inside.words.now.table_id c.self.inside.token c.self.inside.stage c.self.invariant _ c.self.view_is
+    (Raise c.args.at) c.requires.asked (omega arith) c.fetch_add-found.new.seat c.fetch_add-found.result
+    c.fetch_add-found.ensures.2
+    c.fetch_add-found.ensures.0
+
+pub returns-clause-goes : goal.returns-clause-goes
+returns-clause-goes g c = goes_then g.B.Asked.asked g.B.Asked.tries g.B.Asked.since c.self.inside.words.now.key
+    c.self.inside.words.now.table_id c.self.inside.token c.self.inside.stage c.self.invariant _ c.self.view_is
+    (Raise c.args.at) c.requires.asked (omega arith) c.fetch_add-found.new.seat c.fetch_add-found.result
+    c.fetch_add-found.ensures.2
+
+pub returns-clause-fits : goal.returns-clause-fits
+returns-clause-fits g c = fits_then g.B.Asked.asked g.B.Asked.tries g.B.Asked.since c.self.inside.words.now.key
+    c.self.inside.words.now.table_id c.self.inside.token c.self.inside.stage c.self.invariant _ c.self.view_is
+    (Raise c.args.at) c.requires.asked (omega arith) c.fetch_add-found.new.seat c.fetch_add-found.result
+    c.fetch_add-found.ensures.2

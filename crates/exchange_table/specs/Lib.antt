@@ -1,0 +1,9 @@
+pub mod Parties
+pub mod Rule
+pub mod Readiness
+pub mod Calls
+pub mod Joins
+pub mod Values
+pub mod Meetings
+pub mod Tables
+pub mod Rests
