@@ -1,0 +1,9 @@
+pub mod PlacedLemmas
+pub mod CallLemmas
+pub mod MeetLemmas
+pub mod SoonestLemmas
+pub mod OpenLemmas
+pub mod PassLemmas
+pub mod RunLemmas
+pub mod ApartLemmas
+pub mod EndLemmas

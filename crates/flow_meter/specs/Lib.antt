@@ -1,0 +1,9 @@
+pub mod Models
+pub mod Clocks
+pub mod Records
+pub mod Held
+pub mod Parts
+pub mod Passes
+pub mod Runs
+pub mod Ends
+pub mod Orders
