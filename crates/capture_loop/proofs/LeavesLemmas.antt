@@ -1,6 +1,7 @@
 -- What was put makes what a run leaves.
-use Rattle.std.proofs.Common.{◌≡◌, ◌<◌, ◌≤◌, ◌⊎◌, ◌+◌, ℕ, List, [], ◌∷◌, ◌++◌, length, Option, Some, None, Ok, Err, inl, inr, refl, sym, ap, subst, ◌∙◌, append_assoc, append-nil, length-append, arith}
+use Rattle.std.proofs.Common.{◌≡◌, ◌<◌, ◌≤◌, ◌⊎◌, ◌+◌, Bool, true, false, ℕ, List, [], ◌∷◌, ◌++◌, length, Option, Some, None, Result, Ok, Err, inl, inr, refl, sym, ap, subst, ◌∙◌, append_assoc, append-nil, length-append, arith}
 use Rattle.std.specs.List.{flat_map, AllByRecursion}
+use Rattle.std.proofs.lemmas.Bool.{cases_lt}
 use Rattle.std.specs.Io.KnownBytes.{Appends, Keeps}
 use Rattle.std.proofs.KnownBytes.{Appends-trans, Appends-nil, Consumes-nil}
 use Rattle.edge_traits.specs.Edge.{AppendsFront}
@@ -10,10 +11,10 @@ use Rattle.capture_faults.specs.declared.ending.Ending.{Ending}
 use Rattle.capture_loop.specs.declared.portions.Portions.{Portions}
 use Rattle.capture_loop.specs.declared.stop.Stop.{Stop}
 use Rattle.capture_loop.specs.declared.stop.Stop.TheVariants.{Memory, NotPut}
-use Rattle.capture_loop.specs.Input.{BeginsUpTo, IsFirstUpTo}
+use Rattle.capture_loop.specs.Input.{BeginsUpTo, IsFirstUpTo, in_batches}
 use Rattle.capture_loop.specs.Reading.{HaveCome, HaveEnded}
-use Rattle.capture_loop.specs.Batches.{AreBatchesBy, AreCut, AreWholeBy, cut_of}
-use Rattle.capture_loop.specs.Leaves.{IsMet, LoopLeavesBy, Lines, Reports}
+use Rattle.capture_loop.specs.Batches.{AreBatchesBy, AreCut, AreWholeBy, IsCutAt, cut_of, fits_in}
+use Rattle.capture_loop.specs.Leaves.{Accounts, IsMet, LeavesBy, LeavesText, LoopLeavesBy, Lines, Reports, Tellings, TookFor}
 use Rattle.capture_loop.specs.Looping.{HasPut, HaveFirst, OnMemory, OnNotPut}
 use Rattle.capture_loop.proofs.ReadingLemmas.{taken_by, told_by}
 use Rattle.capture_loop.proofs.ServingLemmas.{begins_read, first_read}
@@ -78,34 +79,62 @@ parts_more [] x = append-nil x
 parts_more (y ∷ xs) x =
     ap (λ (ps : List (List ℕ)). y ++ ps) (parts_more xs x) ∙ sym (append_assoc y (flat_map (λ batch. batch) xs) x)
 
-module _ (cut : ℕ → ℕ) where
+-- a batch that may be cut has no more packets than there is room for
+fits_few : (eager : Bool) (room packets : ℕ) → fits_in eager room packets → packets ≤ room
+fits_few false room packets is = omega (arith, is)
+fits_few true room packets is = is.1
+
+-- and has some, where there is room
+pub fits_some : (eager : Bool) (room packets : ℕ) → 0 < room → fits_in eager room packets → 0 < packets
+fits_some false room packets some is = omega (arith, some, is)
+fits_some true room packets some is = is.0
+
+-- so many that may not be cut are not those that may
+pub fits_more : (eager : Bool) (room old new : ℕ) → old ≤ new → fits_in eager room new →
+    (fits_in eager room old → ⊥) → old < new
+fits_more false room old new grows is cannot = elim (cases_lt old new) [
+  | inl less ↦ less
+  | inr not ↦ absurd (cannot (omega (arith, is, not, grows)))
+]
+fits_more true room old new grows is cannot = elim (cases_lt old new) [
+  | inl less ↦ less
+  | inr not ↦ absurd (cannot (omega (arith, is.0, not, grows), omega (arith, is.1, grows)))
+]
+
+module _ (portions : Portions) where
+  pub cut_few : (before packets : ℕ) → IsCutAt portions before packets → packets ≤ cut_of portions before
+  cut_few before packets is = fits_few portions.eager (cut_of portions before) packets is
+
   -- one batch more behind those that are cut
-  AreCut-more : (before : ℕ) (xs : List (List (List ℕ))) (x : List (List ℕ)) → AreCut cut before xs →
-      length x ≡ cut (before + length (flat_map (λ batch. batch) xs)) → AreCut cut before (xs ++ x ∷ [])
-  AreCut-more before [] x all one = (subst (λ (n : ℕ). length x ≡ cut n) (omega arith) one, tt)
+  AreCut-more : (before : ℕ) (xs : List (List (List ℕ))) (x : List (List ℕ)) → AreCut portions before xs →
+      IsCutAt portions (before + length (flat_map (λ batch. batch) xs)) (length x) →
+      AreCut portions before (xs ++ x ∷ [])
+  AreCut-more before [] x all one =
+      (subst (λ (n : ℕ). IsCutAt portions n (length x)) (omega arith) one, tt)
   AreCut-more before (y ∷ xs) x all one =
       let sum = length-append y (flat_map (λ (batch : List (List ℕ)). batch) xs) in (
         all.0,
         AreCut-more (before + length y) xs x all.1
-            (subst (λ (n : ℕ). length x ≡ cut n) (omega (arith, sum)) one),
+            (subst (λ (n : ℕ). IsCutAt portions n (length x)) (omega (arith, sum)) one),
       )
 
-  pub AreWhole-none : AreWholeBy cut [] []
+  pub AreWhole-none : AreWholeBy portions [] []
   AreWhole-none = record { parts = refl; each = tt }
 
-  pub AreWhole-more : (all more : List (List ℕ)) (batches : List (List (List ℕ))) → AreWholeBy cut all batches →
-      length more ≡ cut (length all) → AreWholeBy cut (all ++ more) (batches ++ more ∷ [])
+  pub AreWhole-more : (all more : List (List ℕ)) (batches : List (List (List ℕ))) →
+      AreWholeBy portions all batches → IsCutAt portions (length all) (length more) →
+      AreWholeBy portions (all ++ more) (batches ++ more ∷ [])
   AreWhole-more all more batches whole long =
       record {
         parts = parts_more batches more ∙ ap (λ (ps : List (List ℕ)). ps ++ more) whole.parts;
         each = AreCut-more 0 batches more whole.each
-            (subst (λ (n : ℕ). length more ≡ cut n) (omega (arith, ap length whole.parts)) long);
+            (subst (λ (n : ℕ). IsCutAt portions n (length more)) (omega (arith, ap length whole.parts)) long);
       }
 
   -- a last batch is begun, which may have fewer packets
-  pub AreBatches-last : (all last : List (List ℕ)) (batches : List (List (List ℕ))) → AreWholeBy cut all batches →
-      length last ≤ cut (length all) → (last ≡ [] → batches ≡ []) →
-      AreBatchesBy cut (all ++ last) (batches ++ last ∷ [])
+  pub AreBatches-last : (all last : List (List ℕ)) (batches : List (List (List ℕ))) →
+      AreWholeBy portions all batches → length last ≤ cut_of portions (length all) → (last ≡ [] → batches ≡ []) →
+      AreBatchesBy portions (all ++ last) (batches ++ last ∷ [])
   AreBatches-last all last batches whole few begun =
       record {
         front = batches;
@@ -113,17 +142,18 @@ module _ (cut : ℕ → ℕ) where
         parts = refl;
         all = parts_more batches last ∙ ap (λ (ps : List (List ℕ)). ps ++ last) whole.parts;
         whole = whole.each;
-        few = subst (λ (n : ℕ). length last ≤ cut n) (sym (ap length whole.parts)) few;
+        few = subst (λ (n : ℕ). length last ≤ cut_of portions n) (sym (ap length whole.parts)) few;
         begun = begun;
       }
 
   -- or all batches are whole, and there are some
   last_of : (before : ℕ) (batch : List (List ℕ)) (batches : List (List (List ℕ))) →
-      AreCut cut before (batch ∷ batches) →
+      AreCut portions before (batch ∷ batches) →
       (front : List (List (List ℕ))) × (last : List (List ℕ)) × (batch ∷ batches ≡ front ++ last ∷ [])
-      × AreCut cut before front × (length last ≡ cut (before + length (flat_map (λ batch. batch) front)))
+      × AreCut portions before front
+      × IsCutAt portions (before + length (flat_map (λ batch. batch) front)) (length last)
   last_of before batch [] all =
-      ([], batch, refl, tt, subst (λ (n : ℕ). length batch ≡ cut n) (omega arith) all.0)
+      ([], batch, refl, tt, subst (λ (n : ℕ). IsCutAt portions n (length batch)) (omega arith) all.0)
   last_of before batch (next ∷ batches) all =
       let rest = last_of (before + length batch) next batches all.1 in
       let sum = length-append batch (flat_map (λ (b : List (List ℕ)). b) rest.0) in (
@@ -131,30 +161,30 @@ module _ (cut : ℕ → ℕ) where
         rest.1,
         ap (λ (bs : List (List (List ℕ))). batch ∷ bs) rest.2,
         (all.0, rest.3),
-        subst (λ (n : ℕ). length rest.1 ≡ cut n) (omega (arith, sum)) rest.4,
+        subst (λ (n : ℕ). IsCutAt portions n (length rest.1)) (omega (arith, sum)) rest.4,
       )
 
-  long_not_none : (last : List (List ℕ)) (size : ℕ) → 0 < size → length last ≡ size → last ≡ [] → ⊥
-  long_not_none [] size some long none = omega (arith, some, long)
-  long_not_none (p ∷ last) size some long none = cc
+  some_not_none : (last : List (List ℕ)) → 0 < length last → last ≡ [] → ⊥
+  some_not_none [] some none = omega (arith, some)
+  some_not_none (p ∷ last) some none = cc
 
-  pub AreBatches-whole : (all : List (List ℕ)) (batches : List (List (List ℕ))) → AreWholeBy cut all batches →
-      ((before : ℕ) → 0 < cut before) → (length all ≡ 0) ⊎ AreBatchesBy cut all batches
+  pub AreBatches-whole : (all : List (List ℕ)) (batches : List (List (List ℕ))) → AreWholeBy portions all batches →
+      ((before : ℕ) → 0 < cut_of portions before) → (length all ≡ 0) ⊎ AreBatchesBy portions all batches
   AreBatches-whole all [] whole some = inl (ap length (sym whole.parts))
   AreBatches-whole all (batch ∷ batches) whole some =
       let last = last_of 0 batch batches whole.each in
-      let at : 0 + length (flat_map (λ (b : List (List ℕ)). b) last.0)
-      ≡ length (flat_map (λ (b : List (List ℕ)). b) last.0) = omega arith in
-      let few : length last.1 ≤ cut (0 + length (flat_map (λ (b : List (List ℕ)). b) last.0)) =
-      omega (arith, last.4) in
+      let begins : ℕ = length (flat_map (λ (b : List (List ℕ)). b) last.0) in
+      let here : IsCutAt portions begins (length last.1) =
+      subst (λ (n : ℕ). IsCutAt portions n (length last.1)) (omega arith) last.4 in
       inr (record {
         front = last.0;
         last = last.1;
         parts = last.2;
         all = whole.parts;
         whole = last.3;
-        few = subst (λ (n : ℕ). length last.1 ≤ cut n) at few;
-        begun = λ none. absurd (long_not_none last.1 _ (some _) last.4 none);
+        few = cut_few begins (length last.1) here;
+        begun = λ none. absurd (some_not_none last.1
+            (fits_some portions.eager (cut_of portions begins) (length last.1) (some begins) here) none);
       })
 
 -- a batch of so many
@@ -162,7 +192,7 @@ abbrev pub IsWhole : (size : ℕ) → List (List ℕ) → Type 0
 IsWhole size batch = length batch ≡ size
 
 -- batches that are cut all alike
-pub AreCut-alike : (size before : ℕ) (batches : List (List (List ℕ))) → AreCut (λ before. size) before batches →
+pub AreCut-alike : (size before : ℕ) (batches : List (List (List ℕ))) → AreCut (in_batches size) before batches →
     AllByRecursion (IsWhole size) batches
 AreCut-alike size before [] all = tt
 AreCut-alike size before (batch ∷ batches) all = (all.0, AreCut-alike size (before + length batch) batches all.1)
@@ -208,7 +238,7 @@ module _ (portions : Portions) (lines : Lines) (report : Reports) (can_end : End
 
   module _ (packets : List (List ℕ)) (batches : List (List (List ℕ))) (ending : Ending) (text : List ℕ)
       (ended : HaveEnded portions.limit link first left packets ending)
-      (cut : AreBatchesBy (cut_of portions) packets batches)
+      (cut : AreBatchesBy portions packets batches)
       (met : IsMet can_end ending) where
     -- the whole report was put
     pub leaves_whole : report batches ending text → Appends before after text →
@@ -252,7 +282,7 @@ module _ (portions : Portions) (lines : Lines) (report : Reports) (can_end : End
 
   -- lines of whole batches were put, and how the input ends is not known
   pub leaves_before : (packets : List (List ℕ)) (batches : List (List (List ℕ))) (text : List ℕ) →
-      HaveFirst portions.limit link first packets → AreWholeBy (cut_of portions) packets batches → lines batches text →
+      HaveFirst portions.limit link first packets → AreWholeBy portions packets batches → lines batches text →
       Keeps before after ⊎ Appends before after text →
       LoopLeavesBy portions lines report can_end link first left before after (Err Memory)
   leaves_before packets batches text firsts whole is (inl kept) = leaves_nothing kept
@@ -266,7 +296,7 @@ module _ (portions : Portions) (lines : Lines) (report : Reports) (can_end : End
 
   module _ (reading : Reading) (packets : List (List ℕ)) (batches : List (List (List ℕ)))
       (text : List ℕ) (come : HaveCome link first left reading packets) (few : length packets ≤ portions.limit)
-      (whole : AreWholeBy (cut_of portions) packets batches) (is : lines batches text) where
+      (whole : AreWholeBy portions packets batches) (is : lines batches text) where
     pub leaves_some : AppendsFront before after text →
         LoopLeavesBy portions lines report can_end link first left before after (Err NotPut)
     leaves_some put =
@@ -298,6 +328,48 @@ module _ (portions : Portions) (lines : Lines) (report : Reports) (can_end : End
       LoopLeavesBy portions lines report can_end link first left before after (Err stop)
   leaves_stop Memory A B a b on_a on_b = on_b b
   leaves_stop NotPut A B a b on_a on_b = on_a a
+
+-- ---- what follows of what is left
+
+-- What a run leaves by some lines and reports it leaves by those that follow of them.
+module _ (most link : ℕ) (front told front_then told_then : Tellings) (report report_then : Accounts)
+    (can_end : Ending → Type 0)
+    (fronts : (packets : List (List ℕ)) (text : List ℕ) → front packets text → front_then packets text)
+    (tolds : (packets : List (List ℕ)) (text : List ℕ) → told packets text → told_then packets text)
+    (reports : (packets : List (List ℕ)) (ending : Ending) (text : List ℕ) → report packets ending text →
+    report_then packets ending text) where
+  text_follows : (bytes : List ℕ) (left before after : Option (List ℕ)) (answer : Result Ending Stop) →
+      LeavesText most link front told report can_end bytes left before after answer →
+      LeavesText most link front_then told_then report_then can_end bytes left before after answer
+  text_follows bytes left before after (Ok ending) (met, (text, (packets, served, is), put)) =
+      (met, (text, (packets, served, reports packets ending text is), put))
+  text_follows bytes left before after (Err NotPut) (inl (ending, met, (text, (packets, served, is), put))) =
+      inl (ending, met, (text, (packets, served, reports packets ending text is), put))
+  text_follows bytes left before after (Err NotPut) (inr (packets, begins, (text, is, put))) =
+      inr (packets, begins, (text, fronts packets text is, put))
+  text_follows bytes left before after (Err Memory) (inl kept) = inl kept
+  text_follows bytes left before after (Err Memory) (inr (inl (ending, met, (text, (packets, served, is), put)))) =
+      inr (inl (ending, met, (text, (packets, served, tolds packets text is), put)))
+  text_follows bytes left before after (Err Memory) (inr (inr (packets, firsts, (text, is, put)))) =
+      inr (inr (packets, firsts, (text, fronts packets text is, put)))
+
+  took_follows : (answer : Result Ending Stop) (first left : Option (List ℕ)) (P Q : List ℕ → Type 0) →
+      ((taken : List ℕ) → P taken → Q taken) → TookFor answer first left P → TookFor answer first left Q
+  took_follows (Ok ending) first left P Q follows (taken, lost, is) = (taken, lost, follows taken is)
+  took_follows (Err NotPut) first left P Q follows (taken, lost, is) = (taken, lost, follows taken is)
+  took_follows (Err Memory) first left P Q follows (between, (taken, lost, is)) =
+      (between, (taken, lost, follows taken is))
+
+  pub leaves_follows : (first left before after : Option (List ℕ)) (answer : Result Ending Stop) →
+      LeavesBy most link front told report can_end first left before after answer →
+      LeavesBy most link front_then told_then report_then can_end first left before after answer
+  leaves_follows first left before after answer leaves = record {
+    told = λ bytes is. text_follows bytes left before after answer (leaves.told bytes is);
+    took = took_follows answer first left
+        (λ taken. LeavesText most link front told report can_end taken (Some []) before after answer)
+        (λ taken. LeavesText most link front_then told_then report_then can_end taken (Some []) before after answer)
+        (λ taken is. text_follows taken (Some []) before after answer is) leaves.took;
+  }
 
 -- what is known stays known
 pub Keeps-same : (known : Option (List ℕ)) → Keeps known known

@@ -19,7 +19,7 @@ use Rattle.capture_loop.specs.Reading.{HaveEnded}
 use Rattle.capture_loop.specs.Batches.{AreBatchesBy, AreWholeBy, at_most, cut_of}
 use Rattle.capture_loop.specs.Leaves.{IsMet, LoopLeavesBy, Lines, Marks, Reports}
 use Rattle.capture_loop.specs.Looping.{HasPut, OnNotPut, Stands}
-use Rattle.capture_loop.proofs.LeavesLemmas.{AreBatches-last, AreBatches-whole, AreWhole-none, HaveFirst-none, HasPut-cut, HasPut-kept, leaves_before, leaves_front, leaves_less, leaves_whole}
+use Rattle.capture_loop.proofs.LeavesLemmas.{AreBatches-last, AreBatches-whole, AreWhole-none, fits_some, HaveFirst-none, HasPut-cut, HasPut-kept, leaves_before, leaves_front, leaves_less, leaves_whole}
 
 -- all that is held is put, with more behind it
 Appends-more : (before mid after : Option (List ℕ)) (held text more : List ℕ) → HasPut before mid held text →
@@ -30,13 +30,14 @@ Appends-more before mid after held text more put appended =
     (Appends-trans before mid after put.done (held ++ more) put.put appended)
 
 -- no batch is whole where there are no packets
-pub none_whole : (cut : ℕ → ℕ) (all : List (List ℕ)) (batches : List (List (List ℕ))) → 0 < cut 0 →
-    AreWholeBy cut all batches → length all ≡ 0 → batches ≡ []
-none_whole cut all [] some whole none = refl
-none_whole cut all (batch ∷ batches) some whole none =
-    let each : length batch ≡ cut 0 = whole.each.0 in
+pub none_whole : (portions : Portions) (all : List (List ℕ)) (batches : List (List (List ℕ))) →
+    0 < cut_of portions 0 → AreWholeBy portions all batches → length all ≡ 0 → batches ≡ []
+none_whole portions all [] some whole none = refl
+none_whole portions all (batch ∷ batches) some whole none =
+    let each : 0 < length batch =
+    fits_some portions.eager (cut_of portions 0) (length batch) some whole.each.0 in
     let sum = length-append batch (flat_map (λ (b : List (List ℕ)). b) batches) in
-    absurd (omega (arith, some, none, ap length whole.parts, sum, each))
+    absurd (omega (arith, none, ap length whole.parts, sum, each))
 
 no_packets : (last : List (List ℕ)) → last ≡ [] → length last ≡ 0
 no_packets last none = ap length none
@@ -44,7 +45,7 @@ no_packets last none = ap length none
 module _ (portions : Portions) (lines : Lines) (report : Reports) (can_end : Ending → Type 0) (link : ℕ)
     (first left before : Option (List ℕ))
     (all : List (List ℕ)) (batches : List (List (List ℕ))) (ending : Ending)
-    (ended : HaveEnded portions.limit link first left all ending) (cut : AreBatchesBy (cut_of portions) all batches)
+    (ended : HaveEnded portions.limit link first left all ending) (cut : AreBatchesBy portions all batches)
     (met : IsMet can_end ending) where
   -- the last lines could not be made
   pub end_memory : (now : Option (List ℕ)) (held done : List ℕ) → HasPut before now held done → lines batches done →
@@ -85,20 +86,21 @@ pub last_cut : (portions : Portions) (served : List (List (List ℕ)) → List �
     (first : Option (List ℕ)) (many packets : ℕ) (all last : List (List ℕ)) (before now : Option (List ℕ))
     (held : List ℕ) → (stands : Stands portions served link first many all before now held) →
     length last ≡ packets → 0 < cut_of portions 0 → packets ≤ cut_of portions many → (packets ≡ 0 → many ≡ 0) →
-    AreBatchesBy (cut_of portions) (all ++ last) (stands.batches ++ last ∷ [])
+    AreBatchesBy portions (all ++ last) (stands.batches ++ last ∷ [])
 last_cut portions served link first many packets all last before now held stands count some few begun =
-    AreBatches-last (cut_of portions) all last stands.batches stands.whole
+    AreBatches-last portions all last stands.batches stands.whole
     (subst (λ (n : ℕ). length last ≤ cut_of portions n) (sym stands.count) (subst (λ (n : ℕ). n ≤ cut_of portions many)
     (sym count) few))
-    (λ none. none_whole (cut_of portions) all stands.batches some stands.whole
+    (λ none. none_whole portions all stands.batches some stands.whole
     (stands.count ∙ begun (sym count ∙ no_packets last none)))
 
 -- a run without packets has a batch all the same, and one with whole batches has them
-pub whole_cut : (cut : ℕ → ℕ) (all : List (List ℕ)) (batches : List (List (List ℕ))) → AreWholeBy cut all batches →
-    ((before : ℕ) → 0 < cut before) → (length all ≡ 0 → ⊥) → AreBatchesBy cut all batches
-whole_cut cut all batches whole large some = choose (AreBatches-whole cut all batches whole large)
+pub whole_cut : (portions : Portions) (all : List (List ℕ)) (batches : List (List (List ℕ))) →
+    AreWholeBy portions all batches → ((before : ℕ) → 0 < cut_of portions before) → (length all ≡ 0 → ⊥) →
+    AreBatchesBy portions all batches
+whole_cut portions all batches whole large some = choose (AreBatches-whole portions all batches whole large)
   where
-    choose : (length all ≡ 0) ⊎ AreBatchesBy cut all batches → AreBatchesBy cut all batches
+    choose : (length all ≡ 0) ⊎ AreBatchesBy portions all batches → AreBatchesBy portions all batches
     choose (inl none) = absurd (some none)
     choose (inr parts) = parts
 
@@ -156,7 +158,7 @@ at_start portions served link first before now held done put =
       text = held;
       count = refl;
       firsts = HaveFirst-none portions.limit link first;
-      whole = AreWhole-none (cut_of portions);
+      whole = AreWhole-none portions;
       done = done;
       put = put;
     }

@@ -1,5 +1,6 @@
 -- Batches of which the last one may not be told yet: it is told, and put, or not.
-use Rattle.std.proofs.Common.{◌≡◌, ◌<◌, ◌≤◌, ◌+◌, ◌∙◌, IfNone, MatchOption, ℕ, List, [], ◌∷◌, ◌++◌, length, Option, Some, None, Result, Ok, Err, IsErrAnd, refl, sym, subst, length-append, arith}
+use Rattle.std.specs.Option.{ForSome}
+use Rattle.std.proofs.Common.{◌≡◌, ◌<◌, ◌≤◌, ◌+◌, ◌∙◌, IfNone, MatchOption, ℕ, List, [], ◌∷◌, ◌++◌, length, Option, Some, None, Result, Ok, Err, IsErrAnd, refl, sym, subst, append-nil, length-append, arith}
 use Rattle.std.specs.Prelude.{IfErr, IfOk, OnErr, OnOk}
 use Rattle.std.specs.Io.KnownBytes.{Appends}
 use Rattle.edge_traits.specs.Edge.{AppendsFront}
@@ -7,7 +8,7 @@ use Rattle.pcapng_reader.specs.Reading.{Reading}
 use Rattle.capture_faults.specs.declared.ending.Ending.{Ending}
 use Rattle.capture_loop.specs.declared.stop.Stop.{Stop}
 use Rattle.capture_loop.specs.declared.stop.Stop.TheVariants.{Memory, NotPut}
-use Rattle.capture_loop.specs.Batches.{AreWholeBy, cut_of}
+use Rattle.capture_loop.specs.Batches.{AreWholeBy, IsCutAt}
 use Rattle.capture_loop.specs.declared.portions.Portions.{Portions}
 use Rattle.capture_loop.specs.Leaves.{Lines, LoopLeavesBy, Reports}
 use Rattle.capture_loop.specs.Looping.{HasPut, Standing, Stands, Untold}
@@ -73,9 +74,9 @@ module _ {C : Type 0} (portions : Portions) (lines : Lines) (tells : C → List 
     few : length all ≤ portions.limit
     few = omega (arith, u.count, u.few)
 
-    whole : AreWholeBy (cut_of portions) all (u.front.batches ++ u.last ∷ [])
-    whole = subst (λ (ps : List (List ℕ)). AreWholeBy (cut_of portions) ps (u.front.batches ++ u.last ∷ [])) u.parts
-        (AreWhole-more (cut_of portions) u.packets u.last u.front.batches u.front.whole u.long)
+    whole : AreWholeBy portions all (u.front.batches ++ u.last ∷ [])
+    whole = subst (λ (ps : List (List ℕ)). AreWholeBy portions ps (u.front.batches ++ u.last ∷ [])) u.parts
+        (AreWhole-more portions u.packets u.last u.front.batches u.front.whole u.long)
 
     -- all lines of the last batch were put
     pub settled : (then : Lines) (held_then : List ℕ) → Implies served then → Appends mid after (held ++ text) →
@@ -105,7 +106,7 @@ module _ {C : Type 0} (portions : Portions) (lines : Lines) (tells : C → List 
   pub untold_next : (closed : C) (served then : Lines) (reading : Reading) (many more : ℕ) (all last : List (List ℕ))
       (now : Option (List ℕ)) (held : List ℕ) →
       (stands : Stands portions served link first many all before now held) →
-      Implies served lines → HaveCome link first left reading (all ++ last) → length last ≡ cut_of portions many →
+      Implies served lines → HaveCome link first left reading (all ++ last) → IsCutAt portions many (length last) →
       more ≡ many + length last → more ≤ portions.limit → ((text : List ℕ) × tells closed text) →
       ((text : List ℕ) → tells closed text → then (stands.batches ++ last ∷ []) (stands.text ++ text)) →
       Untold portions then lines tells closed link first left more (all ++ last) before now held
@@ -123,13 +124,61 @@ module _ {C : Type 0} (portions : Portions) (lines : Lines) (tells : C → List 
           put = stands.put;
         };
         parts = refl;
-        long = subst (λ (n : ℕ). length last ≡ cut_of portions n) (sym stands.count) long;
+        long = subst (λ (n : ℕ). IsCutAt portions n (length last)) (sym stands.count) long;
         count = omega (arith, length-append all last, stands.count, is);
         few = few;
         some = some;
         served_so = served_so;
         come = (reading, come);
       }
+
+  -- nothing is to be told of it, and no text is held
+  pub stands_next : (served then : Lines) (reading : Reading) (many more : ℕ) (all last : List (List ℕ))
+      (now : Option (List ℕ)) (held : List ℕ) →
+      (stands : Stands portions served link first many all before now held) →
+      HaveCome link first left reading (all ++ last) → IsCutAt portions many (length last) →
+      more ≡ many + length last → more ≤ portions.limit →
+      then (stands.batches ++ last ∷ []) (stands.text ++ []) →
+      Stands portions then link first more (all ++ last) before now held
+  stands_next served then reading many more all last now held stands come long is few served_so =
+      let count : length (all ++ last) ≡ more = omega (arith, length-append all last, stands.count, is) in
+      record {
+        batches = stands.batches ++ last ∷ [];
+        text = stands.text;
+        count = count;
+        firsts = HaveFirst-come portions.limit link first left reading (all ++ last) (omega (arith, count, few)) come;
+        whole = AreWhole-more portions all last stands.batches stands.whole
+            (subst (λ (n : ℕ). IsCutAt portions n (length last)) (sym stands.count) long);
+        done = subst (then (stands.batches ++ last ∷ [])) (append-nil stands.text) served_so;
+        put = stands.put;
+      }
+
+  -- so a batch more was served: what is kept of it is to be told, or there is nothing to tell
+  pub standing_next : (untold : Option C) (closed : C) (served then : Lines) (reading : Reading) (many more : ℕ)
+      (all last : List (List ℕ)) (now : Option (List ℕ)) (held : List ℕ) →
+      (stands : Stands portions served link first many all before now held) →
+      Implies served lines → HaveCome link first left reading (all ++ last) → IsCutAt portions many (length last) →
+      more ≡ many + length last → more ≤ portions.limit → ((text : List ℕ) × tells closed text) →
+      ((text : List ℕ) → tells closed text → then (stands.batches ++ last ∷ []) (stands.text ++ text)) →
+      ForSome untold (λ kept. kept ≡ closed) →
+      IfNone untold ((held ≡ []) × ((text : List ℕ) → tells closed text → text ≡ [])) →
+      Standing portions then lines tells untold link first left more (all ++ last) before now held
+  standing_next None closed served then reading many more all last now held stands follows come long is few some
+      served_so kept none =
+      stands_next served then reading many more all last now held stands come long is few
+      (subst (λ (t : List ℕ). then (stands.batches ++ last ∷ []) (stands.text ++ t)) (none.1 some.0 some.1)
+      (served_so some.0 some.1))
+  standing_next (Some kept_one) closed served then reading many more all last now held stands follows come long is few
+      some served_so kept none =
+      let same : kept_one ≡ closed = kept kept_one refl in
+      untold_next kept_one served then reading many more all last now held stands follows come long is few
+      (some.0, subst (λ (one : C). tells one some.0) (sym same) some.1)
+      (λ text tell. served_so text (subst (λ (one : C). tells one text) same tell))
+
+-- what is kept of a batch can be told
+pub kept_tells : {C : Type 0} (P : C → Type 0) (untold : Option C) (closed : C) →
+    ForSome untold (λ kept. kept ≡ closed) → P closed → ForSome untold P
+kept_tells {C} P untold closed kept holds = λ one is. subst P (sym (kept one is)) holds
 
 -- what holds of the stop that it is holds of the one that was met
 pub if_err : {T : Type 0} (P : Stop → Type 0) (result : Result T Stop) (at : Stop) →

@@ -6,6 +6,8 @@ use Rattle.capture_faults.specs.declared.any_fault.AnyFault.{AnyFault}
 use Rattle.capture_faults.specs.declared.any_fault.AnyFault.TheVariants as fault
 use Rattle.capture_faults.specs.declared.ending.Ending.{Ending}
 use Rattle.capture_faults.specs.declared.ending.Ending.TheVariants.{Done, ReadFault, Limit, Fault}
+use Rattle.capture_loop.specs.declared.opening.Step.{Step}
+use Rattle.capture_loop.specs.declared.opening.Step.TheVariants as step
 use Rattle.capture_loop.specs.declared.opening.Unopened.{Unopened}
 use Rattle.capture_loop.specs.declared.opening.Unopened.TheVariants.{Memory, Ends}
 
@@ -24,6 +26,18 @@ ending_of found = Fault found
 abbrev pub OnEnds : Unopened → (Ending → Type 0) → Type 0
 OnEnds Memory P = Unit {0}
 OnEnds (Ends ending) P = P ending
+
+-- the ending that a step of reading met
+abbrev pub ending_in : Step → Option Ending
+ending_in step.Packet = None
+ending_in step.Dry = None
+ending_in (step.Ended ending) = Some ending
+
+-- a fact of it, where one was met
+abbrev pub OnStep : Step → (Ending → Type 0) → Type 0
+OnStep step.Packet P = Unit {0}
+OnStep step.Dry P = Unit {0}
+OnStep (step.Ended ending) P = P ending
 
 -- a fact where the input has more packets than are taken
 abbrev pub OnLimit : Ending → Type 0 → Type 0

@@ -1,6 +1,6 @@
 -- What a run serves of its input.
 -- Source: pcap-savefile(5) and draft-ietf-opsawg-pcapng, by the definition of an input.
-use Rattle.std.specs.Prelude.{◌≡◌, ℕ, ◌<◌, ◌≤◌, ◌+◌, ◌⊎◌, List, [], ◌++◌, length, take, Option, Some, None, Result, Ok, Err}
+use Rattle.std.specs.Prelude.{◌≡◌, false, ℕ, ◌<◌, ◌≤◌, ◌+◌, ◌⊎◌, List, [], ◌++◌, length, take, Option, Some, None, Result, Ok, Err}
 use Rattle.capture_faults.specs.declared.fault.CaptureFault.TheVariants.{ShortHeader}
 use Rattle.pcap_reader.specs.Reading.{Took, buffer_length}
 use Rattle.capture_faults.specs.declared.any_fault.AnyFault.{AnyFault}
@@ -18,7 +18,7 @@ packet_limit = 4000000
 
 -- batches of so many packets, of no more than a run serves
 abbrev pub in_batches : (size : ℕ) → Portions
-in_batches size = record { batch = size; every = None; limit = packet_limit }
+in_batches size = record { batch = size; every = None; eager = false; limit = packet_limit }
 
 -- the bytes are an input of these packets with this ending, and they are no more than so many
 abbrev pub HoldsUpTo : (link : ℕ) (most : ℕ) → List ℕ → List (List ℕ) → Result ℕ AnyFault → Type 0

@@ -5,7 +5,7 @@ use Rattle.capture_loop.specs.declared.stop.Stop.{Stop}
 use Rattle.capture_loop.specs.declared.stop.Stop.TheVariants.{Memory, NotPut}
 use Rattle.pcap_reader.specs.Reading.{Took}
 use Rattle.capture_loop.specs.declared.portions.Portions.{Portions}
-use Rattle.capture_loop.specs.Batches.{AreWholeBy, cut_of}
+use Rattle.capture_loop.specs.Batches.{AreWholeBy, IsCutAt}
 use Rattle.pcapng_reader.specs.Reading.{Reading}
 use Rattle.capture_loop.specs.Reading.{HaveCome}
 use Rattle.capture_loop.specs.Input.{IsFirstUpTo}
@@ -33,7 +33,7 @@ pub record Stands (portions : Portions) (served : List (List (List ℕ)) → Lis
   pub text : List ℕ
   pub count : length all ≡ many
   pub firsts : HaveFirst portions.limit link first all
-  pub whole : AreWholeBy (cut_of portions) all batches
+  pub whole : AreWholeBy portions all batches
   pub done : served batches text
   pub put : HasPut before now held text
 
@@ -46,7 +46,7 @@ pub record Untold {C : Type 0} (portions : Portions) (served lines : List (List 
   pub last : List (List ℕ)
   pub front : Stands portions lines link first (length packets) packets before now held
   pub parts : packets ++ last ≡ all
-  pub long : length last ≡ cut_of portions (length packets)
+  pub long : IsCutAt portions (length packets) (length last)
   pub count : length all ≡ many
   pub few : many ≤ portions.limit
   pub some : (text : List ℕ) × tells closed text

@@ -3,13 +3,16 @@
 ghost use Rattle.std.specs.Prelude.{◌≡◌, ◌<◌, ◌≤◌, ◌+◌, ℕ, List, [], ◌++◌, false, length, Option, Some, MatchOption, IfOk, IfSome, IfNone, OnErr};
 ghost use Rattle.edge_traits.specs.Edge.{Rose};
 ghost use Rattle.capture_faults.specs.Endings.{IsEnding};
+ghost use Rattle.std.specs.Option.{ForSome};
+ghost use Rattle.capture_loop.specs.Batches.{IsCutAt, cut_of};
 ghost use Rattle.capture_loop.specs.Endings.{HasFailed, OnLimit};
 ghost use Rattle.capture_loop.specs.Input.{StopsAt};
 ghost use Rattle.capture_loop.specs.Reading.{HaveCome};
 ghost use Rattle.capture_loop.specs.Intake.{IsRead, IsTaken};
 
 use crate::job::{MOST_BATCH, Pile};
-use crate::opening::{read_on, read_past};
+use crate::opening::{Step, read_past, read_step};
+use crate::portions::Portions;
 use capture_faults::Ending;
 use edge_traits::Source;
 use pcap_reader::MOST_PACKETS;
@@ -25,36 +28,41 @@ pub struct Part {
     pub ending: Option<Ending>,
 }
 
-/// Reads the packets of a batch of so many, behind so many that were read before, where so many of the batch were taken
-/// already. No more than `limit` are taken in all.
+/// Reads the packets of a batch behind so many that were read before, where so many of the batch were taken already.
+///
+/// Behind the first packet that an eager batch gets here the source is not read: it ends where the reader holds no
+/// further whole packet.
 pub fn read_rest<S: Source, P: Pile>(
     reader: &mut AnyReader,
     source: &mut S,
-    batch: u32,
+    portions: &Portions,
     before: u64,
     taken: u32,
-    limit: u64,
     pile: &mut P,
 ) -> Result<Part, AllocError>
+    requires batch { (0 < portions.now.batch) × (portions.now.batch ≤ MOST_BATCH) }
+    requires every { ForSome portions.now.every (λ every. 0 < every) }
     requires going { reader.old.ended ≡ false }
     requires given { reader.old.given ≡ before + taken }
-    requires few { before < limit }
-    requires limited { (limit ≤ P.most) × (limit ≤ MOST_PACKETS) }
-    requires few_taken { (taken ≤ batch) × (batch ≤ MOST_BATCH) × (before + taken ≤ limit) }
+    requires few { before < portions.now.limit }
+    requires limited { (portions.now.limit ≤ P.most) × (portions.now.limit ≤ MOST_PACKETS) }
+    requires few_taken { (taken ≤ cut_of portions.now before) × (before + taken ≤ portions.now.limit) }
     requires piled { (packets : List (List ℕ)) × P.holds pile.old before packets × (length packets ≡ taken) }
     ensures read { IfOk result (λ part. (old : List (List ℕ)) → P.holds pile.old before old → length old ≡ taken →
         (more : List (List ℕ)) × P.holds pile.new before (old ++ more) × (length (old ++ more) ≡ part.packets)
-        × IsRead limit before (S.left source.old) (S.left source.new) reader.old reader.new old more part) }
+        × IsRead portions.now.limit before (S.left source.old) (S.left source.new) reader.old reader.new old more
+        part) }
     ensures way { P.way pile.new ≡ P.way pile.old }
     ensures goes_on { IfOk result (λ part. IfNone part.ending ((reader.new.ended ≡ false)
-        × (reader.new.given ≡ before + part.packets) × (part.packets ≡ batch)
-        × (before + part.packets < limit))) }
+        × (reader.new.given ≡ before + part.packets) × IsCutAt portions.now before part.packets
+        × (before + part.packets < portions.now.limit))) }
     ensures beyond { IfOk result (λ part. (old : List (List ℕ)) → P.holds pile.old before old →
         length old ≡ taken → (link : ℕ) (first : Option (List ℕ)) (all : List (List ℕ)) → length all ≡ before →
         HaveCome link first (S.left source.old) reader.old (all ++ old) →
         IfSome part.ending (λ ending. OnLimit ending
-        (StopsAt link limit first (S.left source.new) reader.new.start))) }
-    ensures few_packets { IfOk result (λ part. (part.packets ≤ batch) × (before + part.packets ≤ limit)) }
+        (StopsAt link portions.now.limit first (S.left source.new) reader.new.start))) }
+    ensures few_packets { IfOk result (λ part. (taken ≤ part.packets)
+        × (part.packets ≤ cut_of portions.now before) × (before + part.packets ≤ portions.now.limit)) }
     ensures ending { IfOk result (λ part. IfSome part.ending IsEnding) }
     ensures read_fault { IfOk result (λ part. part.ending ≡ Some Ending.ReadFault →
         Rose (S.faults source.old) (S.faults source.new)) }
@@ -62,13 +70,23 @@ pub fn read_rest<S: Source, P: Pile>(
     ensures failed { IfOk result (λ part. HasFailed part.ending (S.failed source.old) (S.failed source.new)) }
     ensures none_failed { OnErr result (S.failed source.new ≡ S.failed source.old) }
 {
-    let most = u64::from(batch).min(limit - before) as u32;
+    let limit = portions.limit;
+    let most = u64::from(portions.at(before)).min(limit - before) as u32;
     for packets in taken..most {
-        if let Some(ending) = read_on(reader, source) {
-            return Ok(Part {
-                packets,
-                ending: Some(ending),
-            });
+        match read_step(reader, source, packets == taken || !portions.eager) {
+            Step::Packet => {}
+            Step::Dry => {
+                return Ok(Part {
+                    packets,
+                    ending: None,
+                });
+            }
+            Step::Ended(ending) => {
+                return Ok(Part {
+                    packets,
+                    ending: Some(ending),
+                });
+            }
         }
         pile.take(before + u64::from(packets) + 1, reader.packet())?;
     }

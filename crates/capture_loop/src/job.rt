@@ -1,6 +1,6 @@
 //! What a mode makes of the packets of a capture.
 
-ghost use Rattle.std.specs.Prelude.{◌≡◌, ◌≤◌, ◌+◌, ◌∷◌, ◌++◌, [], ℕ, List, length, vec_len, IfOk, OnOk};
+ghost use Rattle.std.specs.Prelude.{◌≡◌, ◌≤◌, ◌+◌, ◌∷◌, ◌++◌, [], ℕ, List, false, length, vec_len, IfOk, OnOk};
 ghost use Rattle.std.specs.List.{All, AllZip};
 ghost use Rattle.capture_faults.specs.declared.ending.Ending.{Ending as AnEnding};
 ghost use Rattle.capture_faults.specs.Endings.{IsEnding};
@@ -86,6 +86,8 @@ pub struct Opened<T: Drop, W: Drop, K: Drop> {
     pub workers: Vec<W>,
     /// What nobody looks at meanwhile.
     pub kept: K,
+    /// Whether all workers work in the caller's thread, one after the other.
+    pub alone: bool,
 }
 
 /// A mode that goes through a capture batch by batch, by a plan.
@@ -180,6 +182,10 @@ pub trait Job<P> {
             away self.old before → opened self.old made.shared started made.kept before packets →
             AllZip (Self.Worker.done made.shared) started made.workers.items → (lines : List ℕ) →
             tells closed lines → done self.new plan (batches ++ packets ∷ []) (put ++ lines)) };
+
+    /// Whether there is anything to tell of a batch that is closed.
+    fn has_lines(&self, closed: &Self::Closed) -> bool
+        ensures { result ≡ false → (lines : List ℕ) → tells closed.now lines → lines ≡ [] };
 
     /// Appends the lines of a batch that is closed. Another may be open meanwhile. The only error is want of memory.
     fn tell<R: Threads>(

@@ -12,6 +12,6 @@ mod stop;
 pub use intake::{Part, read_rest, take_held};
 pub use job::{BATCH, Job, MOST_BATCH, Means, Opened, PACKET_LIMIT, Pile, Piles};
 pub use looping::{mark, run_job};
-pub use opening::{Unopened, open, read_on, read_past};
+pub use opening::{Step, Unopened, open, read_on, read_past, read_step};
 pub use portions::Portions;
 pub use stop::Stop;

@@ -8,7 +8,7 @@ ghost use Rattle.std.specs.Io.KnownBytes.{Appends};
 ghost use Rattle.edge_traits.specs.Edge.{AppendsFront, Rose, count_after};
 ghost use Rattle.pcapng_reader.specs.Reading.{IsAtStart};
 ghost use Rattle.capture_faults.specs.Endings.{IsEnding};
-ghost use Rattle.capture_loop.specs.Batches.{AreBatchesBy, cut_of};
+ghost use Rattle.capture_loop.specs.Batches.{AreBatchesBy, IsCutAt, cut_of};
 ghost use Rattle.capture_loop.specs.Intake.{IsTaken};
 ghost use Rattle.capture_loop.specs.Leaves.{EndsBy, IsMet, LoopLeavesBy, Marks, RunReads, RunWrites};
 ghost use Rattle.capture_loop.specs.Looping.{HasPut, OnMemory, OnNotPut, Standing, Stands};
@@ -108,14 +108,16 @@ struct Last {
 struct Batches<C: Drop> {
     /// How many packets they have.
     packets: u64,
+    /// How many packets of the next batch are in its pile.
+    ahead: u32,
     /// The last of them, where none of its lines is told yet.
     untold: Option<C>,
 }
 
 /// The same behind the head of an input.
 ///
-/// Where the reader holds a whole batch, this is served while the lines of the one before are told and put. Otherwise
-/// all that was served is told and put, and then the source is read.
+/// Where a whole batch is taken, this is served while the lines of the one before are told and put. Otherwise all that
+/// was served is told and put, and then the source is read.
 fn go_through<R: Threads + Sync, S: Source, K: Sink, G: Gate + Sync, P, J: Job<P>>(
     means: &Means<R, G>,
     job: &mut J,
@@ -155,19 +157,19 @@ fn go_through<R: Threads + Sync, S: Source, K: Sink, G: Gate + Sync, P, J: Job<P
     let limit = means.portions.limit;
     let mut so_far = Batches {
         packets: 0,
+        ahead: 0,
         untold: None,
     };
-    let mut ahead = 0;
     'batches: loop {
-        let batch = means.portions.at(so_far.packets);
-        if ahead == batch && so_far.packets + u64::from(ahead) < limit {
-            ahead = turn(means, job, piles, &mut so_far, reader, text, sink)?;
+        let before = so_far.packets;
+        let ahead = so_far.ahead;
+        if before + u64::from(ahead) < limit && means.portions.may_end(before, ahead) {
+            so_far.ahead = turn(means, job, piles, &mut so_far, reader, text, sink)?;
         } else {
             let written = settle(means.rt, means.alloc, job, &mut so_far.untold, text, sink)?;
             written?;
-            let before = so_far.packets;
-            let pile = &mut piles.now;
-            let part = read_rest(reader, source, batch, before, ahead, limit, pile)?;
+            let portions = &means.portions;
+            let part = read_rest(reader, source, portions, before, ahead, &mut piles.now)?;
             if let Some(ending) = part.ending {
                 let last = Last {
                     packets: part.packets,
@@ -175,7 +177,7 @@ fn go_through<R: Threads + Sync, S: Source, K: Sink, G: Gate + Sync, P, J: Job<P
                 };
                 return serve_last(means, job, &mut piles.now, before, last, text, sink);
             }
-            ahead = part.packets;
+            so_far.ahead = part.packets;
         }
     }
 }
@@ -196,15 +198,15 @@ fn turn<R: Threads + Sync, K: Sink, G: Gate + Sync, P, J: Job<P>>(
     requires limit { (means.now.portions.limit ≤ J.most) × (means.now.portions.limit ≤ J.Pile.most)
         × (means.now.portions.limit ≤ MOST_PACKETS) }
     requires reads { reader.old.ended ≡ false }
-    requires given { reader.old.given ≡ so_far.old.packets + cut_of means.now.portions so_far.old.packets }
-    requires few { so_far.old.packets + cut_of means.now.portions so_far.old.packets < means.now.portions.limit }
+    requires given { reader.old.given ≡ so_far.old.packets + so_far.old.ahead }
+    requires whole { IsCutAt means.now.portions so_far.old.packets so_far.old.ahead }
+    requires few { so_far.old.packets + so_far.old.ahead < means.now.portions.limit }
     requires going { J.going job.old so_far.old.packets }
     requires piled { (packets : List (List ℕ)) × J.Pile.holds piles.old.now so_far.old.packets packets
-        × (length packets ≡ cut_of means.now.portions so_far.old.packets) }
+        × (length packets ≡ so_far.old.ahead) }
     requires ways { (J.Pile.way piles.old.now ≡ J.way job.old) × (J.Pile.way piles.old.next ≡ J.way job.old) }
     requires some { ForSome so_far.old.untold (λ closed. (lines : List ℕ) × J.tells closed lines) }
-    ensures packets { OnOk result (so_far.new.packets
-        ≡ so_far.old.packets + cut_of means.now.portions so_far.old.packets) }
+    ensures packets { OnOk result (so_far.new.packets ≡ so_far.old.packets + so_far.old.ahead) }
     ensures reads { OnOk result (reader.new.ended ≡ false) }
     ensures given { IfOk result (λ ahead. reader.new.given ≡ so_far.new.packets + ahead) }
     ensures few { IfOk result (λ ahead. (ahead ≤ cut_of means.now.portions so_far.new.packets)
@@ -222,7 +224,7 @@ fn turn<R: Threads + Sync, K: Sink, G: Gate + Sync, P, J: Job<P>>(
         Standing means.now.portions (J.done job.old plan) (J.lines plan) J.tells so_far.old.untold link first left
         so_far.old.packets all before (K.put sink.old) text.old.items →
         J.Pile.holds piles.old.now so_far.old.packets packets →
-        length packets ≡ cut_of means.now.portions so_far.old.packets →
+        length packets ≡ so_far.old.ahead →
         HaveCome link first left reader.old (all ++ packets) → (held : List (List ℕ))
         × Standing means.now.portions (J.done job.new plan) (J.lines plan) J.tells so_far.new.untold link first left
         so_far.new.packets (all ++ packets) before (K.put sink.new) text.new.items
@@ -238,22 +240,23 @@ fn turn<R: Threads + Sync, K: Sink, G: Gate + Sync, P, J: Job<P>>(
     ensures writes { RunWrites result (K.failed sink.old) (K.failed sink.new) }
     ensures counted { K.faults sink.old ≤ K.faults sink.new }
 {
-    let size = means.portions.at(so_far.packets);
-    let packets = so_far.packets + u64::from(size);
+    let packets = so_far.packets + u64::from(so_far.ahead);
     let batch = means.portions.at(packets);
     let limit = means.portions.limit;
     let Opened {
         shared,
         mut workers,
         kept,
+        alone,
     } = job.open(means.alloc, &mut piles.now)?;
     piles.next.clear(packets);
     let apart = so_far.untold.is_some();
     let untold = &mut so_far.untold;
     let next = &mut piles.next;
+    let hands = Hands { alone, apart };
     let (told, taken) = work(
         means,
-        apart,
+        hands,
         &shared,
         workers.as_mut_slice(),
         &mut || -> (
@@ -306,21 +309,44 @@ fn turn<R: Threads + Sync, K: Sink, G: Gate + Sync, P, J: Job<P>>(
         shared,
         workers,
         kept,
+        alone,
     };
     let written = told?;
     written?;
     let ahead = taken?;
-    so_far.untold = Some(job.close(means.alloc, served)?);
+    let closed = job.close(means.alloc, served)?;
+    so_far.untold = untold_of(job, closed, text);
     so_far.packets = packets;
     mem::swap(&mut piles.now, &mut piles.next);
     Ok(ahead)
 }
 
-/// Lets the workers work, and does this once meanwhile in the caller's thread, and apart from their work where that is
-/// wanted: then all workers work in other threads, and otherwise the last one in the caller's, behind this.
+/// Keeps of a batch that is closed what its lines are made from, unless there is nothing to tell and no text is held.
+fn untold_of<P, J: Job<P>>(job: &J, closed: J::Closed, text: &Vec<u8>) -> Option<J::Closed>
+    ensures some { ForSome result (λ kept. kept ≡ closed) }
+    ensures none { IfNone result ((text.now.items ≡ [])
+        × ((lines : List ℕ) → J.tells closed lines → lines ≡ [])) }
+{
+    if job.has_lines(&closed) || !text.is_empty() {
+        return Some(closed);
+    }
+    None
+}
+
+/// In which threads workers work.
+#[derive(Clone, Copy)]
+struct Hands {
+    /// All in the caller's, one after the other.
+    alone: bool,
+    /// Or else all in other threads than what is done meanwhile.
+    apart: bool,
+}
+
+/// Lets the workers work, and does this once meanwhile in the caller's thread. Where they do not work alone or apart,
+/// the last one works in the caller's thread too, behind this.
 fn work<R: Threads + Sync, G: Gate + Sync, T: Sync, W: WorksOn<T> + Send, F: FnMut() -> A, A>(
     means: &Means<R, G>,
-    apart: bool,
+    hands: Hands,
     on: &T,
     workers: &mut [W],
     beside: &mut F,
@@ -333,7 +359,12 @@ fn work<R: Threads + Sync, G: Gate + Sync, T: Sync, W: WorksOn<T> + Send, F: FnM
 {
     let rt = means.rt;
     let gate = means.gate;
-    if !apart {
+    if hands.alone {
+        let made = beside();
+        serve_alone(on, 0, workers, gate);
+        return made;
+    }
+    if !hands.apart {
         return serve_on(rt, on, workers, gate, beside);
     }
     let ((), made) = join_mut(
@@ -346,6 +377,26 @@ fn work<R: Threads + Sync, G: Gate + Sync, T: Sync, W: WorksOn<T> + Send, F: FnM
         beside,
     );
     made
+}
+
+/// Each worker works in the caller's thread, one after the other. The first has this seat.
+fn serve_alone<T, W: WorksOn<T>, G: Gate>(on: &T, first: u32, workers: &mut [W], gate: &G)
+    requires few { first + length workers.old ≤ 8 }
+    requires ready { All (W.ready on.now) workers.old }
+    ensures { AllZip (W.done on.now) workers.old workers.new }
+{
+    if workers.len() == 0 {
+        return;
+    }
+    if workers.len() == 1 {
+        workers[0].work_on(on, first, gate);
+        return;
+    }
+    let half = workers.len() / 2;
+    let second = first + half as u32;
+    let (front, back) = workers.split_at_mut(half);
+    serve_alone(on, first, front, gate);
+    serve_alone(on, second, back, gate);
 }
 
 /// Tells the lines of a batch that is closed, where there is one, and puts them with the text that is held. Memory may
@@ -428,18 +479,18 @@ fn serve<R: Threads + Sync, G: Gate + Sync, P, J: Job<P>>(
         shared,
         mut workers,
         kept,
+        alone,
     } = job.open(means.alloc, pile)?;
-    serve_on(
-        means.rt,
-        &shared,
-        workers.as_mut_slice(),
-        means.gate,
-        &mut || {},
-    );
+    let hands = Hands {
+        alone,
+        apart: false,
+    };
+    work(means, hands, &shared, workers.as_mut_slice(), &mut || {});
     let served = Opened {
         shared,
         workers,
         kept,
+        alone,
     };
     let closed = job.close(means.alloc, served)?;
     job.tell(means.rt, means.alloc, closed, text)
@@ -553,7 +604,7 @@ fn end_run<K: Sink, P, J: Job<P>>(
     requires ending { IsEnding ending }
     ensures leaves { (plan : P) (portions : Portions) (failed now link : ℕ) (first left before : Option (List ℕ))
         (all : List (List ℕ)) (batches : List (List (List ℕ))) (done : List ℕ) → J.done job.old plan batches done →
-        AreBatchesBy (cut_of portions) all batches → HasPut before (K.put sink.old) text.old.items done →
+        AreBatchesBy portions all batches → HasPut before (K.put sink.old) text.old.items done →
         HaveEnded portions.limit link first left all ending → IsMet (EndsBy failed now) ending →
         LoopLeavesBy portions (J.lines plan) (J.report plan) (EndsBy failed now) link first left before (K.put sink.new)
         result }

@@ -5,7 +5,7 @@ ghost use Rattle.edge_traits.specs.Edge.{Rose};
 ghost use Rattle.pcap_reader.specs.Reading.{Took};
 ghost use Rattle.pcapng_reader.specs.Reading.{GivesPacket, IsAtStart};
 ghost use Rattle.capture_faults.specs.Endings.{IsEnding};
-ghost use Rattle.capture_loop.specs.Endings.{ending_at, ending_of, HasFailed, OnEnds, OnLimit};
+ghost use Rattle.capture_loop.specs.Endings.{ending_at, ending_in, ending_of, HasFailed, OnEnds, OnLimit, OnStep};
 ghost use Rattle.capture_loop.specs.Input.{StopsAt};
 ghost use Rattle.capture_loop.specs.Reading.{HaveCome, HaveEnded, MeetsEnd};
 
@@ -76,6 +76,42 @@ pub fn read_on<S: Source>(reader: &mut AnyReader, source: &mut S) -> Option<Endi
         Ok(Item::Rest(rest)) => Some(Ending::Done { rest }),
         Err(fault) => Some(ending_of(fault)),
     }
+}
+
+/// What a step of reading came to.
+#[derive(Clone, Copy)]
+pub enum Step {
+    /// The reader has the next packet.
+    Packet,
+    /// It holds no further whole packet, and nothing was read.
+    Dry,
+    Ended(Ending),
+}
+
+/// Goes on to the next packet. Unless the source may be waited for, only what the reader holds is looked at.
+pub fn read_step<S: Source>(reader: &mut AnyReader, source: &mut S, may_wait: bool) -> Step
+    requires going { reader.old.ended ≡ false }
+    requires few { reader.old.given ≤ MOST_PACKETS }
+    ensures packet { result ≡ Step.Packet →
+        Took (S.left source.old) (S.left source.new) (GivesPacket reader.old reader.new) }
+    ensures dry { result ≡ Step.Dry → (may_wait ≡ false) × (reader.new ≡ reader.old) }
+    ensures none_read { may_wait ≡ false → source.new ≡ source.old }
+    ensures ended { OnStep result (MeetsEnd reader.old reader.new (S.left source.old) (S.left source.new)) }
+    ensures ending { OnStep result IsEnding }
+    ensures read_fault { result ≡ Step.Ended Ending.ReadFault → Rose (S.faults source.old) (S.faults source.new) }
+    ensures counted { S.faults source.old ≤ S.faults source.new }
+    ensures failed { HasFailed (ending_in result) (S.failed source.old) (S.failed source.new) }
+{
+    if may_wait {
+        return match read_on(reader, source) {
+            None => Step::Packet,
+            Some(ending) => Step::Ended(ending),
+        };
+    }
+    if reader.next_held() {
+        return Step::Packet;
+    }
+    Step::Dry
 }
 
 /// How an input ends whose next packet could not be read.

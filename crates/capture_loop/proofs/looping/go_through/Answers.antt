@@ -1,12 +1,11 @@
 -- A loop of whole batches: a batch is served while the one before it is told, or all is told and more is read.
-use Rattle.std.proofs.Common.{rules, ◌≡◌, ◌≤◌, ◌<◌, ◌++◌, [], ℕ, Option, Some, refl, subst, sym, ◌∙◌, arith}
+use Rattle.std.proofs.Common.{rules, ◌<◌, ◌++◌, [], ℕ, Option, Some, refl, subst, sym, ◌∙◌, arith}
 use Rattle.std.specs.Option.{IfSome}
 use Rattle.capture_faults.specs.declared.ending.Ending.{Ending}
 use Rattle.capture_loop.specs.declared.stop.Stop.TheVariants.{Memory, NotPut}
 use Rattle.capture_loop.specs.Endings.{HasFailed, OnLimit}
 use Rattle.capture_loop.specs.Leaves.{EndsBy}
 use Rattle.capture_loop.specs.Input.{StopsAt}
-use Rattle.capture_loop.specs.Batches.{cut_of}
 use Rattle.capture_loop.specs.Looping.{Standing}
 use Rattle.capture_loop.specs.Reading.{HaveCome, HaveEnded}
 use Rattle.capture_loop.proofs.LoopLemmas.{limit_same, at_none, at_some, at_start, if_none, last_memory, none_failed}
@@ -42,22 +41,21 @@ batches-init g c = record {
   );
 }
 
-pub returns-in_err-ahead-clause-leaves : goal.returns-in_err-ahead-clause-leaves
-returns-in_err-ahead-clause-leaves g c = λ plan link first before failed is_failed has put come.
+pub returns-in_err-so_far-clause-leaves : goal.returns-in_err-so_far-clause-leaves
+returns-in_err-so_far-clause-leaves g c = λ plan link first before failed is_failed has put come.
     let s = c.batches.invariant.stands plan link first before has put come in
     let left = g.S.Source.left c.batches.source in
     let since = g.S.Source.failed c.batches.source in
     leaves_err c.args.means.now.portions (g.J.Job.lines plan) (g.J.Job.report plan) (EndsBy failed since) link first
     left
-    before (g.K.Sink.put c.turn.new.sink) c.from_residual.result c.in_err-ahead.field-0.0 c.from_residual.ensures.1
-    (c.in_err-ahead.ensures.leaves plan failed since link first left before s.0 s.2)
+    before (g.K.Sink.put c.turn.new.sink) c.from_residual.result c.in_err-so_far.field-0.0 c.from_residual.ensures.1
+    (c.in_err-so_far.ensures.leaves plan failed since link first left before s.0 s.2)
 
-pub batches-preserved-then-so_far-from : goal.batches-preserved-then-so_far-from
-batches-preserved-then-so_far-from g c =
+pub batches-preserved-then-may_end : goal.batches-preserved-then-may_end
+batches-preserved-then-may_end g c =
     let inv = c.batches.invariant in
-    let is = c.in_ok-ahead.ensures in
+    let is = c.in_ok-so_far.ensures in
     let portions = c.args.means.now.portions in
-    let whole : c.batches.ahead ≡ cut_of portions c.batches.so_far.packets = search rules in
     let few : c.turn.new.so_far.packets < portions.limit = search rules in
     record {
       reads = is.reads;
@@ -77,7 +75,7 @@ batches-preserved-then-so_far-from g c =
       stands = λ plan link first before has put come.
           let s = inv.stands plan link first before has put come in
           let left = g.S.Source.left c.batches.source in
-          let t = is.stands plan link first left before s.0 s.1 s.2 s.3 (s.4 ∙ whole) s.5 in (
+          let t = is.stands plan link first left before s.0 s.1 s.2 s.3 s.4 s.5 in (
             s.0 ++ s.1,
             t.0,
             t.1,
@@ -177,8 +175,8 @@ batches-preserved g c =
       reads = goes.0;
       given = goes.1;
       few_ahead = (
-        subst (λ (n : ℕ). c.in_ok-part.part.packets ≤ n) c.at-batch.ensures.size c.in_ok-part.ensures.few_packets.0,
         c.in_ok-part.ensures.few_packets.1,
+        c.in_ok-part.ensures.few_packets.2,
       );
       few = inv.few;
       going = job.1 many inv.going;

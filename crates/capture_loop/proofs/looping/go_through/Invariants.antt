@@ -13,13 +13,13 @@ invariant-batches g l =
     let put = g.K.Sink.put in
     record {
       reads : l.reader.ended ≡ false;
-      given : l.reader.given ≡ l.so_far.packets + l.ahead;
-      few_ahead : (l.ahead ≤ cut_of l.fn.means.portions l.so_far.packets)
-          × (l.so_far.packets + l.ahead ≤ l.fn.means.portions.limit);
+      given : l.reader.given ≡ l.so_far.packets + l.so_far.ahead;
+      few_ahead : (l.so_far.ahead ≤ cut_of l.fn.means.portions l.so_far.packets)
+          × (l.so_far.packets + l.so_far.ahead ≤ l.fn.means.portions.limit);
       few : l.so_far.packets < l.fn.means.portions.limit;
       going : g.J.Job.going l.job l.so_far.packets;
       piled : (held : List (List ℕ)) × g.J.Pile.Pile.holds l.piles.now l.so_far.packets held
-          × (length held ≡ l.ahead);
+          × (length held ≡ l.so_far.ahead);
       ways : (g.J.Pile.Pile.way l.piles.now ≡ g.J.Job.way l.job)
           × (g.J.Pile.Pile.way l.piles.next ≡ g.J.Job.way l.job);
       kept : l.piles.beyond ≡ l.fn.piles.beyond;
@@ -35,10 +35,11 @@ invariant-batches g l =
           HaveCome link first (left l.fn.source) l.fn.reader [] →
           (all held : List (List ℕ)) × Standing l.fn.means.portions (g.J.Job.done l.job plan) (g.J.Job.lines plan)
           g.J.Job.tells l.so_far.untold link first (left l.source) l.so_far.packets all before (put l.sink)
-          l.text.items × g.J.Pile.Pile.holds l.piles.now l.so_far.packets held × (length held ≡ l.ahead)
+          l.text.items × g.J.Pile.Pile.holds l.piles.now l.so_far.packets held
+          × (length held ≡ l.so_far.ahead)
           × HaveCome link first (left l.source) l.reader (all ++ held);
     }
 
 -- a batch is served, or packets are read
 abbrev pub decreases-batches : goal.decreases-batches
-decreases-batches g l = (l.fn.means.portions.limit - l.so_far.packets) * 65537 + (65536 - l.ahead)
+decreases-batches g l = (l.fn.means.portions.limit - l.so_far.packets) * 65537 + (65536 - l.so_far.ahead)

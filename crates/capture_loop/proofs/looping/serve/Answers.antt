@@ -11,7 +11,7 @@ returns-clause-served g c =
     let opens = c.in_ok-shared.ensures in
     let workers = c.in_ok-shared.field-0.workers in
     let worked = all_zip_slice (g.J.Worker.WorksOn.done c.in_ok-shared.field-0.shared) c.as_mut_slice.result.now
-    workers.items c.serve_on.new.workers _ c.as_mut_slice.ensures.value workers.ok.0 c.serve_on.ensures.done in
+    workers.items c.work.new.workers _ c.as_mut_slice.ensures.value workers.ok.0 c.work.ensures.done in
     let closed = c.in_ok-closed.ensures.served plan batches put workers.items before packets
     (opens.under plan batches put done) (opens.away before going) (opens.opened before packets going holds) worked in (
       told.0,

@@ -1,7 +1,7 @@
 -- The last batch is served, where one is begun.
 use Rattle.std.proofs.Common.{◌≡◌, ◌++◌, ◌∷◌, [], List, ℕ, Err, ap, subst, sym, ◌∙◌, append-nil, arith}
 use Rattle.std.proofs.lemmas.List.{nil_from_length}
-use Rattle.capture_loop.specs.Batches.{AreBatchesBy, cut_of}
+use Rattle.capture_loop.specs.Batches.{AreBatchesBy}
 use Rattle.capture_loop.specs.declared.stop.Stop.TheVariants.{Memory}
 use Rattle.capture_loop.specs.Leaves.{EndsBy, LoopLeavesBy}
 use Rattle.capture_loop.proofs.LeavesLemmas.{leaves_stop}
@@ -17,8 +17,8 @@ returns-then-many-gt0-clause-leaves g c = λ plan failed since link first left b
     c.end_run.ensures.leaves plan c.args.means.now.portions failed since link first left before (all ++ last)
     stands.batches stands.text
     stands.done
-    (subst (λ (ps : List (List ℕ)). AreBatchesBy (cut_of c.args.means.now.portions) ps stands.batches) (sym same)
-    (whole_cut (cut_of c.args.means.now.portions) all stands.batches stands.whole
+    (subst (λ (ps : List (List ℕ)). AreBatchesBy c.args.means.now.portions ps stands.batches) (sym same)
+    (whole_cut c.args.means.now.portions all stands.batches stands.whole
     (cut_some c.args.means.now.portions c.requires.batch.0 c.requires.every)
     (λ empty. omega (arith, empty, stands.count, c.if-many-gt0.true))))
     stands.put ended met
