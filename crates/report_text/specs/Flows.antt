@@ -9,7 +9,7 @@ use Rattle.capture_faults.specs.declared.ending.Ending.{Ending}
 use Rattle.report_text.specs.declared.flows.FlowsHead.{FlowsHead}
 use Rattle.report_text.specs.declared.flows.FlowCounts.{FlowCounts}
 use Rattle.report_text.specs.Lines.{line}
-use Rattle.report_text.specs.Report.{batch_words, input_line, session_line}
+use Rattle.report_text.specs.Report.{input_line, session_line}
 
 -- which calls packets make, where these are not counts
 abbrev pub calls_words : CallRule → List (List ℕ)
@@ -21,14 +21,13 @@ abbrev pub every_words : Option ℕ → List (List ℕ)
 every_words None = []
 every_words (Some every) = codes "every" ∷ decimal every ∷ []
 
--- `flowdir flows seats N items B depth D seed X`, and then ` calls sessions` or nothing, ` every P` or nothing, and
--- ` batch M` or nothing
+-- `flowdir flows seats N items B depth D seed X`, and then ` calls sessions` or nothing, and ` every P` or nothing
 unfoldable pub flows_head : FlowsHead → List ℕ
 flows_head head =
     line (codes "flowdir" ∷ codes "flows"
     ∷ codes "seats" ∷ decimal head.seats ∷ codes "items" ∷ decimal head.items
     ∷ codes "depth" ∷ decimal head.depth ∷ codes "seed" ∷ decimal head.seed
-    ∷ (calls_words head.calls ++ (every_words head.every ++ batch_words head.batch)))
+    ∷ (calls_words head.calls ++ every_words head.every))
 
 -- `at P`: so many packets so far
 unfoldable pub at_line : ℕ → List ℕ

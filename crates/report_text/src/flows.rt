@@ -6,7 +6,6 @@ ghost use Rattle.report_text.specs.Flows.{at_line, calls_words, every_words, flo
 ghost use Rattle.report_text.specs.Report.{session_line};
 ghost use Rattle.report_text.specs.Lines.{room, Puts, text_in};
 
-use crate::head::put_batch;
 use crate::line::Line;
 use crate::pieces::{append, begin_line, end_line, put_named, put_number, put_word};
 use crate::session::session_text;
@@ -29,8 +28,6 @@ pub struct FlowsHead {
     pub calls: CallRule,
     /// After how many packets there is a block again and again; `None` where there is one at the end alone.
     pub every: Option<u64>,
-    /// How many packets a batch has, 2,048 to 65,536.
-    pub batch: u32,
 }
 
 /// What a block counts, of all packets from the first one on.
@@ -128,7 +125,6 @@ fn put_head(out: &mut Line, head: &FlowsHead)
     put_named(out, b"seed", head.seed);
     put_calls(out, head.calls);
     put_every(out, head.every);
-    put_batch(out, head.batch);
     end_line(out);
 }
 

@@ -7,5 +7,5 @@ unfolding flows_head
 returns c =
     line_whole c.begin_line.ensures.begins
     (c.put_word.ensures.puts ⨟ c.put_named.ensures.puts ⨟ c.put_named-2.ensures.puts ⨟ c.put_named-3.ensures.puts
-    ⨟ c.put_named-4.ensures.puts ⨟ c.put_calls.ensures.puts ⨟ c.put_every.ensures.puts ⨟ c.put_batch.ensures.puts)
+    ⨟ c.put_named-4.ensures.puts ⨟ c.put_calls.ensures.puts ⨟ c.put_every.ensures.puts)
     c.end_line.ensures.ends
