@@ -116,6 +116,10 @@ flows_items = 16
 abbrev pub flows_depth : ℕ
 flows_depth = 12
 
+-- and its batches are what the reader's buffer holds
+abbrev pub flows_batch : ℕ
+flows_batch = 65536
+
 abbrev pub numbers : List Number
 numbers = seats ∷ items ∷ depth ∷ start ∷ seed ∷ capture_number ∷ packets ∷ tags ∷ extensions ∷ batch ∷ every ∷ []
 

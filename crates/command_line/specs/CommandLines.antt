@@ -62,6 +62,7 @@ flows_plan = record default_plan {
   depth = 12;
   share = Flow;
   stops = None ∷ [];
+  batch = 65536;
   calls = rule.Flows;
 }
 

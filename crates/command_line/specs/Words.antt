@@ -24,7 +24,7 @@ use Rattle.key_texts.specs.declared.rules.CallRule.TheVariants.{Sessions, Flows}
 use Rattle.packet_heads.specs.declared.framing.Link.{Link}
 use Rattle.packet_heads.specs.declared.framing.Link.TheVariants as link
 use Rattle.command_line.specs.Command.{Number, batch, capture_number, depth, extensions, flowdir_app, flows_depth}
-use Rattle.command_line.specs.Command.{flows_items, flows_seats, items, packets, seats, seed, start, with_default}
+use Rattle.command_line.specs.Command.{flows_batch, flows_items, flows_seats, items, packets, seats, seed, start, with_default}
 use Rattle.command_line.specs.Plays.{schedule_of, stops_of}
 use Rattle.command_line.specs.Texts.{AreRowsInRange, at_most, rows_of}
 use Rattle.line_fields.specs.Reading.{◌>>=◌}
@@ -135,6 +135,9 @@ items_in mode given = number_for mode flows_items (has_table mode) given items
 
 abbrev pub depth_in : Mode → Values → ℕ
 depth_in mode given = number_for mode flows_depth (has_table mode) given depth
+
+abbrev pub batch_in : Mode → Values → ℕ
+batch_in mode given = number_for mode flows_batch (has_batches mode) given batch
 
 abbrev pub start_below : ℕ → ℕ → Option ℕ
 start_below depth start = if at_most depth start then Some start else None
@@ -305,7 +308,7 @@ plan_with mode rows schedule stops given = do
     stops = stops;
     number = number_if (makes_capture mode) given capture_number;
     packets = number_if (makes_capture mode) given packets;
-    batch = number_if (has_batches mode) given batch;
+    batch = batch_in mode given;
     framing = framing;
     calls = calls;
     every = every_in mode given;

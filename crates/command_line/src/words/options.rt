@@ -106,6 +106,9 @@ pub const FLOWS_ITEMS: u64 = MOST_ITEMS as u64;
 /// The greatest depth in the mode `flows` if no word says it.
 pub const FLOWS_DEPTH: u64 = MOST_DEPTH as u64;
 
+/// How many packets `flows` takes at once at most, where the words have none: what the reader's buffer holds.
+pub const FLOWS_BATCH: u64 = 65_536;
+
 /// The options with a number.
 pub static NUMBERS: [NumberOption<'static>; 11] = [
     SEATS, ITEMS, DEPTH, START, SEED, NUMBER, PACKETS, TAGS, EXTENSIONS, BATCH, EVERY,

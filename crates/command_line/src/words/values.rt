@@ -10,7 +10,7 @@ ghost use Rattle.step_counts.specs.Ranges.{IsWithin};
 ghost use Rattle.command_line.specs.Command.{depth, number_of, numbers, start, with_default, Passes};
 ghost use Rattle.command_line.specs.Texts.{AreRowsInRange};
 ghost use Rattle.command_line.specs.Words.{asked_rows, asked_schedule, asked_stops, has_batches, has_seats, has_table};
-ghost use Rattle.command_line.specs.Words.{default_for, depth_in, every_in, items_in, number_for, start_below};
+ghost use Rattle.command_line.specs.Words.{batch_in, default_for, depth_in, every_in, items_in, number_for, start_below};
 ghost use Rattle.command_line.specs.Words.{hashing_in};
 ghost use Rattle.command_line.specs.Words.{hashing_of, makes_capture, mode_of, number_if, number_in};
 ghost use Rattle.command_line.specs.Words.{plan_of, plan_with, rows_for, schedule_for, seats_in, share_in};
@@ -20,8 +20,8 @@ ghost use Rattle.command_line.specs.Words.{calls_in, calls_of, framing_in, link_
 use crate::plan::{Mode, Plan};
 use crate::plays::{Schedule, Stops};
 use crate::words::options::{
-    BATCH, DEPTH, EVERY, EXTENSIONS, FLOWS_DEPTH, FLOWS_ITEMS, FLOWS_SEATS, ITEMS, NUMBER,
-    NumberOption, PACKETS, SEATS, SEED, START, TAGS,
+    BATCH, DEPTH, EVERY, EXTENSIONS, FLOWS_BATCH, FLOWS_DEPTH, FLOWS_ITEMS, FLOWS_SEATS, ITEMS,
+    NUMBER, NumberOption, PACKETS, SEATS, SEED, START, TAGS,
 };
 use crate::words::plays::{schedule_of, stops_of};
 use crate::words::texts::rows_of;
@@ -413,6 +413,14 @@ fn seats_in(mode: Mode, matches: &ArgMatches<'_>) -> u32
     number_for(mode, FLOWS_SEATS, has_seats(mode), matches, &SEATS) as u32
 }
 
+fn batch_in(mode: Mode, matches: &ArgMatches<'_>) -> u32
+    requires { AllByRecursion (Passes (found_of matches.now)) numbers }
+    ensures batch { result ≡ batch_in mode (first_value (found_of matches.now)) }
+    ensures within { IsWithin 2048 65536 result }
+{
+    number_for(mode, FLOWS_BATCH, has_batches(mode), matches, &BATCH) as u32
+}
+
 fn items_in(mode: Mode, matches: &ArgMatches<'_>) -> u32
     requires { AllByRecursion (Passes (found_of matches.now)) numbers }
     ensures items { result ≡ items_in mode (first_value (found_of matches.now)) }
@@ -541,7 +549,7 @@ fn plan_with(
         stops,
         number: number_if(makes, matches, &NUMBER),
         packets: number_if(makes, matches, &PACKETS) as u32,
-        batch: number_if(has_batches(mode), matches, &BATCH) as u32,
+        batch: batch_in(mode, matches),
         framing,
         calls,
         every: every_in(mode, matches),
