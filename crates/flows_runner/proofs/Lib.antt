@@ -14,3 +14,4 @@ pub mod EndLemmas
 mod ShareLemmas
 pub mod DoesLemmas
 mod WayLemmas
+mod PlaceLemmas

@@ -55,21 +55,20 @@ head_of asked = record {
   seed = asked.seed;
   calls = asked.calling.calls;
   every = asked.every;
-  batch = asked.batch;
 }
 
--- it can be asked: numbers of seats, items and depth that a table may have, and a batch that the loop may have
+-- it can be asked: numbers of seats, items and depth that a table may have
 pub record CanBeAsked (asked : Asked) : Type 0 where
   pub some_seats : 1 ≤ asked.seats
   pub few_seats : asked.seats ≤ 8
   pub some_items : 1 ≤ asked.items
   pub few_items : asked.items ≤ 16
   pub few_bits : asked.depth ≤ 12
-  pub some_packets : 1 ≤ asked.batch
-  pub few_packets : asked.batch ≤ MOST_BATCH
   pub every : ForSome asked.every (λ every. 0 < every)
 
--- so the input is cut
-abbrev pub IsPortionsOf : Asked → Portions → Type 0
-IsPortionsOf asked portions =
-    portions ≡ record { batch = asked.batch; every = asked.every; limit = FLOW_LIMIT }
+-- So the input may be cut: a batch ends where a block stands, at least. The report does not depend on it further.
+pub record IsPortionsOf (asked : Asked) (portions : Portions) : Type 0 where
+  pub some : 0 < portions.batch
+  pub few : portions.batch ≤ MOST_BATCH
+  pub every : portions.every ≡ asked.every
+  pub limit : portions.limit ≡ FLOW_LIMIT

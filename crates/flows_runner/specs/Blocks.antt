@@ -1,6 +1,7 @@
 -- A block of the report of flows: what the plain map holds after the calls of the packets so far.
 -- Source: docs/FORMATS.md, the report of flows.
 use Rattle.std.specs.Prelude.{◌≡◌, ℕ, ◌+◌, ◌-◌, ◌%◌, ◌==◌, ◌≤◌, ◌&&◌, nat_lt, Bool, false, if◌then◌else◌, List, [], ◌∷◌, ◌++◌, filter, length, map, take, Option, Some, None}
+use Rattle.std.specs.List.{range_with_len}
 use Rattle.std.specs.FinMap.{empty}
 use Rattle.plain_map.specs.declared.calls.Call.{Call}
 use Rattle.plain_map.specs.PlainObject.{pairs_of}
@@ -64,7 +65,11 @@ abbrev pub is_place : Option ℕ → (n : ℕ) → Bool
 is_place None n = false
 is_place (Some every) n = nat_lt 0 n && (n % every == 0)
 
--- where blocks stand behind these batches. Each batch ends where a block is to stand
+-- where blocks stand within so many packets
+abbrev pub places_upto : Option ℕ → (n : ℕ) → List ℕ
+places_upto every n = filter (is_place every) (range_with_len 1 n)
+
+-- where blocks stand behind these batches: all places within their packets, where each batch ends at the next one
 abbrev pub places_within : Option ℕ → List (List (List ℕ)) → List ℕ
 places_within every batches = filter (is_place every) (ends_from 0 batches)
 

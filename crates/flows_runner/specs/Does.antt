@@ -3,13 +3,12 @@ use Rattle.std.specs.Prelude.{◌≡◌, List, ℕ, Option, Result}
 use Rattle.hash_bits.specs.declared.hashing.Hashing.{Hashing}
 use Rattle.hash_bits.specs.declared.hashing.Hashing.TheVariants.{Mix, Ports}
 use Rattle.capture_faults.specs.declared.ending.Ending.{Ending}
-use Rattle.capture_loop.specs.declared.portions.Portions.{Portions}
 use Rattle.capture_loop.specs.declared.stop.Stop.{Stop}
-use Rattle.capture_loop.specs.Leaves.{LoopLeavesBy}
+use Rattle.capture_loop.specs.Leaves.{LeavesBy}
 use Rattle.command_line.specs.declared.plan.Plan.{Plan}
 use Rattle.packet_heads.specs.Links.{number_in}
 use Rattle.flows_runner.specs.declared.asked.Asked.{Asked}
-use Rattle.flows_runner.specs.Told.{IsFlowsLines, IsFlowsReport}
+use Rattle.flows_runner.specs.Told.{ReportsFlows, TellsFlows}
 use Rattle.mode_parts.specs.Callings.{calling_of}
 use Rattle.mode_parts.specs.declared.status.Status.{Status}
 use Rattle.mode_parts.specs.Edges.{CanEnd, Edges, IsDecided, NotesPlace}
@@ -29,24 +28,19 @@ asked_of plan = record {
   seed = seed_of plan.hashing;
   calling = calling_of plan;
   every = plan.every;
-  batch = plan.batch;
 }
 
 -- how many packets `flows` takes at most: a million times a million
 abbrev pub flow_limit : ℕ
 flow_limit = 1000000000000
 
--- so its input is cut: a batch also ends where a block of the report stands
-abbrev pub portions_of : Plan → Portions
-portions_of plan = record { batch = plan.batch; every = plan.every; limit = flow_limit }
-
 -- The run ended so, by its input or before, and what is put is the report of the packets that were served then, on one
--- table that lasts, by as many callers as the plan says, or a part of it.
+-- table that lasts, by as many callers as the plan says, or a part of it. How its packets are taken changes nothing.
 abbrev pub LeavesFlows : Plan → (Ending → Type 0) → (first left before after : Option (List ℕ)) → Status → Type 0
 LeavesFlows plan can_end first left before after answer =
     (end : Result Ending Stop) × (answer ≡ status_by end)
-    × LoopLeavesBy (portions_of plan) (IsFlowsLines (asked_of plan)) (IsFlowsReport (asked_of plan)) can_end
-    (number_in plan.framing.link) first left before after end
+    × LeavesBy flow_limit (number_in plan.framing.link) (TellsFlows (asked_of plan)) (TellsFlows (asked_of plan))
+    (ReportsFlows (asked_of plan)) can_end first left before after end
 
 -- what `flows` does as the plan says, with this answer
 pub record DoesFlows (plan : Plan) (before after : Edges) (answer : Status) : Type 0 where

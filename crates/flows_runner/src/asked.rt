@@ -17,6 +17,4 @@ pub struct Asked {
     pub calling: Calling,
     /// After how many packets a block is written again and again, where it is; from 1.
     pub every: Option<u64>,
-    /// How many packets a batch has at most.
-    pub batch: u32,
 }

@@ -44,8 +44,9 @@ pub struct Flowing {
 }
 
 impl Flowing {
-    /// Opens the table, on which nothing has happened. The only error is want of memory.
-    pub fn new(alloc: Global, asked: &Asked) -> Result<Flowing, AllocError>
+    /// Opens the table, on which nothing has happened, with room for so many calls of each seat. The only error is want
+    /// of memory.
+    pub fn new(alloc: Global, asked: &Asked, room: usize) -> Result<Flowing, AllocError>
         requires { CanBeAsked asked.now }
         ensures going { IfOk result (λ flowing. IsGoing flowing 0) }
         ensures done { IfOk result (λ flowing. (text : List ℕ) → text ≡ flows_head (head_of asked.now) →
@@ -56,7 +57,6 @@ impl Flowing {
         let settings = settings_of(asked);
         let rows = rows_for(&settings);
         let (table, seats) = LastingTable::open(alloc, &settings, Hashing::Mix(asked.seed), rows)?;
-        let room = asked.batch as usize / asked.seats as usize + 1;
         Ok(Flowing {
             alloc,
             asked: *asked,
@@ -237,6 +237,5 @@ pub(crate) fn head_of(asked: &Asked) -> FlowsHead
         seed: asked.seed,
         calls: asked.calling.calls,
         every: asked.every,
-        batch: asked.batch,
     }
 }

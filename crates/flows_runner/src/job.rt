@@ -24,6 +24,14 @@ use std::alloc::{AllocError, Global};
 use std::mem;
 use std::thread::Threads;
 
+/// Fewer packets than so many are served in the loop's own thread: to start others would take longer.
+const FEW_PACKETS: u32 = 512;
+
+/// Whether so many callers make the calls of so many packets in the loop's own thread.
+fn works_alone(seats: u32, packets: u32) -> bool {
+    seats == 1 || packets < FEW_PACKETS
+}
+
 impl Job<Asked> for Flowing {
     ghost use Rattle.flows_runner.specs.JobLaws.{begins_report, told_lines, told_under};
 
@@ -65,6 +73,7 @@ impl Job<Asked> for Flowing {
         alloc: Global,
         pile: &mut FlowPile,
     ) -> Result<Opened<LastingTable, FlowWorker, u32>, AllocError> {
+        let alone = works_alone(self.asked.seats, pile.packets);
         let workers = Vec::with_capacity(alloc, self.seats.len())?;
         mem::swap(&mut self.spare, &mut pile.shares);
         let Some(shared) = self.table.take() else {
@@ -74,6 +83,7 @@ impl Job<Asked> for Flowing {
             shared,
             workers: self.hand_out(workers),
             kept: pile.packets,
+            alone,
         })
     }
 
@@ -102,12 +112,17 @@ impl Job<Asked> for Flowing {
             shared,
             workers,
             kept,
+            ..
         } = made;
         self.take_back(&shared, workers);
         self.packets += u64::from(kept);
         let block = self.block_behind(&shared, kept)?;
         self.table = Some(shared);
         Ok(block)
+    }
+
+    fn has_lines(&self, closed: &Option<Block>) -> bool {
+        closed.is_some()
     }
 
     fn tell<R: Threads>(

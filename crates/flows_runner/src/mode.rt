@@ -3,8 +3,8 @@
 ghost use Rattle.std.specs.Prelude.{◌≡◌};
 ghost use Rattle.command_line.specs.Words.{IsInRange};
 ghost use Rattle.mode_parts.specs.Edges.{TellsReads, TellsWrites, edges, sink_edge, source_edge};
-ghost use Rattle.flows_runner.specs.Asked.{CanBeAsked};
-ghost use Rattle.flows_runner.specs.Does.{DoesFlows, asked_of, portions_of, seed_of};
+ghost use Rattle.flows_runner.specs.Asked.{CanBeAsked, IsPortionsOf};
+ghost use Rattle.flows_runner.specs.Does.{DoesFlows, asked_of, seed_of};
 
 use crate::asked::Asked;
 use crate::pile::FLOW_LIMIT;
@@ -18,8 +18,8 @@ use pcapng_reader::one_input;
 use std::thread::Threads;
 
 /// Goes through the flows of the source's packets on one table, with as many callers as the plan has seats, and puts
-/// the report into the sink. How the input is cut the plan says, whatever the means say. Where there are more packets
-/// than are taken, `beyond` is where the first of these starts, in bytes from the input's first.
+/// the report into the sink. How the input is cut, whatever the means say, changes nothing of the report. Where there
+/// are more packets than are taken, `beyond` is where the first of these starts, in bytes from the input's first.
 pub fn flow<R: Threads + Sync, S: Source, K: Sink, G: Gate + Sync>(
     means: &Means<R, G>,
     plan: &Plan,
@@ -59,17 +59,18 @@ fn asked_of(plan: &Plan) -> Asked
         seed: seed_of(&plan.hashing),
         calling: calling_of(plan),
         every: plan.every,
-        batch: plan.batch,
     }
 }
 
-/// How the input is cut.
+/// How the input is cut: where a block stands, and else where the reader holds nothing more.
 fn portions_of(plan: &Plan) -> Portions
-    ensures { result ≡ portions_of plan.now }
+    requires { IsInRange plan.now }
+    ensures { IsPortionsOf (asked_of plan.now) result }
 {
     Portions {
         batch: plan.batch,
         every: plan.every,
+        eager: true,
         limit: FLOW_LIMIT,
     }
 }

@@ -4,13 +4,13 @@ ghost use Rattle.std.specs.Prelude.{◌≡◌, ◌<◌, ◌≤◌, Ok};
 ghost use Rattle.std.specs.Option.{ForSome};
 ghost use Rattle.edge_traits.specs.Edge.{Rose};
 ghost use Rattle.capture_loop.specs.Input.{StopsAt};
-ghost use Rattle.capture_loop.specs.Leaves.{EndsBy, LoopLeavesBy, Marks, RunReads, RunWrites};
+ghost use Rattle.capture_loop.specs.Leaves.{EndsBy, LeavesBy, Marks, RunReads, RunWrites};
 ghost use Rattle.capture_loop.specs.declared.job.TheConstants.{MOST_BATCH};
 ghost use Rattle.capture_loop.specs.Looping.{OnNotPut};
 ghost use Rattle.packet_heads.specs.Links.{number_in};
 ghost use Rattle.flows_runner.specs.declared.pile.TheConstants.{FLOW_LIMIT};
 ghost use Rattle.flows_runner.specs.Asked.{CanBeAsked, IsPortionsOf};
-ghost use Rattle.flows_runner.specs.Told.{IsFlowsLines, IsFlowsReport};
+ghost use Rattle.flows_runner.specs.Told.{ReportsFlows, TellsFlows};
 
 use crate::asked::Asked;
 use crate::flowing::{Flowing, head_of};
@@ -21,7 +21,7 @@ use edge_traits::{Gate, Sink, Source};
 use report_text::flows_head_text;
 use std::thread::Threads;
 
-/// Goes through the flows of the source's input as is asked, batch by batch, on one table that lasts, and puts the
+/// Goes through the flows of the source's input as is asked, portion by portion, on one table that lasts, and puts the
 /// report into the sink. The calls of each class are made by one caller, in packet order. Each caller has a thread of
 /// its own.
 pub fn flow_input<R: Threads + Sync, S: Source, K: Sink, G: Gate + Sync>(
@@ -33,8 +33,8 @@ pub fn flow_input<R: Threads + Sync, S: Source, K: Sink, G: Gate + Sync>(
 ) -> Result<Ending, Stop>
     requires asked { CanBeAsked asked.now }
     requires portions { IsPortionsOf asked.now means.now.portions }
-    ensures leaves { LoopLeavesBy means.now.portions (IsFlowsLines asked.now) (IsFlowsReport asked.now)
-        (EndsBy (S.failed source.old) (S.failed source.new)) (number_in asked.now.calling.framing.link)
+    ensures leaves { LeavesBy FLOW_LIMIT (number_in asked.now.calling.framing.link) (TellsFlows asked.now)
+        (TellsFlows asked.now) (ReportsFlows asked.now) (EndsBy (S.failed source.old) (S.failed source.new))
         (S.left source.old) (S.left source.new) (K.put sink.old) (K.put sink.new) result }
 
     // Where the first packet starts that is not served, exactly if there were more than are taken.
@@ -49,10 +49,10 @@ pub fn flow_input<R: Threads + Sync, S: Source, K: Sink, G: Gate + Sync>(
     ensures counted { (S.faults source.old ≤ S.faults source.new) × (K.faults sink.old ≤ K.faults sink.new) }
 {
     let alloc = means.alloc;
-    let room = asked.batch as usize / asked.seats as usize + 1;
+    let room = means.portions.batch as usize / asked.seats as usize + 1;
     let mut text = Vec::new(alloc);
     flows_head_text(&mut text, &head_of(asked))?;
-    let mut flowing = Flowing::new(alloc, asked)?;
+    let mut flowing = Flowing::new(alloc, asked, room)?;
     let mut piles = Piles {
         now: FlowPile::with_room(alloc, asked, room)?,
         next: FlowPile::with_room(alloc, asked, room)?,

@@ -9,7 +9,7 @@ use Rattle.pcapng_reader.specs.Laws.{HasOneInput}
 use Rattle.capture_loop.specs.declared.portions.Portions.{Portions}
 use Rattle.capture_loop.specs.declared.stop.Stop.{Stop}
 use Rattle.capture_loop.specs.declared.stop.Stop.TheVariants.{Memory, NotPut}
-use Rattle.capture_loop.specs.Leaves.{Leaves, Lines, LoopLeavesBy, Reports, RunReads, RunWrites}
+use Rattle.capture_loop.specs.Leaves.{Accounts, IsLoopFront, IsLoopReport, IsLoopTold, LeavesBy, LeavesText, Lines, LoopLeavesBy, Reports, RunReads, RunWrites, Tellings}
 use Rattle.capture_loop.specs.Looping.{OnNotPut}
 use Rattle.mode_parts.specs.declared.status.Status.{Status}
 use Rattle.mode_parts.specs.declared.status.Status.TheVariants as status
@@ -89,43 +89,53 @@ decided most link before after answer reads writes exact = λ bytes packets endi
     (not_read answer before.source.failed after.source.failed no_read reads.failed)
     (not_written answer before.sink.failed after.sink.failed no_write writes.failed)
 
--- the input of the bytes is one, and decides the answer of a run by the loop
-loop_exact : (portions : Portions) (link : ℕ) (lines : Lines) (report : Reports) (can_end : Ending → Type 0)
+-- the input of the bytes is one, and decides the answer of a run
+text_exact : (most link : ℕ) (front told : Tellings) (report : Accounts) (can_end : Ending → Type 0)
     (bytes : List ℕ) (left before after : Option (List ℕ)) (end : Result Ending Stop) (packets : List (List ℕ))
     (ending : Result ℕ AnyFault) → HasOneInput link bytes → Input link bytes packets ending →
     (status_by end ≡ status.ReadFault → ⊥) → (status_by end ≡ status.WriteFault → ⊥) →
-    Leaves portions link lines report can_end bytes left before after end →
-    (status_by end ≡ status_up_to portions.limit packets ending) ⊎ (status_by end ≡ status.Memory)
-loop_exact portions link lines report can_end bytes left before after (Ok (Done rest)) packets ending one input
+    LeavesText most link front told report can_end bytes left before after end →
+    (status_by end ≡ status_up_to most packets ending) ⊎ (status_by end ≡ status.Memory)
+text_exact most link front told report can_end bytes left before after (Ok (Done rest)) packets ending one input
     no_read no_write leaves =
     let held = leaves.1.1.1.holds.0 in
-    inl (few_packets portions.limit leaves.1.1.0 (Ok rest) held.1
-    ∙ same_status link portions.limit bytes leaves.1.1.0 packets (Ok rest) ending one held.0 input)
-loop_exact portions link lines report can_end bytes left before after (Ok (Fault fault)) packets ending one input
+    inl (few_packets most leaves.1.1.0 (Ok rest) held.1
+    ∙ same_status link most bytes leaves.1.1.0 packets (Ok rest) ending one held.0 input)
+text_exact most link front told report can_end bytes left before after (Ok (Fault fault)) packets ending one input
     no_read no_write leaves =
     let held = leaves.1.1.1.holds in
-    inl (few_packets portions.limit leaves.1.1.0 (Err fault) held.1
-    ∙ same_status link portions.limit bytes leaves.1.1.0 packets (Err fault) ending one held.0 input)
-loop_exact portions link lines report can_end bytes left before after (Ok (Limit limit)) packets ending one input
+    inl (few_packets most leaves.1.1.0 (Err fault) held.1
+    ∙ same_status link most bytes leaves.1.1.0 packets (Err fault) ending one held.0 input)
+text_exact most link front told report can_end bytes left before after (Ok (Limit limit)) packets ending one input
     no_read no_write leaves =
     let held = leaves.1.1.1.holds.0 in
-    inl (many_packets portions.limit held.0 held.1 held.3
-    ∙ same_status link portions.limit bytes held.0 packets held.1 ending one held.2 input)
-loop_exact portions link lines report can_end bytes left before after (Ok ReadFault) packets ending one input
+    inl (many_packets most held.0 held.1 held.3
+    ∙ same_status link most bytes held.0 packets held.1 ending one held.2 input)
+text_exact most link front told report can_end bytes left before after (Ok ReadFault) packets ending one input
     no_read no_write leaves = absurd (no_read refl)
-loop_exact portions link lines report can_end bytes left before after (Err Memory) packets ending one input
+text_exact most link front told report can_end bytes left before after (Err Memory) packets ending one input
     no_read no_write leaves = inr refl
-loop_exact portions link lines report can_end bytes left before after (Err NotPut) packets ending one input
+text_exact most link front told report can_end bytes left before after (Err NotPut) packets ending one input
     no_read no_write leaves = absurd (no_write refl)
 
--- so it is of a run by the loop that left this
+-- so it is of a run that left this
+pub leaves_decided : (most link : ℕ) (front told : Tellings) (report : Accounts) (before after : Edges)
+    (end : Result Ending Stop) → ((link : ℕ) (bytes : List ℕ) → HasOneInput link bytes) →
+    TellsReads before.source after.source (status_by end) → TellsWrites before.sink after.sink (status_by end) →
+    LeavesBy most link front told report (CanEnd before after) before.source.left after.source.left before.sink.put
+    after.sink.put end → IsDecided most link before after (status_by end)
+leaves_decided most link front told report before after end one reads writes leaves =
+    decided most link before after (status_by end) reads writes
+    (λ bytes packets ending told_bytes input no_read no_write. text_exact most link front told report
+    (CanEnd before after) bytes after.source.left before.sink.put after.sink.put end packets ending (one link bytes)
+    input no_read no_write (leaves.told bytes told_bytes))
+
+-- and of a run by the loop
 pub loop_decided : (portions : Portions) (link : ℕ) (lines : Lines) (report : Reports) (before after : Edges)
     (end : Result Ending Stop) → ((link : ℕ) (bytes : List ℕ) → HasOneInput link bytes) →
     TellsReads before.source after.source (status_by end) → TellsWrites before.sink after.sink (status_by end) →
     LoopLeavesBy portions lines report (CanEnd before after) link before.source.left after.source.left before.sink.put
     after.sink.put end → IsDecided portions.limit link before after (status_by end)
 loop_decided portions link lines report before after end one reads writes leaves =
-    decided portions.limit link before after (status_by end) reads writes
-    (λ bytes packets ending told input no_read no_write. loop_exact portions link lines report (CanEnd before after)
-    bytes after.source.left before.sink.put after.sink.put end packets ending (one link bytes) input no_read no_write
-    (leaves.told bytes told))
+    leaves_decided portions.limit link (IsLoopFront portions lines) (IsLoopTold portions lines)
+    (IsLoopReport portions report) before after end one reads writes leaves

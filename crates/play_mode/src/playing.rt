@@ -28,7 +28,7 @@ use crate::laws::playing_laws;
 use batch_deals::Service;
 use batch_rows::updates_of;
 use capture_faults::Ending;
-use capture_loop::{BATCH, Unopened, mark, open, read_rest};
+use capture_loop::{BATCH, Portions, Unopened, mark, open, read_rest};
 use command_line::Plan;
 use core_steps::CoreWorld;
 use edge_traits::{Failed, Sink, Source, write_all};
@@ -134,15 +134,13 @@ fn read_input<S: Source>(
     match open(alloc, calling.framing.link.number(), source) {
         Ok(mut reader) => {
             let mut pile = CallPile::with_room(alloc, service, calling, PLAY_LIMIT as usize)?;
-            let part = read_rest(
-                &mut reader,
-                source,
-                BATCH,
-                0,
-                0,
-                PLAY_LIMIT as u64,
-                &mut pile,
-            )?;
+            let portions = Portions {
+                batch: BATCH,
+                every: None,
+                eager: false,
+                limit: PLAY_LIMIT as u64,
+            };
+            let part = read_rest(&mut reader, source, &portions, 0, 0, &mut pile)?;
             match part.ending {
                 Some(ending) => Ok(Input {
                     packets: part.packets,

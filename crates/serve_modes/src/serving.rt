@@ -188,6 +188,7 @@ impl Job<Plan> for Serving {
             shared: begun.directory,
             workers: begun.workers,
             kept: pile.packets,
+            alone: false,
         })
     }
 
@@ -233,6 +234,10 @@ impl Job<Plan> for Serving {
             closed,
             logs,
         })
+    }
+
+    fn has_lines(&self, _closed: &ClosedBatch) -> bool {
+        true
     }
 
     fn tell<R: Threads>(

@@ -151,6 +151,7 @@ impl Job<Plan> for Trying {
             shared: begun.directory,
             workers: begun.workers,
             kept: pile.packets,
+            alone: false,
         })
     }
 
@@ -190,6 +191,10 @@ impl Job<Plan> for Trying {
             .keep(&serving.service, &serving.calls, batch);
         serving.packets += made.kept;
         Ok(())
+    }
+
+    fn has_lines(&self, _closed: &()) -> bool {
+        false
     }
 
     fn tell<R: Threads>(

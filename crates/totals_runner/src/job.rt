@@ -66,6 +66,7 @@ impl Job<Asked> for Counting {
             shared,
             workers,
             kept,
+            alone: false,
         })
     }
 
@@ -93,10 +94,15 @@ impl Job<Asked> for Counting {
             shared,
             workers,
             kept,
+            ..
         } = made;
         let mut lines = Vec::new(alloc);
         self.close_batch(alloc, shared, workers, &kept, &mut lines)?;
         Ok(lines)
+    }
+
+    fn has_lines(&self, closed: &Vec<u8>) -> bool {
+        !closed.is_empty()
     }
 
     fn tell<R: Threads>(

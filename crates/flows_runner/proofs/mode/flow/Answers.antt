@@ -1,14 +1,14 @@
 -- What the loop leaves decides what is done.
 use Rattle.std.proofs.Common.{subst, sym}
-use Rattle.capture_loop.specs.declared.portions.Portions.{Portions}
 use Rattle.capture_loop.specs.Input.{StopsAt}
-use Rattle.capture_loop.specs.Leaves.{LoopLeavesBy, Marks}
+use Rattle.capture_loop.specs.Leaves.{LeavesBy, Marks}
 use Rattle.packet_heads.specs.Links.{number_in}
 use Rattle.mode_parts.specs.Edges.{CanEnd, TellsReads, TellsWrites, edges, sink_edge, source_edge}
 use Rattle.mode_parts.proofs.EdgeLemmas.{tells_reads, tells_writes}
 use Rattle.flows_runner.specs.declared.asked.Asked.{Asked}
-use Rattle.flows_runner.specs.Does.{DoesFlows, flow_limit, portions_of}
-use Rattle.flows_runner.specs.Told.{IsFlowsLines, IsFlowsReport}
+use Rattle.flows_runner.specs.Asked.{IsPortionsOf}
+use Rattle.flows_runner.specs.Does.{DoesFlows, flow_limit}
+use Rattle.flows_runner.specs.Told.{ReportsFlows, TellsFlows}
 use Rattle.flows_runner.proofs.DoesLemmas.{does_flows}
 use Rattle.flows_runner.proofs.mode.flow.Goals as goal
 
@@ -34,19 +34,20 @@ returns-clause-does g c =
     let after = edges g.S.Source g.K.Sink c.flow_input-end.new.source c.flow_input-end.new.sink
     c.flow_input-end.new.beyond in
     let end = c.flow_input-end.result in
-    let leaves = subst (λ (portions : Portions). LoopLeavesBy portions (IsFlowsLines c.asked_of-asked.result)
-    (IsFlowsReport c.asked_of-asked.result) (CanEnd before after)
-    (number_in c.asked_of-asked.result.calling.framing.link) before.source.left after.source.left before.sink.put
-    after.sink.put end) c.portions_of.ensures c.flow_input-end.ensures.leaves in
     subst (DoesFlows c.args.plan.now before after) (sym c.of_run.ensures)
     (does_flows c.args.plan.now before after end c.one_input.ensures
     (tells_reads before.source after.source end c.flow_input-end.ensures.read_fault c.flow_input-end.ensures.reads
     c.flow_input-end.ensures.counted.0)
     (tells_writes before.sink after.sink end c.flow_input-end.ensures.write_fault c.flow_input-end.ensures.writes
     c.flow_input-end.ensures.counted.1)
-    (subst (λ (asked : Asked). LoopLeavesBy (portions_of c.args.plan.now) (IsFlowsLines asked) (IsFlowsReport asked)
-    (CanEnd before after) (number_in asked.calling.framing.link) before.source.left after.source.left before.sink.put
-    after.sink.put end) c.asked_of-asked.ensures.asked leaves)
+    (subst (λ (asked : Asked). LeavesBy flow_limit (number_in asked.calling.framing.link) (TellsFlows asked)
+    (TellsFlows asked) (ReportsFlows asked) (CanEnd before after) before.source.left after.source.left before.sink.put
+    after.sink.put end) c.asked_of-asked.ensures.asked c.flow_input-end.ensures.leaves)
     (subst (λ (asked : Asked). Marks end before.beyond after.beyond
     (StopsAt (number_in asked.calling.framing.link) flow_limit before.source.left after.source.left))
     c.asked_of-asked.ensures.asked c.flow_input-end.ensures.beyond))
+
+pub flow_input-end-requires-clause-portions : goal.flow_input-end-requires-clause-portions
+flow_input-end-requires-clause-portions g c = λ lives within.
+    subst (λ (asked : Asked). IsPortionsOf asked c.portions_of.result) (sym c.asked_of-asked.ensures.asked)
+    c.portions_of.ensures
