@@ -192,7 +192,7 @@ pub fn tell_key(key: &Key, to: &mut impl Fields) {
     key.put_address(&mut address, key.high);
     to.text("high", &address);
     to.number("high_port", u64::from(key.high.port));
-    to.text("proto", key.protocol().as_bytes());
+    to.text("proto", key.protocol_word().as_bytes());
 }
 
 /// A call, in which batch it stands, and its place in the one order, from 1.
@@ -258,7 +258,7 @@ pub fn tell_tail(tail: &Tail, to: &mut impl Fields) {
     tell_numbers(&STEPS, &tail.steps, to);
 }
 
-fn tell_input(input: &Input, to: &mut impl Fields) {
+pub fn tell_input(input: &Input, to: &mut impl Fields) {
     match input {
         Input::Done { rest } => {
             to.text("input", b"done");
@@ -278,7 +278,7 @@ fn tell_input(input: &Input, to: &mut impl Fields) {
     }
 }
 
-fn tell_numbers(form: &Numbers, numbers: &[u64], to: &mut impl Fields) {
+pub fn tell_numbers(form: &Numbers, numbers: &[u64], to: &mut impl Fields) {
     for ((_, name), number) in form.iter().zip(numbers) {
         to.number(name, *number);
     }
@@ -294,10 +294,8 @@ pub fn tell_flows_head(head: &FlowsHead, to: &mut impl Fields) {
     if head.are_sessions {
         to.text("calls", b"sessions");
     }
-    for (name, number) in [("every", head.every), ("batch", head.batch)] {
-        if let Some(number) = number {
-            to.number(name, number);
-        }
+    if let Some(every) = head.every {
+        to.number("every", every);
     }
 }
 

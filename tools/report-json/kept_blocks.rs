@@ -74,7 +74,6 @@ fn head_of(object: &Object) -> Option<FlowsHead> {
         seed: object.number("seed", u64::MAX)?,
         are_sessions: object.has("calls") && object.one_of("calls", &[("sessions", true)])?,
         every: object.optional("every")?,
-        batch: object.optional("batch")?,
     })
 }
 
