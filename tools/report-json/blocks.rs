@@ -19,8 +19,6 @@ pub struct FlowsHead {
     pub are_sessions: bool,
     /// After how many packets there is a block again and again, if that is told.
     pub every: Option<u64>,
-    /// How many packets a batch has, if that is told.
-    pub batch: Option<u64>,
 }
 
 impl FlowsHead {
@@ -36,9 +34,8 @@ impl FlowsHead {
         let seed = text.number(u64::MAX)?;
         let are_sessions = text.word(" calls sessions").is_some();
         let every = text.optional(" every ")?;
-        let batch = text.optional(" batch ")?;
         text.end()?;
-        Some(FlowsHead { seats, items, depth, seed, are_sessions, every, batch })
+        Some(FlowsHead { seats, items, depth, seed, are_sessions, every })
     }
 
     pub fn put(&self, out: &mut Vec<u8>) {
@@ -47,10 +44,8 @@ impl FlowsHead {
         if self.are_sessions {
             out.extend_from_slice(b" calls sessions");
         }
-        for (word, number) in [(" every ", self.every), (" batch ", self.batch)] {
-            if let Some(number) = number {
-                put_words(out, &[(word, number)]);
-            }
+        if let Some(every) = self.every {
+            put_words(out, &[(" every ", every)]);
         }
         out.push(b'\n');
     }

@@ -27,7 +27,7 @@ impl Fault {
         match self {
             Fault::Usage => {
                 let tables = "csv calls|sessions|adds|totals | csv sessions all | csv flows [CAPTURE]";
-                format!("usage: report-json json | text | {tables} | flows [CAPTURE]")
+                format!("usage: report-json json | text | {tables} | flows [CAPTURE] | prom [FILE]")
             }
             Fault::Line(line, why) => format!("line {line}: {why}"),
             Fault::Capture(why) => format!("the capture: {why}"),

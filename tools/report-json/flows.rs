@@ -282,6 +282,13 @@ fn tell_time(name: &str, time: i128, is_fine: bool, to: &mut impl Fields) {
 }
 
 /// The letters of TCP's flags, in the order of RFC 9293.
-fn letters_of(flags: u8) -> Vec<u8> {
-    (0..8).filter(|at| flags & (0x80 >> at) != 0).map(|at| b"CEUAPRSF"[at]).collect()
+pub fn letters_of(flags: u8) -> Vec<u8> {
+    (0..8).filter(|at| flags & (0x80 >> at) != 0).map(|at| LETTERS[at]).collect()
 }
+
+/// The flags that these letters are.
+pub fn flags_of(letters: &str) -> Option<u8> {
+    letters.bytes().try_fold(0, |flags, letter| Some(flags | 0x80 >> LETTERS.iter().position(|it| *it == letter)?))
+}
+
+const LETTERS: &[u8; 8] = b"CEUAPRSF";

@@ -2,7 +2,7 @@
 //!
 //! Sources: IEEE 802.1Q, RFC 791, RFC 8200, RFC 9293, RFC 768; which packets make a call, docs/FORMATS.md says.
 
-use crate::key::{Endpoint, Key};
+use crate::key::{Endpoint, Key, Protocol};
 
 pub struct Heads {
     pub key: Key,
@@ -37,12 +37,12 @@ pub fn heads_of(frame: &[u8]) -> Option<Heads> {
     let port = |place: usize| number(frame, transport + place, 2).map(|it| it as u16);
     let source = Endpoint { address: number(frame, first, size)?, port: port(0)? };
     let target = Endpoint { address: number(frame, first + size, size)?, port: port(2)? };
-    let (is_tcp, flags) = match protocol {
-        6 => (true, *frame.get(transport + 13)?),
-        17 => (false, 0),
+    let (protocol, flags) = match protocol {
+        6 => (Protocol::Tcp, *frame.get(transport + 13)?),
+        17 => (Protocol::Udp, 0),
         _ => return None,
     };
     let is_from_low = (source.address, source.port) <= (target.address, target.port);
     let (low, high) = if is_from_low { (source, target) } else { (target, source) };
-    Some(Heads { key: Key { is_v6, is_tcp, low, high }, is_from_low, flags })
+    Some(Heads { key: Key { is_v6, protocol, low, high }, is_from_low, flags })
 }

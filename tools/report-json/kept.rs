@@ -5,7 +5,8 @@ use crate::json::Object;
 use crate::kept_adds::KeptAdds;
 use crate::kept_blocks::KeptBlocks;
 use crate::kept_calls::KeptCalls;
-use crate::key::{address_of, Endpoint, Key};
+use crate::kept_timed::KeptTimed;
+use crate::key::{address_of, Endpoint, Key, Protocol};
 use crate::lines::{Seen, Session};
 use crate::tails::{Input, Numbers, FAULTS};
 use std::io::BufRead;
@@ -20,6 +21,7 @@ enum Kept {
     Calls(KeptCalls),
     Blocks(KeptBlocks),
     Adds(KeptAdds),
+    Timed(KeptTimed),
 }
 
 /// Reads JSON lines, and gives the report's text to `put`, piece by piece.
@@ -56,6 +58,7 @@ impl Kept {
             Kept::Calls(calls) => calls.take(kind, object, text)?,
             Kept::Blocks(blocks) => blocks.take(kind, object, text)?,
             Kept::Adds(adds) => adds.take(kind, object, text)?,
+            Kept::Timed(timed) => timed.take(kind, object, text)?,
         }
         Ok(())
     }
@@ -63,6 +66,7 @@ impl Kept {
     /// Takes the head, and puts its line.
     fn begin(object: &Object<'_>, text: &mut Vec<u8>) -> Option<Self> {
         Some(match object.text("mode")? {
+            "flows" if object.has("idle") => Kept::Timed(KeptTimed::begin(object, text)?),
             "flows" => Kept::Blocks(KeptBlocks::begin(object, text)?),
             "totals" => Kept::Adds(KeptAdds::begin(object, text)?),
             _ => Kept::Calls(KeptCalls::begin(object, text)?),
@@ -75,6 +79,7 @@ impl Kept {
             Kept::Calls(calls) => calls.is_ended(),
             Kept::Blocks(blocks) => blocks.is_ended,
             Kept::Adds(adds) => adds.is_ended,
+            Kept::Timed(timed) => timed.is_ended,
         }
     }
 }
@@ -93,12 +98,17 @@ pub fn seen_of(object: &Object, seats: u64) -> Option<Seen> {
 }
 
 pub fn key_of(object: &Object) -> Option<Key> {
+    key_among(object, Protocol::of_keys(false))
+}
+
+/// The key of an object, of one of these protocols.
+pub fn key_among(object: &Object, protocols: &[(&str, Protocol)]) -> Option<Key> {
     let (low_address, is_v6) = address_of(object.text("low")?)?;
     let low = Endpoint { address: low_address, port: object.number("low_port", 65535)? as u16 };
     let (high_address, is_other_v6) = address_of(object.text("high")?)?;
     let high = Endpoint { address: high_address, port: object.number("high_port", 65535)? as u16 };
-    let is_tcp = object.one_of("proto", &[("tcp", true), ("udp", false)])?;
-    (is_v6 == is_other_v6).then(|| Key { is_v6, is_tcp, low, high })
+    let protocol = object.one_of("proto", protocols)?;
+    (is_v6 == is_other_v6).then(|| Key { is_v6, protocol, low, high }).filter(Key::is_lawful)
 }
 
 pub fn session_of(object: &Object) -> Option<Session> {

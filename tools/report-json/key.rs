@@ -12,9 +12,28 @@ pub struct Endpoint {
 }
 
 #[derive(Clone, Copy, Eq, Hash, PartialEq)]
+pub enum Protocol {
+    Tcp,
+    Udp,
+    /// All of two hosts, whose ports are 0.
+    Ip,
+}
+
+impl Protocol {
+    /// The protocols that keys have: those of flows, or the one of hosts.
+    pub fn of_keys(are_hosts: bool) -> &'static [(&'static str, Protocol)] {
+        if are_hosts {
+            &[("ip", Protocol::Ip)]
+        } else {
+            &[("tcp", Protocol::Tcp), ("udp", Protocol::Udp)]
+        }
+    }
+}
+
+#[derive(Clone, Copy, Eq, Hash, PartialEq)]
 pub struct Key {
     pub is_v6: bool,
-    pub is_tcp: bool,
+    pub protocol: Protocol,
     pub low: Endpoint,
     pub high: Endpoint,
 }
@@ -22,13 +41,18 @@ pub struct Key {
 impl Key {
     /// `ADDRESS:PORT-ADDRESS:PORT/PROTOCOL`, as a report has it.
     pub fn read(text: &mut Text<'_>) -> Option<Self> {
+        Key::read_of(text, Protocol::of_keys(false))
+    }
+
+    /// The same of one of these protocols.
+    pub fn read_of(text: &mut Text<'_>, protocols: &[(&str, Protocol)]) -> Option<Self> {
         let is_v6 = text.begins_with("[");
         let low = read_endpoint(text, is_v6)?;
         text.word("-")?;
         let high = read_endpoint(text, is_v6)?;
         text.word("/")?;
-        let is_tcp = text.one_of(&[("tcp", true), ("udp", false)])?;
-        Some(Key { is_v6, is_tcp, low, high })
+        let protocol = text.one_of(protocols)?;
+        Some(Key { is_v6, protocol, low, high }).filter(Key::is_lawful)
     }
 
     /// The same text.
@@ -37,7 +61,12 @@ impl Key {
         out.push(b'-');
         self.put_endpoint(out, self.high);
         out.push(b'/');
-        out.extend_from_slice(self.protocol().as_bytes());
+        out.extend_from_slice(self.protocol_word().as_bytes());
+    }
+
+    /// Hosts have no ports.
+    pub fn is_lawful(&self) -> bool {
+        self.protocol != Protocol::Ip || self.low.port == 0 && self.high.port == 0
     }
 
     fn put_endpoint(&self, out: &mut Vec<u8>, endpoint: Endpoint) {
@@ -57,11 +86,11 @@ impl Key {
         put_number(out, u64::from(endpoint.port));
     }
 
-    pub fn protocol(&self) -> &'static str {
-        if self.is_tcp {
-            "tcp"
-        } else {
-            "udp"
+    pub fn protocol_word(&self) -> &'static str {
+        match self.protocol {
+            Protocol::Tcp => "tcp",
+            Protocol::Udp => "udp",
+            Protocol::Ip => "ip",
         }
     }
 

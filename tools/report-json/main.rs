@@ -16,29 +16,52 @@ mod kept;
 mod kept_adds;
 mod kept_blocks;
 mod kept_calls;
+mod kept_timed;
 mod key;
 mod lines;
 mod objects;
 mod out;
+mod prom;
 mod report;
 mod rows;
 mod tails;
 mod text;
+mod timed;
+mod timed_fields;
 
 use faults::Fault;
 use fields::{Fields, Row};
 use flows::Flows;
 use objects::put_objects;
 use out::{Out, PIECE};
-use report::{open, read_calls};
-use rows::{put_rows, Table};
+use prom::put_counts;
+use report::{open, read_calls, Heading, Lines};
+use rows::{put_rows, put_rows_of, Table};
 use std::io::{self, BufReader, ErrorKind};
 use std::process::ExitCode;
 
+/// The flows of a report as rows. A report that tells each when it has ended needs no capture.
+fn put_flow_rows(input: impl io::BufRead) -> Result<(), Fault> {
+    let (heading, lines) = open(input)?;
+    if matches!(heading, Heading::Timed(_)) {
+        return put_rows_of(heading, lines, Table::Records);
+    }
+    join_flows(heading, lines, None, true)
+}
+
 /// The flows of a report, joined with the packets of a capture if there is one, as objects or as rows.
 fn put_flows(input: impl io::BufRead, path: Option<&str>, is_table: bool) -> Result<(), Fault> {
+    let (heading, lines) = open(input)?;
+    join_flows(heading, lines, path, is_table)
+}
+
+fn join_flows(
+    heading: Heading,
+    mut lines: Lines<impl io::BufRead>,
+    path: Option<&str>,
+    is_table: bool,
+) -> Result<(), Fault> {
     let mut flows = Flows::new(path)?;
-    let (heading, mut lines) = open(input)?;
     read_calls(heading.of_calls()?.seats, &mut lines, &mut flows)?;
     let mut out = Out::default();
     let mut row = Row::new(&flows::COLUMNS);
@@ -81,10 +104,12 @@ fn run(words: &[String]) -> Result<(), Fault> {
         ["csv", "sessions", "all"] => put_rows(input, Table::Left),
         ["csv", "adds"] => put_rows(input, Table::Adds),
         ["csv", "totals"] => put_rows(input, Table::Totals),
-        ["csv", "flows"] => put_flows(input, None, true),
+        ["csv", "flows"] => put_flow_rows(input),
         ["csv", "flows", path] => put_flows(input, Some(path), true),
         ["flows"] => put_flows(input, None, false),
         ["flows", path] => put_flows(input, Some(path), false),
+        ["prom"] => put_counts(input, None),
+        ["prom", path] => put_counts(input, Some(path)),
         _ => Err(Fault::Usage),
     }
 }

@@ -10,6 +10,8 @@ use crate::lines::{Session, A_LINE};
 use crate::out::Out;
 use crate::report::{open, read_calls, Entry, Heading, Reader};
 use crate::tails::{Input, Tail};
+use crate::timed::{read_timed, Record, TimedReader};
+use crate::timed_fields::{tell_counts, tell_record, tell_timed_head};
 use std::io::BufRead;
 
 #[derive(Default)]
@@ -32,6 +34,11 @@ pub fn put_objects(input: impl BufRead) -> Result<(), Fault> {
         Heading::Adds(head) => {
             objects.out.object(|json| tell_totals_head(&head, json))?;
             read_adds(head.seats, &mut lines, &mut objects)?;
+        }
+        Heading::Timed(head) => {
+            objects.out.object(|json| tell_timed_head(&head, json))?;
+            objects.out.end()?;
+            read_timed(&head, &mut lines, &mut objects)?;
         }
     }
     objects.out.end()
@@ -56,6 +63,23 @@ impl BlockReader for Objects {
     fn block(&mut self, block: Block) -> Result<(), Fault> {
         self.out.object(|json| tell_block(&block, json))?;
         block.sessions.iter().try_for_each(|it| self.out.object(|json| tell_left(block.at, it, json)))?;
+        self.out.end()
+    }
+
+    fn input(&mut self, input: &Input) -> Result<(), Fault> {
+        self.out.object(|json| tell_flows_end(input, json))
+    }
+}
+
+/// Each line is written when it is read, since the next one may be long in coming.
+impl TimedReader for Objects {
+    fn record(&mut self, record: &Record) -> Result<(), Fault> {
+        self.out.object(|json| tell_record(record, json))?;
+        self.out.end()
+    }
+
+    fn counts(&mut self, counts: &[u64]) -> Result<(), Fault> {
+        self.out.object(|json| tell_counts(counts, json))?;
         self.out.end()
     }
 

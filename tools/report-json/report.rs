@@ -10,6 +10,7 @@ use crate::blocks::FlowsHead;
 use crate::faults::{bad, Fault};
 use crate::lines::{read_order, Call, End, Head, Session, A_LINE};
 use crate::tails::{read_numbers, Input, Tail, COUNTS, LEAVES, STEPS};
+use crate::timed::TimedHead;
 use std::io::BufRead;
 
 /// A call line, and where it stands in the one order.
@@ -24,20 +25,22 @@ pub enum Heading {
     Calls(Head),
     Blocks(FlowsHead),
     Adds(TotalsHead),
+    Timed(TimedHead),
 }
 
 impl Heading {
     fn read(line: &[u8]) -> Option<Self> {
         let calls = Head::read(line).map(Heading::Calls);
         let blocks = || FlowsHead::read(line).map(Heading::Blocks);
-        calls.or_else(blocks).or_else(|| TotalsHead::read(line).map(Heading::Adds))
+        let timed = || TimedHead::read(line).map(Heading::Timed);
+        calls.or_else(blocks).or_else(timed).or_else(|| TotalsHead::read(line).map(Heading::Adds))
     }
 
     /// The head of a report of `serve` or `play`.
     pub fn of_calls(self) -> Result<Head, Fault> {
         match self {
             Heading::Calls(head) => Ok(head),
-            Heading::Blocks(_) | Heading::Adds(_) => Err(another_mode()),
+            Heading::Blocks(_) | Heading::Adds(_) | Heading::Timed(_) => Err(another_mode()),
         }
     }
 }

@@ -7,8 +7,10 @@ use crate::fields::{tell_add, tell_call, tell_left, tell_place, tell_session, te
 use crate::fields::{ADDS, CALLS, LEFT, SESSIONS, TOTALS};
 use crate::lines::Session;
 use crate::out::Out;
-use crate::report::{another_mode, open, read_calls, Entry, Heading, Reader};
+use crate::report::{another_mode, open, read_calls, Entry, Heading, Lines, Reader};
 use crate::tails::{Input, Tail};
+use crate::timed::{read_timed, Record, TimedReader};
+use crate::timed_fields::{tell_record, RECORDS};
 use std::io::BufRead;
 
 /// Which lines are rows.
@@ -21,6 +23,8 @@ pub enum Table {
     Left,
     Adds,
     Totals,
+    /// The flows that have ended, of a report that tells each once.
+    Records,
 }
 
 impl Table {
@@ -31,6 +35,7 @@ impl Table {
             Table::Left => &LEFT,
             Table::Adds => &ADDS,
             Table::Totals => &TOTALS,
+            Table::Records => &RECORDS,
         }
     }
 }
@@ -45,13 +50,22 @@ struct Rows {
 
 /// Writes the table, if a report of its mode has one.
 pub fn put_rows(input: impl BufRead, table: Table) -> Result<(), Fault> {
-    let (heading, mut lines) = open(input)?;
+    let (heading, lines) = open(input)?;
+    put_rows_of(heading, lines, table)
+}
+
+/// Writes the table of a report whose head line was read.
+pub fn put_rows_of(heading: Heading, mut lines: Lines<impl BufRead>, table: Table) -> Result<(), Fault> {
     let mut rows = Rows { out: Out::default(), row: Row::new(table.columns()), table, last: None };
     rows.row.put_names(&mut rows.out.text);
+    if table == Table::Records {
+        rows.out.end()?;
+    }
     match (heading, table) {
         (Heading::Calls(head), Table::Calls | Table::Sessions) => read_calls(head.seats, &mut lines, &mut rows)?,
         (Heading::Blocks(_), Table::Sessions | Table::Left) => read_blocks(&mut lines, &mut rows)?,
         (Heading::Adds(head), Table::Adds | Table::Totals) => read_adds(head.seats, &mut lines, &mut rows)?,
+        (Heading::Timed(head), Table::Records) => read_timed(&head, &mut lines, &mut rows)?,
         _ => return Err(another_mode()),
     }
     rows.out.end()
@@ -103,6 +117,22 @@ impl BlockReader for Rows {
     fn input(&mut self, _: &Input) -> Result<(), Fault> {
         let last = self.last.take();
         last.map_or(Ok(()), |block| self.sessions(&block))
+    }
+}
+
+impl TimedReader for Rows {
+    /// A row is written when its line is read, since the next one may be long in coming.
+    fn record(&mut self, record: &Record) -> Result<(), Fault> {
+        self.row(|row| tell_record(record, row))?;
+        self.out.end()
+    }
+
+    fn counts(&mut self, _: &[u64]) -> Result<(), Fault> {
+        Ok(())
+    }
+
+    fn input(&mut self, _: &Input) -> Result<(), Fault> {
+        Ok(())
     }
 }
 

@@ -36,6 +36,16 @@ impl<'a> Text<'a> {
         (value <= most).then(|| value)
     }
 
+    /// Takes just so many decimal digits, at most 18, and gives the number that they are.
+    pub fn digits(&mut self, count: usize) -> Option<u64> {
+        let digits = self.rest.get(..count)?;
+        if !digits.iter().all(u8::is_ascii_digit) {
+            return None;
+        }
+        self.rest = &self.rest[count..];
+        Some(digits.iter().fold(0, |value, digit| value * 10 + u64::from(digit - b'0')))
+    }
+
     /// Takes this word and the number behind it, if the text begins with the word; else there is none.
     pub fn optional(&mut self, word: &str) -> Option<Option<u64>> {
         match self.word(word) {
