@@ -1,8 +1,10 @@
--- A seat announces an update at most once in a call: no more of its announcements are over than it was answered calls.
+-- A seat announces an update at most once in a call: no more of its announcements are over than it was answered calls,
+-- of which copies are none.
 use Rattle.std.proofs.Common.{◌≡◌, ◌≢◌, ℕ, ◌+◌, ◌<◌, ◌≤◌, inl, inr, Bool, true, false, cond, List, [], ◌∷◌, ◌++◌, length, refl, sym, ap, ◌∙◌, subst, arith, lt-ltb, get_or-set_same, get_or-set_other}
 use Rattle.std.specs.Prelude.{◌==◌, fold}
 use Rattle.std.proofs.lemmas.Bool.{cases_eq}
 use Rattle.std.proofs.lemmas.List.{length-append}
+use Rattle.std.proofs.lemmas.List.Elements.{filter-append}
 use Rattle.plain_map.specs.declared.calls.Call.{Call}
 use Rattle.plain_map.specs.declared.calls.Call.TheVariants.{Insert, Remove, Lookup, Tally, Count, Put}
 use Rattle.exchange_model.specs.Plans.{Plan, IsPlan, holders_of}
@@ -12,11 +14,11 @@ use Rattle.exchange_model.specs.Steps as S
 use Rattle.exchange_model.specs.Steps.{MadeBySeat, SeatNow, Step, Stand, Ending, Aim, OfKey, OfBucket, Glance, Course, deed_of, glance_deed}
 use Rattle.exchange_model.specs.Goes.{ScanFate, ScansOn, Scanned, scanned, scan_fate_of, seats_from, scan_begins, Fate, On, Ends, Spends, Refuses, first_fate, exchanged, ended, fate, own_after, GlanceFate, Looks, Shows, Disturbed, glance_fate, Called, Told, Replied, Spent, Refused}
 use Rattle.exchange_model.specs.Worlds.{World, Answer, BySeat, Event, OfSeat, OfReader, IsEvent, AreEvents, What, Begin, Copy, Step_on, IsFlying, Fits, seat_in, with_seat, ticked, found_by, store_after, stepped, seat_after, answers_after, made_by_step, goes, glances, look_after, look_answers, look_begins, update_begins, call_begins, goes_on, act, stand_at, course_from, happens, nobody, opening_world, Peek, Open, Peek_on, peeks_on}
-use Rattle.exchange_laws.specs.Orders.{AnnouncementsAreCounted, answers_by}
+use Rattle.exchange_laws.specs.Orders.{AnnouncementsAreCounted, answers_by, calls_among, is_call}
 use Rattle.exchange_laws.proofs.Owned.{Owned}
 use Rattle.exchange_laws.proofs.OwnedEvents.{event_keeps}
 use Rattle.exchange_laws.proofs.OwnedRuns.{opening_owned, seat_is}
-use Rattle.exchange_laws.proofs.SeatAnswers.{answers_more, one_more}
+use Rattle.exchange_laws.proofs.SeatAnswers.{answers_more, own_answer}
 use Rattle.exchange_laws.proofs.CallEvents.{answer_now}
 use Rattle.exchange_laws.proofs.AnswersGrow.{Grows, event_grows, look_grows}
 
@@ -37,18 +39,24 @@ ends_now step = 0
 
 module _ (plan : Plan) (p : ℕ) where
   abbrev so_many : List Answer → ℕ
-  so_many answers = length (answers_by p answers)
+  so_many answers = length (calls_among (answers_by p answers))
 
   -- no more announcements are over than calls were answered, and the one under way
   pub record Posted (now : SeatNow) (answers : List Answer) : Type 0 where
     pub low : now.posted ≤ so_many answers + lowers now.stand
 
-  -- answers do not get fewer
+  -- the calls in two parts
+  calls_more : (xs more : List Answer) → calls_among (answers_by p (xs ++ more))
+      ≡ calls_among (answers_by p xs) ++ calls_among (answers_by p more)
+  calls_more xs more = ap calls_among (answers_more p xs more)
+      ∙ filter-append (λ (a : Answer). is_call a.asked) (answers_by p xs) (answers_by p more)
+
+  -- they do not get fewer
   grown : (was now : List Answer) → Grows was now → so_many was ≤ so_many now
   grown was now g =
       let e = ap so_many g.1 in
-      let parts = ap (λ (all : List Answer). length all) (answers_more p was g.0) in
-      let two = length-append (answers_by p was) (answers_by p g.0) in
+      let parts = ap (λ (all : List Answer). length all) (calls_more was g.0) in
+      let two = length-append (calls_among (answers_by p was)) (calls_among (answers_by p g.0)) in
       omega (arith, e, parts, two)
 
   -- ---- where a step leads
@@ -71,7 +79,12 @@ module _ (plan : Plan) (p : ℕ) where
 
   told_more : (x : World) (call : Call) (told : Told) (course : Course) →
       so_many (x.answers ++ answer_now x (BySeat p) (Called call) told course ∷ []) ≡ so_many x.answers + 1
-  told_more x call told course = one_more p x.answers (answer_now x (BySeat p) (Called call) told course) refl
+  told_more x call told course =
+      let a = answer_now x (BySeat p) (Called call) told course in
+      ap (λ (all : List Answer). length all) (calls_more x.answers (a ∷ []))
+      ∙ ap (λ (more : List Answer). length (calls_among (answers_by p x.answers) ++ calls_among more))
+      (own_answer p a refl)
+      ∙ length-append (calls_among (answers_by p x.answers)) (a ∷ [])
 
   -- a call that ends has its answer
   fate_posts : (x : World) (call : Call) (course : Course) (f : Fate) (was : ℕ) → Leads was f → (own : SeatNow) →

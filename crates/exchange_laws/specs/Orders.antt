@@ -1,5 +1,5 @@
 -- What is promised of the answers of each seat: what it has counted, and what is so where no update is made.
-use Rattle.std.specs.Prelude.{◌≡◌, ◌⊎◌, ℕ, ◌<◌, ◌≤◌, ◌==◌, Bool, false, List, ◌∷◌, ◌++◌, length, filter, All}
+use Rattle.std.specs.Prelude.{◌≡◌, ◌⊎◌, ℕ, ◌<◌, ◌≤◌, ◌==◌, Bool, true, false, List, ◌∷◌, ◌++◌, length, filter, All}
 use Rattle.plain_map.specs.declared.calls.Call.{Call}
 use Rattle.plain_map.specs.declared.calls.Call.TheVariants.{Lookup}
 use Rattle.plain_map.specs.declared.calls.Reply.{Reply}
@@ -29,13 +29,22 @@ AskingsAreCounted =
     ((seat_in world seat).time ≤ length (answers_by seat world.answers))
     × ((seat_in world seat).answered ≡ length (updates_by seat world.answers)))
 
--- and announces at most once in a call
+-- a call was asked, and no copy of a bucket
+abbrev pub is_call : Asked → Bool
+is_call (Called call) = true
+is_call (Copied bucket) = false
+
+-- the answers to calls
+abbrev pub calls_among : List Answer → List Answer
+calls_among answers = filter (λ (a : Answer). is_call a.asked) answers
+
+-- it announces at most once in a call, and in no copy
 abbrev pub AnnouncementsAreCounted : Type 0
 AnnouncementsAreCounted =
     (plan : Plan) (events : List Event) (seat : ℕ) → IsRun plan events → seat < holders_of plan.settings →
     (seat_in (world_after plan events) seat).stand ≡ Idle →
     (seat_in (world_after plan events) seat).posted
-    ≤ length (answers_by seat (world_after plan events).answers)
+    ≤ length (calls_among (answers_by seat (world_after plan events).answers))
 
 -- answers are never taken back: later ones come behind them
 abbrev pub AnswersStay : Type 0

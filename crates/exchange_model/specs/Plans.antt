@@ -41,7 +41,7 @@ MOST_ROW_BITS = 21
 
 -- a seat, or a reader that can hold, asks for a row less than so many times
 abbrev pub MOST_ASKINGS : ℕ
-MOST_ASKINGS = 2 ^ 57
+MOST_ASKINGS = 2 ^ 62
 
 -- the numbers of a seat's announcements are below it, and one more. They come after lost tries alone
 abbrev pub MOST_ANNOUNCEMENTS : ℕ
