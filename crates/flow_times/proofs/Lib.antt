@@ -2,13 +2,13 @@ mod Cuts
 mod Passes
 mod Ends
 mod Sums
-mod Tests
-mod Meters
-mod Steps
-mod Sweeps
+pub mod Tests
+pub mod Meters
+pub mod Steps
+pub mod Sweeps
 mod Parts
 mod KeyParts
 mod AllSums
-mod Orders
+pub mod Orders
 mod Fronts
-mod Filters
+pub mod Filters

@@ -52,6 +52,7 @@ pub record Flow : Type 0 where
 abbrev pub has_flag : ℕ → ℕ → Bool
 has_flag flags flag = not (bit_and flags flag == 0)
 
+-- no packet yet
 abbrev pub nothing : Side
 nothing = record { packets = 0; payload = 0; octets = 0; flags = 0 }
 
@@ -101,6 +102,7 @@ abbrev pub quiet_by : Times → Option ℕ → Bool → ℕ
 quiet_by times None told = times.idle
 quiet_by times (Some close) told = if told then close else times.idle
 
+-- so long a flow may be quiet
 abbrev pub quiet : Times → Flow → ℕ
 quiet times flow = quiet_by times times.close (is_told times flow)
 
@@ -108,6 +110,7 @@ abbrev pub closed_by : Option ℕ → Bool → Bool
 closed_by None told = false
 closed_by (Some close) told = told
 
+-- the flow counts as closed
 abbrev pub is_closed : Times → Flow → Bool
 is_closed times flow = closed_by times.close (is_told times flow)
 
